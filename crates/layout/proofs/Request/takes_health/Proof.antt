@@ -1,0 +1,15 @@
+-- `layout::Request::takes_health`: a law for each way out.
+use borrow.Author.Needs.{needs}
+use Rattle.layout.proofs.Requests.{filter-any, filter-low, filter-slow, filter-high}
+use Rattle.layout.proofs.Request.takes_health.Statement.{statement}
+use Rattle.layout.proofs.Request.takes_health.Tie as tie
+
+pub takes-health-spec : {M : Type 1} → statement M
+takes-health-spec =
+    tie.close
+    (tie.spec
+    (λ c κs. search needs)
+    (λ c. search (filter-any))
+    (λ c. search (filter-low))
+    (λ c. search (filter-slow))
+    (λ c. search (filter-high)))

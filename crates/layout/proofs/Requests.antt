@@ -1,0 +1,67 @@
+-- Laws of a request: what the code's tests say of it, a law for each way out, and what callers use of the shut definitions.
+use Prim.Native.Nat.{ℕ, _≤_, _<_}
+use mathlib.Core.Bool.{Bool, true, false, true≢false, _||_}
+use mathlib.Core.Path.{_≡_, refl, sym}
+use native.Mathlib.Omega.{arith}
+use lib.Dec.{leb, ltb, eqb}
+use borrow.Author.Tests.{le-leb, lt-leb, lt-ltb, le-ltb, eq-eqb, ne-eqb, leb-false, ltb-false, eqb-false}
+use Rattle.layout.specs.Requests.{filterOf, reportTypeOf, pagesOf, refused, passesType, passesFilter}
+use Rattle.layout.specs.declared.Request.{Request}
+
+-- ## Which requests are due 4
+
+module _ (q : Request) (f : ℕ) (is-f : f ≡ filterOf q) where
+  pub refused-filter : 1 < f → true ≡ refused q
+  unfolding refused
+  refused-filter h = sym (rw (le-leb 2 (filterOf q) (omega arith)))
+
+  pub refused-type : f ≤ 1 → (t : ℕ) → t ≡ reportTypeOf q → 1 < t → true ≡ refused q
+  unfolding refused
+  refused-type h t is-t g = sym (rw (lt-leb 2 (filterOf q) (omega arith), lt-ltb 1 (reportTypeOf q) (omega arith)))
+
+  pub refused-pages : f ≤ 1 → (t : ℕ) → t ≡ reportTypeOf q → t ≤ 1 → eqb (pagesOf q) 0 ≡ refused q
+  unfolding refused
+  refused-pages h t is-t g = sym (rw (lt-leb 2 (filterOf q) (omega arith), le-ltb 1 (reportTypeOf q) (omega arith)))
+
+-- ## The tests of an element
+
+pub type-storage : (kind t r : ℕ) → t ≡ r → t ≡ 1 → eqb kind 1 ≡ passesType r kind
+type-storage kind t r e h = sym (rw (eq-eqb r 1 (omega arith)))
+
+pub type-any : (kind t r : ℕ) → t ≡ r → (t ≡ 1 → ⊥) → true ≡ passesType r kind
+type-any kind t r e h = sym (rw (ne-eqb r 1 (λ g. h (omega arith))))
+
+module _ (h f r : ℕ) (is-f : f ≡ r) where
+  pub filter-any : (f ≡ 1 → ⊥) → true ≡ passesFilter r h
+  unfolding passesFilter
+  filter-any n = sym (rw (ne-eqb r 1 (λ g. n (omega arith))))
+
+  pub filter-low : f ≡ 1 → h < 0x65 → false ≡ passesFilter r h
+  unfolding passesFilter
+  filter-low e l = sym (rw (eq-eqb r 1 (omega arith), lt-leb 0x65 h l, ne-eqb h 0xFF (omega arith)))
+
+  pub filter-slow : f ≡ 1 → 0x65 ≤ h → h ≤ 0xCF → true ≡ passesFilter r h
+  unfolding passesFilter
+  filter-slow e l m = sym (rw (eq-eqb r 1 (omega arith), le-leb 0x65 h l, le-leb h 0xCF m))
+
+  pub filter-high : f ≡ 1 → 0x65 ≤ h → 0xCF < h → eqb h 0xFF ≡ passesFilter r h
+  unfolding passesFilter
+  filter-high e l m = sym (rw (eq-eqb r 1 (omega arith), le-leb 0x65 h l, lt-leb h 0xCF m))
+
+-- ## For callers
+
+or-false-both : (a b : Bool) → (a || b) ≡ false → (a ≡ false) × (b ≡ false)
+or-false-both true b e = absurd (true≢false e)
+or-false-both false b e = (refl, e)
+
+-- a request that is not due 4 asks for a page at least, by a filter and a report type that 000 names
+pub accepted : (q : Request) → refused q ≡ false → (filterOf q ≤ 1) × (reportTypeOf q ≤ 1) × (1 ≤ pagesOf q)
+unfolding refused
+accepted q e =
+    let first = or-false-both (leb 2 (filterOf q) || ltb 1 (reportTypeOf q)) (eqb (pagesOf q) 0) e in
+    let two = or-false-both (leb 2 (filterOf q)) (ltb 1 (reportTypeOf q)) (first .0) in
+    (omega (arith, leb-false 2 (filterOf q) (two .0)), ltb-false 1 (reportTypeOf q) (two .1), omega (arith, eqb-false (pagesOf q) 0 (first .1)))
+
+-- without a filter every health is taken
+pub filter-none : (h : ℕ) → passesFilter 0 h ≡ true
+filter-none h = sym (filter-any h 0 0 refl (omega arith))

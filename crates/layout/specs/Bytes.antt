@@ -1,0 +1,62 @@
+-- The 32 bytes of a page's header (004, table 102) and of a descriptor (003, table 103), in either byte order, and their reading back.
+use Prim.Native.Nat.{ℕ, _%_, _^_, _<_}
+use mathlib.Core.List.{List, [], _∷_, _++_}
+use lib.Dec.{eqb}
+use lib.ListN.{getD, replicate}
+use Rattle.words.specs.Bytes.{bytesOf, numberAt}
+use Rattle.words.specs.Lists.{one}
+use Rattle.words.specs.declared.Order.{Order}
+use Rattle.layout.specs.declared.Descriptor.{Descriptor}
+use Rattle.layout.specs.declared.Header.{Header}
+
+-- "0..3 length of the list N; 4..7 returned ..; 8..11 noted element or 0; 12..13 limit; 14..15 number at FFh; 16..31 zero"
+abbrev pub headerBytes : Order → Header → List ℕ
+headerBytes o h =
+    bytesOf o 4 (h .number)
+    ++ bytesOf o 4 (h .returned)
+    ++ bytesOf o 4 (h .busy .0)
+    ++ bytesOf o 2 (h .limit)
+    ++ bytesOf o 2 (h .removed)
+    ++ replicate 16 0
+
+abbrev pub headerIn : Order → List ℕ → Header
+headerIn o s =
+    record {
+      number = numberAt o 4 s 0;
+      returned = numberAt o 4 s 4;
+      busy = record { 0 = numberAt o 4 s 8 };
+      limit = numberAt o 2 s 12;
+      removed = numberAt o 2 s 14;
+    }
+
+-- "4..7 identifier; 13 bit 0 restoration allowed ..; 14 type; 15 health; 16..23 block count ..; the rest zero"
+abbrev pub descriptorBytes : Order → Descriptor → List ℕ
+descriptorBytes o d =
+    replicate 4 0
+    ++ bytesOf o 4 (d .id .0)
+    ++ replicate 5 0
+    ++ (one (d .restorable) ∷ d .kind ∷ d .health ∷ [])
+    ++ bytesOf o 8 (d .capacity)
+    ++ replicate 8 0
+
+abbrev pub descriptorIn : Order → List ℕ → Descriptor
+descriptorIn o s =
+    record {
+      id = record { 0 = numberAt o 4 s 4 };
+      restorable = eqb (getD s 13 0 % 2) 1;
+      kind = getD s 14 0;
+      health = getD s 15 0;
+      capacity = numberAt o 8 s 16;
+    }
+
+-- the numbers that the fields hold; what a struct of the code holds does
+pub record HeaderFits (h : Header) : Type 0 where
+  pub number : h .number < 2 ^ 32
+  pub returned : h .returned < 2 ^ 32
+  pub busy : h .busy .0 < 2 ^ 32
+  pub limit : h .limit < 2 ^ 16
+  pub removed : h .removed < 2 ^ 16
+
+pub record DescriptorFits (d : Descriptor) : Type 0 where
+  pub id : d .id .0 < 2 ^ 32
+  pub capacity : d .capacity < 2 ^ 64

@@ -1,0 +1,3 @@
+-- The status page as device and reader share it: what a request asks, and what stands at which byte.
+pub mod Bytes
+pub mod Requests

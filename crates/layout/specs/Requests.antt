@@ -1,0 +1,37 @@
+-- Document 01, "GET PHYSICAL ELEMENT STATUS (12h)": a request's fields, which requests are due 4, and the two tests of an element.
+use Prim.Native.Nat.{ℕ, _/_, _%_, _^_}
+use mathlib.Core.Bool.{Bool, not, _&&_, _||_}
+use lib.Dec.{leb, ltb, eqb}
+use Rattle.paper.specs.Registers.{low48}
+use Rattle.layout.specs.declared.Request.{Request}
+
+-- "FEATURE 15:14 filter, 11:8 report type, the other bits ignored"
+abbrev pub filterOf : Request → ℕ
+filterOf q = q .feature / 2 ^ 14 % 2 ^ 2
+
+abbrev pub reportTypeOf : Request → ℕ
+reportTypeOf q = q .feature / 2 ^ 8 % 2 ^ 4
+
+-- "COUNT = pages p"
+abbrev pub pagesOf : Request → ℕ
+pagesOf q = q .count .0
+
+-- "LBA = starting element, all 48 bits compared"
+abbrev pub startOf : Request → ℕ
+startOf q = low48 (q .lba) .0
+
+-- "Checks: filter 10b or 11b, report type above 1, p = 0: all 4"
+unfoldable pub refused : Request → Bool
+refused q = leb 2 (filterOf q) || ltb 1 (reportTypeOf q) || eqb (pagesOf q) 0
+
+-- "elements with identifier at or above the start"
+abbrev pub reaches : Request → ℕ → Bool
+reaches q id = leb (startOf q) id
+
+-- "type 01h only if report type is 1"
+abbrev pub passesType : ℕ → ℕ → Bool
+passesType report kind = not (eqb report 1) || eqb kind 0x01
+
+-- "with filter 01b only health 65h to CFh, or FFh (000, table 14)"
+unfoldable pub passesFilter : ℕ → ℕ → Bool
+passesFilter filter health = not (eqb filter 1) || leb 0x65 health && leb health 0xCF || eqb health 0xFF

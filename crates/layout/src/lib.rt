@@ -1,0 +1,223 @@
+// What device and reader share of a status page: the request, the header, the descriptor; in either byte order.
+ghost use mathlib.Core.Path.{_≡_};
+ghost use Rattle.layout.specs.Requests.{filterOf, reportTypeOf, startOf, refused, reaches, passesType, passesFilter};
+ghost use Rattle.layout.specs.Bytes.{headerBytes, headerIn, descriptorBytes, descriptorIn};
+ghost use Rattle.words.specs.Lists.{one};
+use paper::ElementId;
+use paper::Lba;
+use paper::PageCount;
+use words::Order;
+
+// A request for status pages (12h), as the registers have it.
+pub struct Request {
+    pub feature: u16,
+    pub count: PageCount,
+    pub lba: Lba,
+}
+
+// The numbers of a page's first 32 bytes.
+pub struct Header {
+    pub number: u32,
+    pub returned: u32,
+    pub busy: ElementId,
+    pub limit: u16,
+    pub removed: u16,
+}
+
+// An element as a page shows it.
+pub struct Descriptor {
+    pub id: ElementId,
+    pub restorable: bool,
+    pub kind: u8,
+    pub health: u8,
+    pub capacity: u64,
+}
+
+impl Request {
+    fn filter(self) -> u16
+        ensures { λ r. ⌜ r ≡ filterOf self ⌝ }
+    {
+        self.feature / 16384 % 4
+    }
+
+    fn report_type(self) -> u16
+        ensures { λ r. ⌜ r ≡ reportTypeOf self ⌝ }
+    {
+        self.feature / 256 % 16
+    }
+
+    fn start(self) -> u64
+        ensures { λ r. ⌜ r ≡ startOf self ⌝ }
+    {
+        let start = self.lba.low48();
+        start.0
+    }
+
+    // Whether the request is due 4.
+    pub fn is_refused(self) -> bool
+        ensures { λ r. ⌜ r ≡ refused self ⌝ }
+    {
+        if 1 < self.filter() {
+            return true;
+        }
+        if 1 < self.report_type() {
+            return true;
+        }
+        self.count.0 == 0
+    }
+
+    // Whether an identifier is at or above the start.
+    pub fn takes_id(self, id: ElementId) -> bool
+        ensures { λ r. ⌜ r ≡ reaches self (id .0) ⌝ }
+    {
+        self.start() <= id.0 as u64
+    }
+
+    pub fn takes_type(self, kind: u8) -> bool
+        ensures { λ r. ⌜ r ≡ passesType (reportTypeOf self) kind ⌝ }
+    {
+        if self.report_type() == 1 {
+            kind == 1
+        } else {
+            true
+        }
+    }
+
+    pub fn takes_health(self, health: u8) -> bool
+        ensures { λ r. ⌜ r ≡ passesFilter (filterOf self) health ⌝ }
+    {
+        if self.filter() != 1 {
+            return true;
+        }
+        if health < 0x65 {
+            return false;
+        }
+        if health <= 0xCF {
+            return true;
+        }
+        health == 0xFF
+    }
+}
+
+impl Header {
+    pub fn bytes(self, o: Order) -> [u8; 32]
+        ensures { λ r. ⌜ r ≡ headerBytes o self ⌝ }
+    {
+        let n = words::bytes4(self.number, o);
+        let r = words::bytes4(self.returned, o);
+        let b = words::bytes4(self.busy.0, o);
+        let l = words::bytes2(self.limit, o);
+        let m = words::bytes2(self.removed, o);
+        [
+            n[0],
+            n[1],
+            n[2],
+            n[3],
+            r[0],
+            r[1],
+            r[2],
+            r[3],
+            b[0],
+            b[1],
+            b[2],
+            b[3],
+            l[0],
+            l[1],
+            m[0],
+            m[1],
+            0,
+            0,
+            0,
+            0,
+            0,
+            0,
+            0,
+            0,
+            0,
+            0,
+            0,
+            0,
+            0,
+            0,
+            0,
+            0,
+        ]
+    }
+
+    // The header that a slice starts with; a byte past its end counts as 0.
+    pub fn read(s: &[u8], o: Order) -> Header
+        ensures { λ r. ⌜ r ≡ headerIn o (now (s .entry)) ⌝ }
+    {
+        Header {
+            number: words::number4(s, 0, o),
+            returned: words::number4(s, 4, o),
+            busy: ElementId(words::number4(s, 8, o)),
+            limit: words::number2(s, 12, o),
+            removed: words::number2(s, 14, o),
+        }
+    }
+}
+
+impl Descriptor {
+    pub fn bytes(self, o: Order) -> [u8; 32]
+        ensures { λ r. ⌜ r ≡ descriptorBytes o self ⌝ }
+    {
+        let i = words::bytes4(self.id.0, o);
+        let f = bit(self.restorable);
+        let c = words::bytes8(self.capacity, o);
+        [
+            0,
+            0,
+            0,
+            0,
+            i[0],
+            i[1],
+            i[2],
+            i[3],
+            0,
+            0,
+            0,
+            0,
+            0,
+            f,
+            self.kind,
+            self.health,
+            c[0],
+            c[1],
+            c[2],
+            c[3],
+            c[4],
+            c[5],
+            c[6],
+            c[7],
+            0,
+            0,
+            0,
+            0,
+            0,
+            0,
+            0,
+            0,
+        ]
+    }
+
+    // The descriptor that a slice starts with; a byte past its end counts as 0.
+    pub fn read(s: &[u8], o: Order) -> Descriptor
+        ensures { λ r. ⌜ r ≡ descriptorIn o (now (s .entry)) ⌝ }
+    {
+        let flags = words::byte_at(s, 13);
+        Descriptor {
+            id: ElementId(words::number4(s, 4, o)),
+            restorable: flags % 2 == 1,
+            kind: words::byte_at(s, 14),
+            health: words::byte_at(s, 15),
+            capacity: words::number8(s, 16, o),
+        }
+    }
+}
+
+fn bit(b: bool) -> u8
+    ensures { λ r. ⌜ r ≡ one b ⌝ }
+{
+    if b { 1 } else { 0 }
+}

@@ -1,0 +1,3 @@
+-- What is proved of `paper`'s definitions, and of its functions.
+pub mod Once
+pub mod Senses

@@ -1,0 +1,4 @@
+-- The definitions that the contracts of `paper` cite, and `Told`, in which every call's promise is put.
+pub mod Answers
+pub mod Registers
+pub mod Told

@@ -1,0 +1,7 @@
+-- Document 01, "The recorder's store": what counts of a register.
+use Prim.Native.Nat.{_%_, _^_}
+use Rattle.paper.specs.declared.Lba.{Lba}
+
+-- "LBA has 48 [bits]; if more bits of LBA are handed over, those above bit 47 are ignored"
+abbrev pub low48 : Lba → Lba
+low48 lba = record { 0 = lba .0 % 2 ^ 48 }

@@ -1,0 +1,98 @@
+// What document 01 speaks of (identifiers, addresses, page counts, security) and what a call says.
+ghost use mathlib.Core.Path.{_≡_};
+ghost use Rattle.paper.specs.Answers.{numberOf, senseOf};
+ghost use Rattle.paper.specs.Registers.{low48};
+
+// "An element identifier, a logical block address and a page count are three quantities kept apart."
+pub struct ElementId(pub u32);
+
+pub struct Lba(pub u64);
+
+pub struct PageCount(pub u16);
+
+// The columns of 000, table 12.
+pub enum Security {
+    Locked,
+    Unlocked,
+    Frozen,
+}
+
+// What a device call says. The page reader's 9 has a byte place and an answer of its own.
+pub enum Answer {
+    Done,
+    SecurityLocked,
+    InProgress,
+    Failed,
+    InvalidField,
+    BeyondMax,
+    UnknownCommand,
+    SmallBuffer,
+    TableRefused,
+    NoRemoval,
+    GradeRefused,
+}
+
+pub struct Sense {
+    pub key: u8,
+    pub asc: u8,
+    pub ascq: u8,
+}
+
+// Document 01's last column: three codes, or none, which is not 0/00/00.
+pub enum Sensed {
+    None,
+    Codes(Sense),
+}
+
+impl Lba {
+    // The 48 bits of an LBA register that count.
+    pub fn low48(self) -> Lba
+        ensures { λ r. ⌜ r ≡ low48 self ⌝ }
+    {
+        Lba(self.0 % 281474976710656)
+    }
+}
+
+// The number of an answer in document 01's table.
+pub fn number_of(answer: Answer) -> u8
+    ensures { λ r. ⌜ r ≡ numberOf answer ⌝ }
+{
+    match answer {
+        Answer::Done => 0,
+        Answer::SecurityLocked => 1,
+        Answer::InProgress => 2,
+        Answer::Failed => 3,
+        Answer::InvalidField => 4,
+        Answer::BeyondMax => 5,
+        Answer::UnknownCommand => 6,
+        Answer::SmallBuffer => 7,
+        Answer::TableRefused => 8,
+        Answer::NoRemoval => 10,
+        Answer::GradeRefused => 11,
+    }
+}
+
+fn codes(key: u8, asc: u8, ascq: u8) -> Sensed
+    ensures { λ r. ⌜ r ≡ Sensed.Codes (record { key = key; asc = asc; ascq = ascq }) ⌝ }
+{
+    Sensed::Codes(Sense { key, asc, ascq })
+}
+
+// The sense of an answer in document 01's table.
+pub fn sense_of(answer: Answer) -> Sensed
+    ensures { λ r. ⌜ r ≡ senseOf (numberOf answer) ⌝ }
+{
+    match answer {
+        Answer::Done => codes(0, 0x00, 0x00),
+        Answer::SecurityLocked => codes(0, 0x00, 0x00),
+        Answer::InProgress => codes(2, 0x04, 0x24),
+        Answer::Failed => codes(3, 0x31, 0x04),
+        Answer::InvalidField => codes(5, 0x24, 0x00),
+        Answer::BeyondMax => codes(5, 0x21, 0x00),
+        Answer::UnknownCommand => codes(5, 0x20, 0x00),
+        Answer::SmallBuffer => Sensed::None,
+        Answer::TableRefused => Sensed::None,
+        Answer::NoRemoval => Sensed::None,
+        Answer::GradeRefused => Sensed::None,
+    }
+}

@@ -1,0 +1,151 @@
+-- The check: a law for each way out of the code, and that going element by element comes to document 01's rule (`walk-checks`).
+use Prim.Native.Nat.{ℕ, _+_, _-_, _≤_, _<_, _^_}
+use mathlib.Core.Bool.{Bool, true, false, cond, true≢false, _&&_, and-false, and-true}
+use mathlib.Core.List.{List, [], _∷_}
+use mathlib.Core.Path.{_≡_, refl, sym, ap, _∙_}
+use native.Mathlib.Nat.{add-assoc, add-zero, zero-add}
+use native.Mathlib.Numerals.{add-one}
+use native.Mathlib.Omega.{arith}
+use lib.Dec.{eqb, leb, ltb}
+use lib.ListN.{length, take, drop, getD, length-take, drop-of-length-le}
+use lib.Seq.{drop-cons, getD-take}
+use borrow.Author.Tests.{le-leb, lt-leb, lt-ltb, le-ltb, eq-eqb, ne-eqb, leb-true, leb-false}
+use Rattle.paper.specs.Told.{Told, tells}
+use Rattle.words.specs.Lists.{all}
+use Rattle.table.specs.Check.{sized, ascending, sound, summed, good, checkOf, verdict, mayFollow, walkFrom}
+use Rattle.table.specs.Elements.{live, blank, blockSum}
+use Rattle.table.specs.declared.Checked.the-variants.{Refused, Blocks}
+use Rattle.table.specs.declared.Checked.{Checked}
+use Rattle.table.specs.declared.Element.{Element}
+use Rattle.table.specs.declared.Table.{Table}
+
+-- ## The tests
+
+middle-true : (a b c : Bool) → ((a && b) && c) ≡ true → b ≡ true
+middle-true true true c e = refl
+middle-true true false c e = absurd (true≢false (sym e))
+middle-true false b c e = absurd (true≢false (sym e))
+
+module _ (count limit : ℕ) where
+  pub sized-empty : count ≡ 0 → false ≡ sized count limit
+  sized-empty e = sym (rw e)
+
+  pub sized-over : 128 < count → false ≡ sized count limit
+  sized-over h = sym (rw (lt-leb count 128 h, and-false))
+
+  pub sized-limit : (count ≡ 0 → ⊥) → count ≤ 128 → leb limit 128 ≡ sized count limit
+  sized-limit n h = sym (rw (le-leb 1 count (omega arith), le-leb count 128 h))
+
+  pub sized-few : (b : Bool) → b ≡ sized count limit → b ≡ true → count ≤ 128
+  sized-few b is-b y = leb-true count 128 (middle-true (leb 1 count) (leb count 128) (leb limit 128) (sym is-b ∙ y))
+
+module _ (e : Element) where
+  pub sound-high : 0xCF < e .health → false ≡ sound e
+  sound-high h = sym (rw (lt-leb (e .health) 0xCF h))
+
+  pub sound-storage : e .health ≤ 0xCF → e .kind ≡ 1 → true ≡ sound e
+  sound-storage h k = sym (rw (le-leb (e .health) 0xCF h, eq-eqb (e .kind) 1 k))
+
+  pub sound-other : e .health ≤ 0xCF → (e .kind ≡ 1 → ⊥) → eqb (e .blocks) 0 ≡ sound e
+  sound-other h k = sym (rw (le-leb (e .health) 0xCF h, ne-eqb (e .kind) 1 k))
+
+leb-same : (a b c d : ℕ) → (a ≤ b → c ≤ d) → (b < a → d < c) → leb a b ≡ leb c d
+leb-same a b c d up down = go (leb a b) refl
+  where
+    go : (t : Bool) → leb a b ≡ t → t ≡ leb c d
+    go true e = sym (le-leb c d (up (leb-true a b e)))
+    go false e = sym (lt-leb c d (down (leb-false a b e)))
+
+module _ (e : Element) (last total : ℕ) where
+  pub follow-order : e .id .0 ≤ last → false ≡ mayFollow last total e
+  follow-order h = sym (rw (le-ltb last (e .id .0) h))
+
+  pub follow-sound : last < e .id .0 → (s : Bool) → s ≡ sound e → s ≡ false → false ≡ mayFollow last total e
+  follow-sound h s is-s n = sym (rw (lt-ltb last (e .id .0) h, sym is-s ∙ n))
+
+  pub follow-blocks : total ≤ 2 ^ 48 → last < e .id .0 → (s : Bool) → s ≡ sound e → s ≡ true → leb (e .blocks) (2 ^ 48 - total) ≡ mayFollow last total e
+  follow-blocks t h s is-s y =
+      leb-same (e .blocks) (2 ^ 48 - total) (total + e .blocks) (2 ^ 48) (λ g. omega arith) (λ g. omega arith)
+      ∙ sym (rw (lt-ltb last (e .id .0) h, sym is-s ∙ y))
+
+-- ## The walk
+
+last-true : (a b c : Bool) → (a && (b && c)) ≡ true → c ≡ true
+last-true true true c e = e
+last-true true false c e = absurd (true≢false (sym e))
+last-true false b c e = absurd (true≢false (sym e))
+
+pub follow-fits : (last total : ℕ) (e : Element) (m : Bool) → m ≡ mayFollow last total e → m ≡ true → total + e .blocks ≤ 2 ^ 48
+follow-fits last total e m is-m y =
+    leb-true (total + e .blocks) (2 ^ 48) (last-true (ltb last (e .id .0)) (sound e) (leb (total + e .blocks) (2 ^ 48)) (sym is-m ∙ y))
+
+pub follow-u64 : (last total : ℕ) (e : Element) (m : Bool) → m ≡ mayFollow last total e → m ≡ true → total + e .blocks < 2 ^ 64
+follow-u64 last total e m is-m y = omega (arith, follow-fits last total e m is-m y)
+
+-- `whole` is what the walk comes to; `so`, the loop's invariant
+module _ (es : List Element) (n i last total : ℕ) (whole : Checked) (so : walkFrom last total (drop i (take n es)) ≡ whole) where
+  module _ (full : length es ≡ 128) (few : n ≤ 128) (less : i < n) (m : Bool) (is-m : m ≡ mayFollow last total (getD es i blank)) where
+    here : drop i (take n es) ≡ getD es i blank ∷ drop (i + 1) (take n es)
+    here =
+        let inside : i < length (take n es) = simp length-take (omega arith) in
+        rw (drop-cons (take n es) i blank inside, add-one i, getD-take n es i blank less)
+
+    pub walk-bad : m ≡ false → Refused ≡ whole
+    walk-bad e = sym (rw (here, sym is-m ∙ e)) ∙ so
+
+    pub walk-on : m ≡ true → walkFrom (getD es i blank .id .0) (total + getD es i blank .blocks) (drop (i + 1) (take n es)) ≡ whole
+    walk-on e = sym (rw (here, sym is-m ∙ e)) ∙ so
+
+  module _ (done : n ≤ i) where
+    nothing : drop i (take n es) ≡ []
+    nothing = drop-of-length-le (take n es) {i = i} (simp length-take (omega arith))
+
+    pub walk-few : total < 2 → Refused ≡ whole
+    walk-few h = sym (rw (nothing, lt-leb 2 total h)) ∙ so
+
+    pub walk-end : 2 ≤ total → Blocks total ≡ whole
+    walk-end h = sym (rw (nothing, le-leb 2 total h)) ∙ so
+
+-- ## The walk is the check
+
+abbrev judged : ℕ → ℕ → List Element → Checked
+judged last total es = cond (ascending last es && (all sound es && summed (total + blockSum es))) (Blocks (total + blockSum es)) Refused
+
+walk-checks : (last total : ℕ) (es : List Element) → total ≤ 2 ^ 48 → walkFrom last total es ≡ judged last total es
+walk-checks last total [] h = simp (add-zero, le-leb total (2 ^ 48) h, and-true)
+walk-checks last total (e ∷ es) h =
+    rw (← add-assoc total (e .blocks) (blockSum es))
+    (go (ltb last (e .id .0)) (sound e) (leb (total + e .blocks) (2 ^ 48)) refl (λ g. walk-checks (e .id .0) (total + e .blocks) es g))
+  where
+    go : (a s b : Bool) → leb (total + e .blocks) (2 ^ 48) ≡ b
+        → (total + e .blocks ≤ 2 ^ 48 → walkFrom (e .id .0) (total + e .blocks) es ≡ judged (e .id .0) (total + e .blocks) es)
+        → cond (a && (s && b)) (walkFrom (e .id .0) (total + e .blocks) es) Refused
+        ≡ cond ((a && ascending (e .id .0) es) && ((s && all sound es) && summed (total + e .blocks + blockSum es))) (Blocks (total + e .blocks + blockSum es)) Refused
+    go true true true q later = later (leb-true (total + e .blocks) (2 ^ 48) q)
+    go true true false q later =
+        let over : 2 ^ 48 < total + e .blocks + blockSum es = omega (arith, leb-false (total + e .blocks) (2 ^ 48) q) in
+        simp (lt-leb (total + e .blocks + blockSum es) (2 ^ 48) over, and-false)
+    go true false b q later = simp and-false
+    go false s b q later = refl
+
+module _ (t : Table) (b : Bool) (is-b : b ≡ sized (t .count) (t .limit)) where
+  pub check-unsized : b ≡ false → verdict Refused ≡ checkOf t
+  unfolding good checkOf
+  check-unsized n = sym (rw (sym is-b ∙ n))
+
+  pub check-walked : b ≡ true → (r : Checked) → r ≡ walkFrom 0 0 (take (t .count) (t .elements)) → verdict r ≡ checkOf t
+  unfolding good checkOf
+  check-walked y r is-r =
+      rw (is-r, walk-checks 0 0 (live t) (omega arith), zero-add (blockSum (live t)), sym is-b ∙ y)
+      (told (ascending 0 (live t) && (all sound (live t) && summed (blockSum (live t)))))
+    where
+      told : (g : Bool) → verdict (cond g (Blocks (blockSum (live t))) Refused) ≡ cond g (tells 0 (blockSum (live t) ∷ [])) (tells 8 [])
+      told true = refl
+      told false = refl
+
+-- no second answer fits the check's promise
+pub verdict-injective : (x y : Checked) → verdict x ≡ verdict y → x ≡ y
+verdict-injective Refused Refused e = refl
+verdict-injective Refused (Blocks n) e = absurd (let z : _≡_ {A = ℕ} 8 0 = ap (λ (u : Told (List ℕ)). u .number) e in omega arith)
+verdict-injective (Blocks m) Refused e = absurd (let z : _≡_ {A = ℕ} 0 8 = ap (λ (u : Told (List ℕ)). u .number) e in omega arith)
+verdict-injective (Blocks m) (Blocks n) e = ap Blocks (let z : (m ∷ []) ≡ (n ∷ []) = ap (λ (u : Told (List ℕ)). u .state) e in cc)

@@ -1,0 +1,52 @@
+-- Document 01, "Table and cells": which tables are good. "Any other table is refused (8)."
+use Prim.Native.Nat.{ℕ, _+_, _^_}
+use mathlib.Core.Bool.{Bool, true, cond, _&&_, _||_}
+use mathlib.Core.List.{List, [], _∷_}
+use lib.Dec.{eqb, leb, ltb}
+use Rattle.paper.specs.Told.{Told, tells}
+use Rattle.words.specs.Lists.{all}
+use Rattle.table.specs.Elements.{live, isStorage, blockSum}
+use Rattle.table.specs.declared.Checked.the-variants.{Refused, Blocks}
+use Rattle.table.specs.declared.Checked.{Checked}
+use Rattle.table.specs.declared.Element.{Element}
+use Rattle.table.specs.declared.Table.{Table}
+
+-- "1 to 128 elements"; "A removal limit, 0 to 128"
+abbrev pub sized : ℕ → ℕ → Bool
+sized count limit = leb 1 count && leb count 128 && leb limit 128
+
+-- "identifiers 1 to FFFF_FFFFh, strictly ascending": each above the one before, the first above `low`
+abbrev pub ascending : ℕ → List Element → Bool
+ascending low [] = true
+ascending low (e ∷ es) = ltb low (e .id .0) && ascending (e .id .0) es
+
+-- "a health 00h to CFh"; "A type other than 01h has block count 0"
+abbrev pub sound : Element → Bool
+sound e = leb (e .health) 0xCF && (isStorage e || eqb (e .blocks) 0)
+
+-- "The blocks sum to between 2 and 2^48"
+abbrev pub summed : ℕ → Bool
+summed total = leb 2 total && leb total (2 ^ 48)
+
+-- the tables that are not refused; the count is tested itself, since a list of 129 records has no more than 128 in the array
+unfoldable pub good : ℕ → List Element → ℕ → Bool
+good count es limit = sized count limit && (ascending 0 es && (all sound es && summed (blockSum es)))
+
+-- what the check tells: 0 and the blocks of all, or 8
+unfoldable pub checkOf : Table → Told (List ℕ)
+checkOf t = cond (good (t .count) (live t) (t .limit)) (tells 0 (blockSum (live t) ∷ [])) (tells 8 [])
+
+-- the number and values of each answer
+abbrev pub verdict : Checked → Told (List ℕ)
+verdict Refused = tells 8 []
+verdict (Blocks n) = tells 0 (n ∷ [])
+
+-- ## The same, element by element, as the code goes (proofs/Check, `walk-checks`)
+
+-- an element may follow an identifier `last` and `total` blocks
+abbrev pub mayFollow : ℕ → ℕ → Element → Bool
+mayFollow last total e = ltb last (e .id .0) && (sound e && leb (total + e .blocks) (2 ^ 48))
+
+abbrev pub walkFrom : ℕ → ℕ → List Element → Checked
+walkFrom last total [] = cond (leb 2 total) (Blocks total) Refused
+walkFrom last total (e ∷ es) = cond (mayFollow last total e) (walkFrom (e .id .0) (total + e .blocks) es) Refused

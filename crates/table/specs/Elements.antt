@@ -1,0 +1,36 @@
+-- The elements of a table, and what is measured of them.
+use Prim.Native.Nat.{ℕ}
+use mathlib.Core.Bool.{Bool, false}
+use mathlib.Core.List.{List}
+use lib.Dec.{eqb}
+use lib.ListN.{take}
+use Rattle.words.specs.Lists.{sum, one}
+use Rattle.table.specs.declared.Element.{Element}
+use Rattle.table.specs.declared.Table.{Table}
+
+-- the elements that count: the first `count`, or all 128 where the count is larger
+abbrev pub live : Table → List Element
+live t = take (t .count) (t .elements)
+
+-- what fills an unused slot
+abbrev pub blank : Element
+blank = record { id = record { 0 = 0 }; kind = 0; health = 0; unreported = false; blocks = 0 }
+
+-- "(01h is storage)"
+abbrev pub isStorage : Element → Bool
+isStorage e = eqb (e .kind) 0x01
+
+-- 000, table 19: "FFh depopulated"
+abbrev pub isRemoved : Element → Bool
+isRemoved e = eqb (e .health) 0xFF
+
+abbrev pub withHealth : ℕ → Element → Element
+withHealth h e = record { id = e .id; kind = e .kind; health = h; unreported = e .unreported; blocks = e .blocks }
+
+-- how many are at FFh
+abbrev pub removedCount : List Element → ℕ
+removedCount es = sum (λ (e : Element). one (isRemoved e)) es
+
+-- the blocks of all
+abbrev pub blockSum : List Element → ℕ
+blockSum es = sum (λ (e : Element). e .blocks) es

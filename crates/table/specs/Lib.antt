@@ -1,0 +1,4 @@
+-- The element table: its elements, which tables are good, the search, the store of a health, the counts.
+pub mod Check
+pub mod Elements
+pub mod Search

@@ -1,0 +1,100 @@
+-- Laws of numbers as bytes, each over the width and the order.
+--     number-bytesOf   a number that fits is read back from its bytes
+--     numberAt-lay     the same at the place where the bytes were laid
+--     number-halves    a number of two halves, as the code reads it
+use Prim.Native.Nat.{ℕ, zero, suc, _+_, _-_, _*_, _/_, _%_, _^_, _<_}
+use mathlib.Core.List.{List, [], _∷_, _++_, reverse, reverse-append, reverse-reverse}
+use mathlib.Core.Path.{_≡_, refl, sym, ap, _∙_}
+use native.Mathlib.Nat.{pow-suc, zero-add, suc-add, add-mul, mul-assoc, add-assoc, div-add-mod', div-lt-iff-lt-mul}
+use native.Mathlib.Omega.{arith}
+use lib.Dec.{lit<}
+use lib.ListN.{length, getD, take, drop, length-drop, length-reverse}
+use lib.Seq.{take-all, drop-drop, drop-at, getD-drop}
+use Rattle.words.specs.Bytes.{digits, value, ordered, bytesOf, number, front, numberAt, joined}
+use Rattle.words.specs.declared.Order.the-variants.{Little, Big}
+use Rattle.words.specs.declared.Order.{Order}
+
+-- ## Bytes of a number, and back
+
+value-digits : (w x : ℕ) → x < 256 ^ w → value (digits w x) ≡ x
+value-digits zero x h = omega arith
+value-digits (suc w) x h =
+    let high : x / 256 < 256 ^ w = div-lt-iff-lt-mul (lit< tt) .1 (rw (pow-suc 256 w) at h) in
+    ap (λ (n : ℕ). n * 256 + x % 256) (value-digits w (x / 256) high) ∙ div-add-mod' x 256
+
+ordered-twice : (o : Order) (bs : List ℕ) → ordered o (ordered o bs) ≡ bs
+ordered-twice Little bs = refl
+ordered-twice Big bs = reverse-reverse bs
+
+pub number-bytesOf : (o : Order) (w x : ℕ) → x < 256 ^ w → number o (bytesOf o w x) ≡ x
+number-bytesOf o w x h = ap value (ordered-twice o (digits w x)) ∙ value-digits w x h
+
+-- an order that a `match` has told
+pub in-order : (w : ℕ) {o p : Order} (x : ℕ) → o ≡ p → bytesOf p w x ≡ bytesOf o w x
+in-order w x e = sym (ap (λ (q : Order). bytesOf q w x) e)
+
+length-digits : (w x : ℕ) → length (digits w x) ≡ w
+length-digits zero x = refl
+length-digits (suc w) x = ap suc (length-digits w (x / 256))
+
+pub length-bytesOf : (o : Order) (w x : ℕ) → length (bytesOf o w x) ≡ w
+length-bytesOf Little w x = length-digits w x
+length-bytesOf Big w x = length-reverse (digits w x) ∙ length-digits w x
+
+-- ## Reading at a place
+
+-- a part that goes on to the end
+pub part-end : (s : List ℕ) (at : ℕ) → take (length s - at) (drop at s) ≡ drop at s
+part-end s at = take-all (length s - at) (drop at s) (simp length-drop (omega arith))
+
+front-append : (w : ℕ) (bs rest : List ℕ) → length bs ≡ w → front w (bs ++ rest) ≡ bs
+front-append zero [] rest e = refl
+front-append zero (b ∷ bs) rest e = absurd (omega arith)
+front-append (suc w) [] rest e = absurd (omega arith)
+front-append (suc w) (b ∷ bs) rest e = ap (λ (r : List ℕ). b ∷ r) (front-append w bs rest (omega arith))
+
+pub numberAt-lay : (o : Order) (w x at : ℕ) (before rest : List ℕ) → length before ≡ at → x < 256 ^ w → numberAt o w (before ++ (bytesOf o w x ++ rest)) at ≡ x
+numberAt-lay o w x at before rest e h =
+    ap (λ (s : List ℕ). number o (front w s)) (drop-at before (bytesOf o w x ++ rest) at e)
+    ∙ ap (number o) (front-append w (bytesOf o w x) rest (length-bytesOf o w x))
+    ∙ number-bytesOf o w x h
+
+-- ## A number of two halves
+
+value-append : (a b : List ℕ) → value (a ++ b) ≡ value b * 256 ^ length a + value a
+value-append [] b = omega arith
+value-append (x ∷ a) b =
+    rw (value-append a b, pow-suc 256 (length a))
+    (ap (λ (n : ℕ). n + x) (add-mul (value b * 256 ^ length a) (value a) 256)
+    ∙ rw (mul-assoc (value b) (256 ^ length a) 256) (add-assoc (value b * (256 ^ length a * 256)) (value a * 256) x))
+
+number-append : (o : Order) (w : ℕ) (a b : List ℕ) → length a ≡ w → length b ≡ w → number o (a ++ b) ≡ joined o (256 ^ w) (number o a) (number o b)
+number-append Little w a b p q = rw (value-append a b, p)
+number-append Big w a b p q = rw (reverse-append a b, value-append (reverse b) (reverse a), length-reverse b, q)
+
+length-front : (w : ℕ) (s : List ℕ) → length (front w s) ≡ w
+length-front zero s = refl
+length-front (suc w) s = ap suc (length-front w (drop 1 s))
+
+front-split : (a b : ℕ) (s : List ℕ) → front (a + b) s ≡ front a s ++ front b (drop a s)
+front-split zero b s = rw (zero-add b)
+front-split (suc a) b s =
+    let next : 1 + a ≡ suc a = omega arith in
+    rw (suc-add a b, front-split a b (drop 1 s), drop-drop a 1 s, next)
+
+pub number-halves : (w : ℕ) (o : Order) (s t : List ℕ) (at x y r : ℕ)
+    → t ≡ drop at s → x ≡ numberAt o w t 0 → y ≡ numberAt o w t w → r ≡ joined o (256 ^ w) x y → r ≡ numberAt o (w + w) s at
+number-halves w o s t at x y r e p q j =
+    j
+    ∙ rw (p, q) (sym (number-append o w (front w t) (front w (drop w t)) (length-front w t) (length-front w (drop w t))))
+    ∙ ap (number o) (sym (front-split w w t))
+    ∙ ap (λ (u : List ℕ). number o (front (w + w) u)) e
+
+number-one : (o : Order) (b : ℕ) → b ≡ number o (b ∷ [])
+number-one Little b = omega arith
+number-one Big b = omega arith
+
+-- the halves are bytes
+pub number-bytes : (o : Order) (s t : List ℕ) (at x y r : ℕ) → t ≡ drop at s → x ≡ getD t 0 0 → y ≡ getD t 1 0 → r ≡ joined o 256 x y → r ≡ numberAt o 2 s at
+number-bytes o s t at x y r e p q j =
+    number-halves 1 o s t at x y r e (p ∙ number-one o (getD t 0 0)) (q ∙ sym (getD-drop 1 t 0 0) ∙ number-one o (getD (drop 1 t) 0 0)) j

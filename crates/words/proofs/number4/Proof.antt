@@ -1,0 +1,15 @@
+-- `words::number4`: two halves of two bytes.
+use borrow.Author.Needs.{needs}
+use Rattle.words.proofs.Bytes.{number-halves}
+use Rattle.words.proofs.number4.Statement.{statement}
+use Rattle.words.proofs.number4.Tie as tie
+
+pub number4-spec : {M : Type 1} → statement M
+number4-spec =
+    tie.close
+    (tie.spec
+    (λ c κs. search needs)
+    (λ c κs. search needs)
+    (λ c κs. search needs)
+    (λ c κs. search needs)
+    (λ c. search (number-halves 2)))
