@@ -6,7 +6,7 @@ use mathlib.Core.Path.{_≡_, refl, _∙_}
 use lib.Dec.{eqb}
 use lib.ListN.{getD, replicate}
 use Rattle.words.proofs.Bytes.{number-bytesOf}
-use Rattle.words.specs.Bytes.{bytesOf, number}
+use Rattle.words.specs.Bytes.{bytesOf, number, numberAt}
 use Rattle.words.specs.Lists.{one}
 use Rattle.words.specs.declared.Order.the-variants.{Little, Big}
 use Rattle.words.specs.declared.Order.{Order}
@@ -35,6 +35,20 @@ pub descriptor-laid : (o : Order) (d : Descriptor) (i c : List ℕ) (f : ℕ)
     → replicate 4 0 ++ four i (replicate 5 0 ++ (f ∷ d .kind ∷ d .health ∷ eight c (replicate 8 0))) ≡ descriptorBytes o d
 descriptor-laid Little d i c f is-i is-f is-c = rw (is-i, is-f, is-c)
 descriptor-laid Big d i c f is-i is-f is-c = rw (is-i, is-f, is-c)
+
+-- ## Read field by field
+
+pub header-fields : (o : Order) (s : List ℕ) (n r b l m : ℕ)
+    → n ≡ numberAt o 4 s 0 → r ≡ numberAt o 4 s 4 → b ≡ numberAt o 4 s 8 → l ≡ numberAt o 2 s 12 → m ≡ numberAt o 2 s 14
+    → record { number = n; returned = r; busy = record { 0 = b }; limit = l; removed = m } ≡ headerIn o s
+header-fields o s n r b l m is-n is-r is-b is-l is-m =
+    λ i. record { number = is-n i; returned = is-r i; busy = record { 0 = is-b i }; limit = is-l i; removed = is-m i }
+
+pub descriptor-fields : (o : Order) (s : List ℕ) (i f k h c : ℕ)
+    → i ≡ numberAt o 4 s 4 → f ≡ getD s 13 0 → k ≡ getD s 14 0 → h ≡ getD s 15 0 → c ≡ numberAt o 8 s 16
+    → record { id = record { 0 = i }; restorable = eqb (f % 2) 1; kind = k; health = h; capacity = c } ≡ descriptorIn o s
+descriptor-fields o s i f k h c is-i is-f is-k is-h is-c =
+    λ j. record { id = record { 0 = is-i j }; restorable = eqb (is-f j % 2) 1; kind = is-k j; health = is-h j; capacity = is-c j }
 
 -- ## What was laid is read back, whatever follows it
 

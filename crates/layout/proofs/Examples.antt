@@ -7,7 +7,7 @@ use lib.Dec.{eqb}
 use Rattle.words.specs.Lists.{all}
 use Rattle.words.specs.declared.Order.the-variants.{Little, Big}
 use Rattle.layout.specs.Bytes.{descriptorBytes}
-use Rattle.layout.specs.Requests.{filterOf, reportTypeOf, startOf, refused, reaches, passesType, passesFilter}
+use Rattle.layout.specs.Requests.{filterOf, reportTypeOf, startOf, refused, takesId, takesType, takesHealth}
 use Rattle.layout.specs.declared.Descriptor.{Descriptor}
 use Rattle.layout.specs.declared.Request.{Request}
 
@@ -28,23 +28,23 @@ requests-tried : all (λ (b : Bool). b)
     ∷ refused (request 0xC000 1 0)
     ∷ refused (request 0x0200 1 0)
     ∷ refused (request 0x0F00 1 0)
-    ∷ reaches (request 0 1 3) 3
-    ∷ not (reaches (request 0 1 4) 3)
-    ∷ not (reaches (request 0 1 0x1_0000_0000) 0xFFFF_FFFF)
+    ∷ takesId (request 0 1 3) 3
+    ∷ not (takesId (request 0 1 4) 3)
+    ∷ not (takesId (request 0 1 0x1_0000_0000) 0xFFFF_FFFF)
     ∷ []) ≡ true
 unfolding refused
 requests-tried = refl
 
 tests-tried : all (λ (b : Bool). b)
-    (passesType 1 1
-    ∷ not (passesType 1 0)
-    ∷ not (passesType 1 2)
-    ∷ passesType 0 2
-    ∷ all (passesFilter 0) (0x00 ∷ 0x64 ∷ 0xD0 ∷ 0xFE ∷ 0xFF ∷ [])
-    ∷ all (passesFilter 1) (0x65 ∷ 0xCF ∷ 0xFF ∷ [])
-    ∷ all (λ (h : ℕ). not (passesFilter 1 h)) (0x00 ∷ 0x64 ∷ 0xD0 ∷ 0xFE ∷ [])
+    (takesType 1 1
+    ∷ not (takesType 1 0)
+    ∷ not (takesType 1 2)
+    ∷ takesType 0 2
+    ∷ all (takesHealth 0) (0x00 ∷ 0x64 ∷ 0xD0 ∷ 0xFE ∷ 0xFF ∷ [])
+    ∷ all (takesHealth 1) (0x65 ∷ 0xCF ∷ 0xFF ∷ [])
+    ∷ all (λ (h : ℕ). not (takesHealth 1 h)) (0x00 ∷ 0x64 ∷ 0xD0 ∷ 0xFE ∷ [])
     ∷ []) ≡ true
-unfolding passesFilter
+unfolding takesHealth
 tests-tried = refl
 
 abbrev slow : Descriptor

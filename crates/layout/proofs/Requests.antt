@@ -5,7 +5,7 @@ use mathlib.Core.Path.{_≡_, refl, sym}
 use native.Mathlib.Omega.{arith}
 use lib.Dec.{leb, ltb, eqb}
 use borrow.Author.Tests.{le-leb, lt-leb, lt-ltb, le-ltb, eq-eqb, ne-eqb, leb-false, ltb-false, eqb-false}
-use Rattle.layout.specs.Requests.{filterOf, reportTypeOf, pagesOf, refused, passesType, passesFilter}
+use Rattle.layout.specs.Requests.{filterOf, reportTypeOf, pagesOf, refused, takesType, takesHealth}
 use Rattle.layout.specs.declared.Request.{Request}
 
 -- ## Which requests are due 4
@@ -25,27 +25,27 @@ module _ (q : Request) (f : ℕ) (is-f : f ≡ filterOf q) where
 
 -- ## The tests of an element
 
-pub type-storage : (kind t r : ℕ) → t ≡ r → t ≡ 1 → eqb kind 1 ≡ passesType r kind
+pub type-storage : (kind t r : ℕ) → t ≡ r → t ≡ 1 → eqb kind 1 ≡ takesType r kind
 type-storage kind t r e h = sym (rw (eq-eqb r 1 (omega arith)))
 
-pub type-any : (kind t r : ℕ) → t ≡ r → (t ≡ 1 → ⊥) → true ≡ passesType r kind
+pub type-any : (kind t r : ℕ) → t ≡ r → (t ≡ 1 → ⊥) → true ≡ takesType r kind
 type-any kind t r e h = sym (rw (ne-eqb r 1 (λ g. h (omega arith))))
 
 module _ (h f r : ℕ) (is-f : f ≡ r) where
-  pub filter-any : (f ≡ 1 → ⊥) → true ≡ passesFilter r h
-  unfolding passesFilter
+  pub filter-any : (f ≡ 1 → ⊥) → true ≡ takesHealth r h
+  unfolding takesHealth
   filter-any n = sym (rw (ne-eqb r 1 (λ g. n (omega arith))))
 
-  pub filter-low : f ≡ 1 → h < 0x65 → false ≡ passesFilter r h
-  unfolding passesFilter
+  pub filter-low : f ≡ 1 → h < 0x65 → false ≡ takesHealth r h
+  unfolding takesHealth
   filter-low e l = sym (rw (eq-eqb r 1 (omega arith), lt-leb 0x65 h l, ne-eqb h 0xFF (omega arith)))
 
-  pub filter-slow : f ≡ 1 → 0x65 ≤ h → h ≤ 0xCF → true ≡ passesFilter r h
-  unfolding passesFilter
+  pub filter-slow : f ≡ 1 → 0x65 ≤ h → h ≤ 0xCF → true ≡ takesHealth r h
+  unfolding takesHealth
   filter-slow e l m = sym (rw (eq-eqb r 1 (omega arith), le-leb 0x65 h l, le-leb h 0xCF m))
 
-  pub filter-high : f ≡ 1 → 0x65 ≤ h → 0xCF < h → eqb h 0xFF ≡ passesFilter r h
-  unfolding passesFilter
+  pub filter-high : f ≡ 1 → 0x65 ≤ h → 0xCF < h → eqb h 0xFF ≡ takesHealth r h
+  unfolding takesHealth
   filter-high e l m = sym (rw (eq-eqb r 1 (omega arith), le-leb 0x65 h l, lt-leb h 0xCF m))
 
 -- ## For callers
@@ -63,5 +63,5 @@ accepted q e =
     (omega (arith, leb-false 2 (filterOf q) (two .0)), ltb-false 1 (reportTypeOf q) (two .1), omega (arith, eqb-false (pagesOf q) 0 (first .1)))
 
 -- without a filter every health is taken
-pub filter-none : (h : ℕ) → passesFilter 0 h ≡ true
+pub filter-none : (h : ℕ) → takesHealth 0 h ≡ true
 filter-none h = sym (filter-any h 0 0 refl (omega arith))

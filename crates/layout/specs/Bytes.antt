@@ -49,7 +49,7 @@ descriptorIn o s =
       capacity = numberAt o 8 s 16;
     }
 
--- the numbers that the fields hold; what a struct of the code holds does
+-- numbers that fit their fields, as every struct of the code has them
 pub record HeaderFits (h : Header) : Type 0 where
   pub number : h .number < 2 ^ 32
   pub returned : h .returned < 2 ^ 32
@@ -59,4 +59,6 @@ pub record HeaderFits (h : Header) : Type 0 where
 
 pub record DescriptorFits (d : Descriptor) : Type 0 where
   pub id : d .id .0 < 2 ^ 32
+  pub kind : d .kind < 2 ^ 8
+  pub health : d .health < 2 ^ 8
   pub capacity : d .capacity < 2 ^ 64

@@ -1,7 +1,8 @@
--- Document 01, "GET PHYSICAL ELEMENT STATUS (12h)": a request's fields, which requests are due 4, and the two tests of an element.
+-- Document 01, "GET PHYSICAL ELEMENT STATUS (12h)": a request's fields, which requests are due 4, and the tests of an element.
 use Prim.Native.Nat.{ℕ, _/_, _%_, _^_}
 use mathlib.Core.Bool.{Bool, not, _&&_, _||_}
 use lib.Dec.{leb, ltb, eqb}
+use Rattle.paper.specs.Elements.{storageType, removedHealth}
 use Rattle.paper.specs.Registers.{low48}
 use Rattle.layout.specs.declared.Request.{Request}
 
@@ -21,17 +22,20 @@ abbrev pub startOf : Request → ℕ
 startOf q = low48 (q .lba) .0
 
 -- "Checks: filter 10b or 11b, report type above 1, p = 0: all 4"
+abbrev pub fieldsRefused : Request → Bool
+fieldsRefused q = leb 2 (filterOf q) || ltb 1 (reportTypeOf q)
+
 unfoldable pub refused : Request → Bool
-refused q = leb 2 (filterOf q) || ltb 1 (reportTypeOf q) || eqb (pagesOf q) 0
+refused q = fieldsRefused q || eqb (pagesOf q) 0
 
 -- "elements with identifier at or above the start"
-abbrev pub reaches : Request → ℕ → Bool
-reaches q id = leb (startOf q) id
+abbrev pub takesId : Request → ℕ → Bool
+takesId q id = leb (startOf q) id
 
 -- "type 01h only if report type is 1"
-abbrev pub passesType : ℕ → ℕ → Bool
-passesType report kind = not (eqb report 1) || eqb kind 0x01
+abbrev pub takesType : ℕ → ℕ → Bool
+takesType report kind = not (eqb report 1) || storageType kind
 
 -- "with filter 01b only health 65h to CFh, or FFh (000, table 14)"
-unfoldable pub passesFilter : ℕ → ℕ → Bool
-passesFilter filter health = not (eqb filter 1) || leb 0x65 health && leb health 0xCF || eqb health 0xFF
+unfoldable pub takesHealth : ℕ → ℕ → Bool
+takesHealth filter health = not (eqb filter 1) || ((leb 0x65 health && leb health 0xCF) || removedHealth health)

@@ -1,6 +1,6 @@
 // What device and reader share of a status page: the request, the header, the descriptor; in either byte order.
 ghost use mathlib.Core.Path.{_≡_};
-ghost use Rattle.layout.specs.Requests.{filterOf, reportTypeOf, startOf, refused, reaches, passesType, passesFilter};
+ghost use Rattle.layout.specs.Requests.{filterOf, reportTypeOf, startOf, refused, takesId, takesType, takesHealth};
 ghost use Rattle.layout.specs.Bytes.{headerBytes, headerIn, descriptorBytes, descriptorIn};
 ghost use Rattle.words.specs.Lists.{one};
 use paper::ElementId;
@@ -24,7 +24,7 @@ pub struct Header {
     pub removed: u16,
 }
 
-// An element as a page shows it.
+// An element as a page shows it; `kind` is document 01's type, a word that the language keeps.
 pub struct Descriptor {
     pub id: ElementId,
     pub restorable: bool,
@@ -68,13 +68,13 @@ impl Request {
 
     // Whether an identifier is at or above the start.
     pub fn takes_id(self, id: ElementId) -> bool
-        ensures { λ r. ⌜ r ≡ reaches self (id .0) ⌝ }
+        ensures { λ r. ⌜ r ≡ takesId self (id .0) ⌝ }
     {
         self.start() <= id.0 as u64
     }
 
     pub fn takes_type(self, kind: u8) -> bool
-        ensures { λ r. ⌜ r ≡ passesType (reportTypeOf self) kind ⌝ }
+        ensures { λ r. ⌜ r ≡ takesType (reportTypeOf self) kind ⌝ }
     {
         if self.report_type() == 1 {
             kind == 1
@@ -84,7 +84,7 @@ impl Request {
     }
 
     pub fn takes_health(self, health: u8) -> bool
-        ensures { λ r. ⌜ r ≡ passesFilter (filterOf self) health ⌝ }
+        ensures { λ r. ⌜ r ≡ takesHealth (filterOf self) health ⌝ }
     {
         if self.filter() != 1 {
             return true;

@@ -2,6 +2,6 @@
 use Prim.Native.Nat.{_%_, _^_}
 use Rattle.paper.specs.declared.Lba.{Lba}
 
--- "LBA has 48 [bits]; if more bits of LBA are handed over, those above bit 47 are ignored"
+-- "FEATURE and COUNT have 16 bits, LBA has 48; if more bits of LBA are handed over, those above bit 47 are ignored."
 abbrev pub low48 : Lba → Lba
 low48 lba = record { 0 = lba .0 % 2 ^ 48 }

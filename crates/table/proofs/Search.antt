@@ -1,6 +1,6 @@
 -- The search, a turn of the loop at a time; what it finds; the store at the place where it stops.
 use Prim.Native.Nat.{ℕ, suc, _+_, _≤_, _<_, min}
-use mathlib.Core.Bool.{Bool, true, false, cond}
+use mathlib.Core.Bool.{Bool, true, false, cond, true≢false}
 use mathlib.Core.List.{List, _∷_, _++_, append-nil}
 use mathlib.Core.Path.{_≡_, refl, sym, ap, _∙_}
 use native.Mathlib.Numerals.{add-one}
@@ -9,8 +9,8 @@ use lib.Dec.{eqb}
 use lib.ListN.{length, take, drop, getD, set, length-take, take-append-drop, drop-of-length-le}
 use lib.Seq.{drop-cons, getD-take, take-all, set-split, set-getD, set-append-left}
 use borrow.Author.Tests.{lt-ltb, le-ltb}
-use Rattle.table.specs.Elements.{live, blank, withHealth}
-use Rattle.table.specs.Search.{place, find, change, storeHealth, Spotted}
+use Rattle.table.specs.Elements.{live, blank, withHealth, withElements}
+use Rattle.table.specs.Search.{place, find, change, storeIn, storeHealth, Spotted}
 use Rattle.table.specs.declared.Element.{Element}
 use Rattle.table.specs.declared.Found.the-variants.{Missing, One}
 use Rattle.table.specs.declared.Table.{Table}
@@ -86,7 +86,8 @@ module _ (es : List Element) (count n i id : ℕ) (full : length es ≡ 128) (is
 
       pub seek-stop : Spotted es count id i (eqb (getD es i blank .id .0) id)
       seek-stop = record {
-        within = omega arith;
+        stops = sym stopped;
+        within = λ _. omega arith;
         found = rw (find-at id (take count es) inside, element);
         changed = λ f. changed f (eqb (getD es i blank .id .0) id) refl;
       }
@@ -95,9 +96,15 @@ module _ (es : List Element) (count n i id : ℕ) (full : length es ≡ 128) (is
     past : length (take count es) ≤ place id (take count es)
     past = rw (taken-length, sym all-taken) (omega arith)
 
-    pub seek-end : Spotted es count id 0 false
+    at-end : i ≡ place id (take n es)
+    at-end =
+        let none : place id (drop i (take n es)) ≡ 0 = rw (drop-of-length-le (take n es) {i = i} (simp length-take (omega arith))) in
+        omega arith
+
+    pub seek-end : Spotted es count id i false
     seek-end = record {
-      within = omega arith;
+      stops = rw (sym all-taken) at-end;
+      within = λ q. absurd (true≢false (sym q));
       found = find-past id (take count es) past;
       changed = λ f. rw (change-past id (take count es) f past) (take-append-drop count es);
     }
@@ -105,21 +112,21 @@ module _ (es : List Element) (count n i id : ℕ) (full : length es ≡ 128) (is
 -- ## The table's own calls
 
 module _ (t : Table) (id at : ℕ) (hit : Bool) (spot : Spotted (t .elements) (t .count) id at hit) where
-  pub found-one : hit ≡ true → One (getD (t .elements) at blank) ≡ find id (live t)
-  found-one e = sym (spot .found ∙ rw e)
+  on-hit : (slot : ℕ) → slot ≡ min at 127 → hit ≡ true → slot ≡ at
+  on-hit slot is-slot e = omega (arith, spot .within e)
+
+  pub found-one : (slot : ℕ) → slot ≡ min at 127 → hit ≡ true → One (getD (t .elements) slot blank) ≡ find id (live t)
+  found-one slot is-slot e = sym (spot .found ∙ rw (e, on-hit slot is-slot e))
 
   pub found-none : hit ≡ false → Missing ≡ find id (live t)
   found-none e = sym (spot .found ∙ rw e)
 
-  pub stored : (h new : ℕ) → new ≡ cond hit h (getD (t .elements) at blank .health)
-      → record { elements = set (t .elements) at (withHealth new (getD (t .elements) at blank)); count = t .count; limit = t .limit } ≡ storeHealth id h t
-  unfolding storeHealth
-  stored h new is-new =
-      ap (λ (es : List Element). record { elements = es; count = t .count; limit = t .limit })
-      (rw is-new (store hit) ∙ sym (spot .changed (withHealth h)))
+  pub stored : (h slot new : ℕ) → slot ≡ min at 127 → new ≡ cond hit h (getD (t .elements) slot blank .health)
+      → withElements (set (t .elements) slot (withHealth new (getD (t .elements) slot blank))) t ≡ storeHealth id h t
+  unfolding storeIn
+  stored h slot new is-slot is-new = ap (λ (es : List Element). withElements es t) (store hit refl ∙ sym (spot .changed (withHealth h)))
     where
-      store : (b : Bool)
-          → set (t .elements) at (withHealth (cond b h (getD (t .elements) at blank .health)) (getD (t .elements) at blank))
-          ≡ cond b (set (t .elements) at (withHealth h (getD (t .elements) at blank))) (t .elements)
-      store true = refl
-      store false = set-getD (t .elements) at blank
+      store : (b : Bool) → hit ≡ b
+          → set (t .elements) slot (withHealth new (getD (t .elements) slot blank)) ≡ cond b (set (t .elements) at (withHealth h (getD (t .elements) at blank))) (t .elements)
+      store true e = rw (is-new, e, on-hit slot is-slot e)
+      store false e = rw (is-new, e) (set-getD (t .elements) slot blank)

@@ -3,6 +3,7 @@ use Prim.Native.Nat.{ℕ, _+_, _^_}
 use mathlib.Core.Bool.{Bool, true, cond, _&&_, _||_}
 use mathlib.Core.List.{List, [], _∷_}
 use lib.Dec.{eqb, leb, ltb}
+use Rattle.paper.specs.Elements.{gradedHealth}
 use Rattle.paper.specs.Told.{Told, tells}
 use Rattle.words.specs.Lists.{all}
 use Rattle.table.specs.Elements.{live, isStorage, blockSum}
@@ -15,14 +16,14 @@ use Rattle.table.specs.declared.Table.{Table}
 abbrev pub sized : ℕ → ℕ → Bool
 sized count limit = leb 1 count && leb count 128 && leb limit 128
 
--- "identifiers 1 to FFFF_FFFFh, strictly ascending": each above the one before, the first above `low`
+-- "identifiers 1 to FFFF_FFFFh, strictly ascending": each above the one before, the first above `low`; a u32 has no higher ones
 abbrev pub ascending : ℕ → List Element → Bool
 ascending low [] = true
 ascending low (e ∷ es) = ltb low (e .id .0) && ascending (e .id .0) es
 
 -- "a health 00h to CFh"; "A type other than 01h has block count 0"
 abbrev pub sound : Element → Bool
-sound e = leb (e .health) 0xCF && (isStorage e || eqb (e .blocks) 0)
+sound e = gradedHealth (e .health) && (isStorage e || eqb (e .blocks) 0)
 
 -- "The blocks sum to between 2 and 2^48"
 abbrev pub summed : ℕ → Bool

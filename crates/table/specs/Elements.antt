@@ -1,9 +1,9 @@
 -- The elements of a table, and what is measured of them.
-use Prim.Native.Nat.{ℕ}
+use Prim.Native.Nat.{ℕ, _-_}
 use mathlib.Core.Bool.{Bool, false}
-use mathlib.Core.List.{List}
-use lib.Dec.{eqb}
-use lib.ListN.{take}
+use mathlib.Core.List.{List, _++_}
+use lib.ListN.{take, replicate}
+use Rattle.paper.specs.Elements.{storageType, removedHealth}
 use Rattle.words.specs.Lists.{sum, one}
 use Rattle.table.specs.declared.Element.{Element}
 use Rattle.table.specs.declared.Table.{Table}
@@ -16,13 +16,11 @@ live t = take (t .count) (t .elements)
 abbrev pub blank : Element
 blank = record { id = record { 0 = 0 }; kind = 0; health = 0; unreported = false; blocks = 0 }
 
--- "(01h is storage)"
 abbrev pub isStorage : Element → Bool
-isStorage e = eqb (e .kind) 0x01
+isStorage e = storageType (e .kind)
 
--- 000, table 19: "FFh depopulated"
 abbrev pub isRemoved : Element → Bool
-isRemoved e = eqb (e .health) 0xFF
+isRemoved e = removedHealth (e .health)
 
 abbrev pub withHealth : ℕ → Element → Element
 withHealth h e = record { id = e .id; kind = e .kind; health = h; unreported = e .unreported; blocks = e .blocks }
@@ -34,3 +32,10 @@ removedCount es = sum (λ (e : Element). one (isRemoved e)) es
 -- the blocks of all
 abbrev pub blockSum : List Element → ℕ
 blockSum es = sum (λ (e : Element). e .blocks) es
+
+abbrev pub withElements : List Element → Table → Table
+withElements es t = record { elements = es; count = t .count; limit = t .limit }
+
+-- the table with blanks in its unused slots
+abbrev pub tidied : Table → Table
+tidied t = withElements (live t ++ replicate (128 - t .count) blank) t

@@ -1,14 +1,16 @@
 // The element table by value: the check of an offered table, the search, the count at FFh, the store of one health.
 ghost use mathlib.Core.Path.{_≡_};
-ghost use Prim.Native.Nat.{_≤_, _^_, min};
+ghost use Prim.Native.Nat.{_-_, _≤_, _^_, min};
 ghost use mathlib.Core.Bool.{cond};
-ghost use lib.ListN.{take};
+ghost use lib.ListN.{take, replicate};
+ghost use mathlib.Core.List.{_++_};
 ghost use Rattle.table.specs.Check.{sized, sound, mayFollow, walkFrom, checkOf, verdict};
-ghost use Rattle.table.specs.Elements.{live, removedCount};
+ghost use Rattle.table.specs.Elements.{live, blank, removedCount, tidied};
 ghost use Rattle.table.specs.Search.{find, storeHealth, Spotted};
 use paper::ElementId;
 
-// 16 bytes, the flag before the blocks.
+// An element as document 01 has it; `kind` is its type, a word that the language keeps. The flag stands before the blocks, so that an
+// element takes 16 bytes.
 pub struct Element {
     pub id: ElementId,
     pub kind: u8,
@@ -34,7 +36,7 @@ pub enum Found {
     One(Element),
 }
 
-// Where the search hit; a miss has place 0.
+// Where the search stopped, and whether the identifier there is the one sought.
 struct Spot {
     at: usize,
     hit: bool,
@@ -142,13 +144,46 @@ fn seek(es: [Element; 128], count: usize, id: ElementId) -> Spot
         }
         i += 1;
     }
-    Spot { at: 0, hit: false }
+    Spot { at: i, hit: false }
+}
+
+// A place as an index of the array.
+fn slot(place: usize) -> usize
+    ensures { λ r. ⌜ r ≡ min place 127 ⌝ }
+{
+    if place < 127 { place } else { 127 }
 }
 
 fn chosen(hit: bool, health: u8, old: u8) -> u8
     ensures { λ r. ⌜ r ≡ cond hit health old ⌝ }
 {
     if hit { health } else { old }
+}
+
+fn blank_element() -> Element
+    ensures { λ r. ⌜ r ≡ blank ⌝ }
+{
+    Element {
+        id: ElementId(0),
+        kind: 0,
+        health: 0,
+        unreported: false,
+        blocks: 0,
+    }
+}
+
+// The array with blanks past the first `count`.
+fn cleared(es: [Element; 128], count: usize) -> [Element; 128]
+    ensures { λ r. ⌜ r ≡ take count es ++ replicate (128 - count) blank ⌝ }
+{
+    let e = blank_element();
+    let mut out = es;
+    let mut i = bounded(count);
+    while i < 128 {
+        out[i] = e;
+        i += 1;
+    }
+    out
 }
 
 impl Table {
@@ -170,7 +205,7 @@ impl Table {
     {
         let es = self.elements;
         let s = seek(es, self.count, id);
-        let at = s.at;
+        let at = slot(s.at);
         if s.hit {
             let e = es[at];
             return Found::One(e);
@@ -184,12 +219,23 @@ impl Table {
     {
         let es = self.elements;
         let s = seek(es, self.count, id);
-        let at = s.at;
+        let at = slot(s.at);
         let mut t = self;
         let mut e = t.elements[at];
         let h = chosen(s.hit, health, e.health);
         e.health = h;
         t.elements[at] = e;
+        t
+    }
+
+    // The table with blanks in its unused slots.
+    pub fn tidied(self) -> Table
+        ensures { λ r. ⌜ r ≡ tidied self ⌝ }
+    {
+        let es = self.elements;
+        let blanked = cleared(es, self.count);
+        let mut t = self;
+        t.elements = blanked;
         t
     }
 

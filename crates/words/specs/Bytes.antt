@@ -15,7 +15,7 @@ abbrev pub value : List ℕ → ℕ
 value [] = 0
 value (b ∷ bs) = value bs * 256 + b
 
--- bytes that stand the lowest first, in an order; and back
+-- bytes given the lowest first, put in an order; doing it again undoes it
 abbrev pub ordered : Order → List ℕ → List ℕ
 ordered Little bs = bs
 ordered Big bs = reverse bs

@@ -1,5 +1,6 @@
 -- `layout::Descriptor::read`: a number or a byte for each field.
 use borrow.Author.Needs.{needs}
+use Rattle.layout.proofs.Bytes.{descriptor-fields}
 use Rattle.layout.proofs.Descriptor.read.Statement.{statement}
 use Rattle.layout.proofs.Descriptor.read.Tie as tie
 
@@ -12,4 +13,4 @@ read-spec =
     (λ c κs. search needs)
     (λ c κs. search needs)
     (λ c κs. search needs)
-    (λ c. cc))
+    (λ c. search (descriptor-fields)))

@@ -1,5 +1,6 @@
 -- `layout::Header::read`: a number for each field.
 use borrow.Author.Needs.{needs}
+use Rattle.layout.proofs.Bytes.{header-fields}
 use Rattle.layout.proofs.Header.read.Statement.{statement}
 use Rattle.layout.proofs.Header.read.Tie as tie
 
@@ -12,4 +13,4 @@ read-spec =
     (λ c κs. search needs)
     (λ c κs. search needs)
     (λ c κs. search needs)
-    (λ c. cc))
+    (λ c. search (header-fields)))
