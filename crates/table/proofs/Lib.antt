@@ -5,3 +5,4 @@ pub mod Elements
 pub mod Examples
 pub mod Laws
 pub mod Search
+pub mod Stores

@@ -30,14 +30,18 @@ module _ (id : ℕ) (l : List Element) where
   unfolding find
   find-at h = rw (stops-at h)
 
-  change-past : (f : Element → Element) → length l ≤ place id l → change id f l ≡ l
+  pub change-past : (f : Element → Element) → length l ≤ place id l → change id f l ≡ l
   unfolding change
   change-past f h = rw (drop-of-length-le l h, take-all (place id l) l h, append-nil)
 
-  change-at : (f : Element → Element) → place id l < length l
+  pub change-at : (f : Element → Element) → place id l < length l
       → change id f l ≡ set l (place id l) (cond (eqb (getD l (place id l) blank .id .0) id) (f (getD l (place id l) blank)) (getD l (place id l) blank))
   unfolding change
   change-at f h = rw (stops-at h) (sym (set-split l (place id l) _ h))
+
+pub set-front : (es : List Element) (count i : ℕ) (x : Element) → i < length (take count es) → set (take count es) i x ++ drop count es ≡ set es i x
+set-front es count i x h =
+    sym (set-append-left (take count es) (drop count es) i x h) ∙ ap (λ (l : List Element). set l i x) (take-append-drop count es)
 
 -- ## The loop over the first n, n being the count or 128; `so` is its invariant
 
@@ -73,13 +77,8 @@ module _ (es : List Element) (count n i id : ℕ) (full : length es ≡ 128) (is
       element = rw stopped (getD-take count es i blank (omega arith))
 
       changed : (f : Element → Element) (b : Bool) → eqb (getD es i blank .id .0) id ≡ b → change id f (take count es) ++ drop count es ≡ cond b (set es i (f (getD es i blank))) es
-      changed f b is-b = rw (change-at id (take count es) f inside, element, stopped, is-b) (set-front _ ∙ store b)
+      changed f b is-b = rw (change-at id (take count es) f inside, element, stopped, is-b) (set-front es count i _ (rw taken-length less) ∙ store b)
         where
-          set-front : (x : Element) → set (take count es) i x ++ drop count es ≡ set es i x
-          set-front x =
-              sym (set-append-left (take count es) (drop count es) i x (rw taken-length less))
-              ∙ ap (λ (l : List Element). set l i x) (take-append-drop count es)
-
           store : (b : Bool) → set es i (cond b (f (getD es i blank)) (getD es i blank)) ≡ cond b (set es i (f (getD es i blank))) es
           store true = refl
           store false = set-getD es i blank

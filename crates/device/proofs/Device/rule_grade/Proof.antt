@@ -1,0 +1,21 @@
+-- `device::Device::rule_grade`: a law for each way out.
+use borrow.Author.Needs.{needs}
+use Rattle.device.proofs.Rules.{grade-unknown, grade-gone, grade-high, graded}
+use Rattle.device.proofs.Device.rule_grade.Statement.{statement}
+use Rattle.device.proofs.Device.rule_grade.Tie as tie
+
+pub rule-grade-spec : {M : Type 1} → statement M
+rule-grade-spec =
+    tie.close
+    (tie.spec
+    (λ c κs. search needs)
+    (λ c. search needs)
+    (λ c. search needs)
+    (λ c κs. search needs)
+    (λ c. search (grade-unknown))
+    (λ c κs. search needs)
+    (λ c. search (grade-gone))
+    (λ c κs. search needs)
+    (λ c. search (grade-high))
+    (λ c κs. search needs)
+    (λ c. search (graded)))

@@ -1,0 +1,21 @@
+-- `device::Device::rule_remove`: a law for each way out.
+use borrow.Author.Needs.{needs}
+use Rattle.device.proofs.Rules.{remove-locked, remove-busy, remove-judged}
+use Rattle.device.proofs.Device.rule_remove.Statement.{statement}
+use Rattle.device.proofs.Device.rule_remove.Tie as tie
+
+pub rule-remove-spec : {M : Type 1} → statement M
+rule-remove-spec =
+    tie.close
+    (tie.spec
+    (λ c κs. search needs)
+    (λ c κs. search needs)
+    (λ c. search (remove-locked))
+    (λ c κs. search needs)
+    (λ c κs. search needs)
+    (λ c. search (remove-busy))
+    (λ c κs. search needs)
+    (λ c κs. search needs)
+    (λ c κs. search needs)
+    (λ c κs. search needs)
+    (λ c. search (remove-judged)))

@@ -1,0 +1,9 @@
+-- What is proved of the machine, and of the device's functions.
+pub mod Cells
+pub mod EveryCall
+pub mod Examples
+pub mod Making
+pub mod OneCell
+pub mod PowerCut
+pub mod Rules
+pub mod Shapes

@@ -1,0 +1,92 @@
+-- Document 01, "REMOVE ELEMENT AND TRUNCATE (7Ch)": the checks in order. Differences are written as sums, so that none is cut off at 0.
+use Prim.Native.Nat.{ℕ, _+_, _-_, _*_}
+use mathlib.Core.Bool.{Bool, true, false, cond, not, _&&_}
+use lib.Dec.{leb, ltb, eqb}
+use Rattle.paper.specs.Registers.{low48}
+use Rattle.paper.specs.declared.ElementId.{ElementId}
+use Rattle.paper.specs.declared.Lba.{Lba}
+use Rattle.paper.specs.declared.Security.the-variants.{Locked, Unlocked, Frozen}
+use Rattle.paper.specs.declared.Security.{Security}
+use Rattle.table.specs.Elements.{live, isStorage, isRemoved, removedCount}
+use Rattle.table.specs.Search.{find}
+use Rattle.table.specs.declared.Found.the-variants.{Missing, One}
+use Rattle.table.specs.declared.Found.{Found}
+use Rattle.table.specs.declared.Table.{Table}
+use Rattle.device.specs.Cells.{underWay}
+use Rattle.device.specs.Rulings.{Ruled, says, stores, goes}
+use Rattle.device.specs.declared.Command.the-variants.{Remove, Status}
+use Rattle.device.specs.declared.Command.{Command}
+use Rattle.device.specs.declared.Device.{Device}
+use Rattle.device.specs.declared.Mark.the-variants.{Clear}
+use Rattle.device.specs.declared.Plan.{Plan}
+use Rattle.device.specs.declared.Position.the-variants.{Work1}
+use Rattle.device.specs.declared.Store.the-variants.{FailedTo, Noted}
+
+-- 000, table 12: "under locked, unlocked, frozen this command is aborted, runs, runs; GET PHYSICAL ELEMENT STATUS runs in all three"
+abbrev pub aborts : Command → Security → Bool
+aborts Remove Locked = true
+aborts Remove Unlocked = false
+aborts Remove Frozen = false
+aborts Status Locked = false
+aborts Status Unlocked = false
+aborts Status Frozen = false
+
+-- the table's rows and columns
+abbrev pub rowOf : Command → ℕ
+rowOf Remove = 0
+rowOf Status = 1
+
+abbrev pub columnOf : Security → ℕ
+columnOf Locked = 0
+columnOf Unlocked = 1
+columnOf Frozen = 2
+
+-- "Identifier = FEATURE x 65,536 + COUNT"
+abbrev pub identifierOf : ℕ → ℕ → ElementId
+identifierOf feature count = record { 0 = feature * 65536 + count }
+
+-- 5: "limit not 0 and as many elements already FFh"
+abbrev pub limitMet : Table → Bool
+limitMet t = not (eqb (t .limit) 0) && leb (t .limit) (removedCount (live t))
+
+-- 6: "native max minus the element's blocks is below 1"
+abbrev pub tooSmall : ℕ → ℕ → Bool
+tooSmall native blocks = ltb native (blocks + 1)
+
+-- 7: "LBA, if not 0, above that difference"
+abbrev pub tooHigh : ℕ → ℕ → ℕ → Bool
+tooHigh native blocks lba = not (eqb lba 0) && ltb native (lba + blocks)
+
+-- "The new maximum is the LBA, or that difference if the LBA is 0."
+abbrev pub orDifference : ℕ → Lba → Lba
+orDifference difference lba = cond (eqb (lba .0) 0) (record { 0 = difference }) lba
+
+abbrev pub planOf : Device → ElementId → Lba → ℕ → Plan
+planOf d id lba blocks = record { element = id; old = d .native; new = orDifference (d .native .0 - blocks) lba }
+
+-- checks 5 to 7 of an element that is not removed; "Acceptance makes one store: the note."
+unfoldable pub judgeRoom : Device → ElementId → Lba → ℕ → Ruled
+judgeRoom d id lba blocks =
+    cond (limitMet (d .table)) (says 4 d)
+    (cond (tooSmall (d .native .0) blocks) (says 4 d)
+    (cond (tooHigh (d .native .0) blocks (lba .0)) (says 4 d)
+    (goes (Noted (planOf d id lba blocks)) Work1)))
+
+-- 3: "identifier not in the table, or type not 01h: 4"
+-- 4: "health FFh: 0; no element or address changes, but a failed mark is cleared"
+unfoldable pub judgeFound : Device → ElementId → Lba → Found → Ruled
+judgeFound d id lba Missing = says 4 d
+judgeFound d id lba (One e) =
+    cond (isStorage e)
+    (cond (isRemoved e) (stores (FailedTo Clear) d) (judgeRoom d id lba (e .blocks)))
+    (says 4 d)
+
+-- 1: "security state locked: 1"; 2: "removal under way: 2"
+abbrev pub judge : Device → Security → ElementId → Lba → Ruled
+judge d security id lba =
+    cond (aborts Remove security) (says 1 d)
+    (cond (underWay d) (says 2 d)
+    (judgeFound d id lba (find (id .0) (live (d .table)))))
+
+abbrev pub ruleRemove : Device → Security → ℕ → ℕ → Lba → Ruled
+ruleRemove d security feature count lba = judge d security (identifierOf feature count) (low48 lba)
