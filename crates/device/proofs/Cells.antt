@@ -1,6 +1,7 @@
 -- Each cell after a store, and the device built of them. An arm that takes the other stores is told which they are, by their places in
 -- the enum; the cell's own store is then refuted (`miss`), and the others compute.
 use Prim.Native.Nat.{ℕ}
+use mathlib.Core.Bool.{true, false}
 use mathlib.Core.List.{List, [], _∷_}
 use mathlib.Core.Path.{_≡_, refl, sym, ap, _∙_}
 use denote.Enum.Declared
@@ -8,9 +9,10 @@ use Rattle.paper.specs.Told.{said}
 use Rattle.paper.specs.declared.Lba.{Lba}
 use Rattle.table.specs.declared.Table.{Table}
 use types.Run.{OneOf, miss}
-use Rattle.device.specs.Cells.{make}
+use Rattle.device.specs.Cells.{make, isSet}
 use Rattle.device.specs.Rulings.{ruled, tell}
 use Rattle.device.specs.declared.Device.{Device}
+use Rattle.device.specs.declared.Mark.the-variants.{Clear, Set}
 use Rattle.device.specs.declared.Mark.{Mark}
 use Rattle.device.specs.declared.Note.{Note}
 use Rattle.device.specs.declared.Ruling.{Ruling}
@@ -89,3 +91,14 @@ pub carried : (d : Device) (r : Ruling) (t : Table) (n a : Lba) (f : Mark) (m : 
     → said (r .answer) (record { table = t; native = n; accessible = a; failed = f; note = m; position = r .next }) ≡ tell d (ruled r)
 carried d r t n a f m is-t is-n is-a is-f is-m =
     λ i. said (r .answer) (record { table = is-t i; native = is-n i; accessible = is-a i; failed = is-f i; note = is-m i; position = r .next })
+
+-- ## The failed mark
+
+module _ (m : Mark) where
+  pub mark-clear : m ≡ Clear → false ≡ isSet m
+  unfolding isSet
+  mark-clear e = sym (rw e)
+
+  pub mark-set : m ≡ Set → true ≡ isSet m
+  unfolding isSet
+  mark-set e = sym (rw e)

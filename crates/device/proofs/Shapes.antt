@@ -58,7 +58,7 @@ module _ (d : Device) where
   unfolding judgeFound
   shape-found id lba Missing = quiet 4
   shape-found id lba (One e) =
-      choose d (isStorage e) (λ _. choose d (isRemoved e) (λ _. kept (FailedTo _) refl) (λ _. shape-room id lba (e .blocks))) (λ _. quiet 4)
+      choose d (not (isStorage e)) (λ _. quiet 4) (λ _. choose d (isRemoved e) (λ _. kept (FailedTo _) refl) (λ _. shape-room id lba (e .blocks)))
 
   shape-remove : (s : Security) (feature count : ℕ) (lba : Lba) → Shape d (ruleRemove d s feature count lba)
   shape-remove s feature count lba =

@@ -1,12 +1,14 @@
 -- Document 01, "The other commands" and the checks of "GET PHYSICAL ELEMENT STATUS (12h)": the numbers; no store is made.
-use Prim.Native.Nat.{ℕ, _+_, _*_, _%_}
+use Prim.Native.Nat.{ℕ, _+_, _*_, _%_, _^_}
 use mathlib.Core.Bool.{Bool, cond, not, _&&_, _||_}
+use mathlib.Core.List.{[], _∷_}
 use lib.Dec.{ltb, eqb}
 use Rattle.layout.specs.Requests.{refused, pagesOf}
 use Rattle.layout.specs.declared.Request.{Request}
 use Rattle.paper.specs.Registers.{low48}
 use Rattle.paper.specs.declared.Lba.{Lba}
 use Rattle.paper.specs.declared.Security.{Security}
+use Rattle.words.specs.Lists.{oneOf}
 use Rattle.device.specs.Cells.{underWay, isSet}
 use Rattle.device.specs.Remove.{aborts}
 use Rattle.device.specs.declared.Command.the-variants.{Status}
@@ -21,12 +23,17 @@ statusNumber security q room = cond (aborts Status security) 1 (cond (refused q)
 
 -- "24h, 25h, 34h, 35h, 42h (EXT reads, writes, verify: media access)"
 abbrev pub isMedia : ℕ → Bool
-isMedia code = eqb code 0x24 || eqb code 0x25 || eqb code 0x34 || eqb code 0x35 || eqb code 0x42
+isMedia code = oneOf code (0x24 ∷ 0x25 ∷ 0x34 ∷ 0x35 ∷ 0x42 ∷ [])
 
 -- "ECh; E1h; 2Fh and 47h (log address LBA 7:0); 0Bh; F2h; EFh and B0h (subcommand FEATURE 7:0)"
 abbrev pub isNamed : ℕ → Bool
-isNamed code =
-    isMedia code || eqb code 0xEC || eqb code 0xE1 || eqb code 0x2F || eqb code 0x47 || eqb code 0x0B || eqb code 0xF2 || eqb code 0xEF || eqb code 0xB0
+isNamed code = isMedia code || oneOf code (0xEC ∷ 0xE1 ∷ 0x2F ∷ 0x47 ∷ 0x0B ∷ 0xF2 ∷ 0xEF ∷ 0xB0 ∷ [])
+
+abbrev pub logOf : ℕ → ℕ
+logOf lba = lba % 2 ^ 8
+
+abbrev pub subcommandOf : ℕ → ℕ
+subcommandOf feature = feature % 2 ^ 8
 
 -- "Open during a removal (002): ECh; E1h in any form; 2Fh and 47h for logs 04h, 10h, 30h, E0h; 0Bh; F2h; EFh with 07h; B0h with D5h for
 -- logs 30h, E0h (LBA 7:0), or with DAh"
@@ -34,11 +41,11 @@ unfoldable pub isOpen : ℕ → ℕ → ℕ → Bool
 isOpen code feature lba =
     eqb code 0xEC
     || eqb code 0xE1
-    || (eqb code 0x2F || eqb code 0x47) && (eqb (lba % 256) 0x04 || eqb (lba % 256) 0x10 || eqb (lba % 256) 0x30 || eqb (lba % 256) 0xE0)
+    || (oneOf code (0x2F ∷ 0x47 ∷ []) && oneOf (logOf lba) (0x04 ∷ 0x10 ∷ 0x30 ∷ 0xE0 ∷ []))
     || eqb code 0x0B
     || eqb code 0xF2
-    || eqb code 0xEF && eqb (feature % 256) 0x07
-    || eqb code 0xB0 && (eqb (feature % 256) 0xD5 && (eqb (lba % 256) 0x30 || eqb (lba % 256) 0xE0) || eqb (feature % 256) 0xDA)
+    || (eqb code 0xEF && eqb (subcommandOf feature) 0x07)
+    || (eqb code 0xB0 && ((eqb (subcommandOf feature) 0xD5 && oneOf (logOf lba) (0x30 ∷ 0xE0 ∷ [])) || eqb (subcommandOf feature) 0xDA))
 
 -- "COUNT 0 means 65,536 sectors"
 abbrev pub sectorsOf : ℕ → ℕ
@@ -48,10 +55,13 @@ sectorsOf count = cond (eqb count 0) 65536 count
 abbrev pub isBeyond : ℕ → Lba → ℕ → Bool
 isBeyond accessible lba count = ltb (accessible + 1) (low48 lba .0 + sectorsOf count)
 
--- "Order: not open during a removal: 2; unknown: 6; media access with the failed mark: 3; last sector above the accessible max: 5; else 0"
+-- "media access with the failed mark: 3; last sector above the accessible max: 5; else 0"
+unfoldable pub mediaNumber : Device → ℕ → Lba → ℕ
+mediaNumber d count lba = cond (isSet (d .failed)) 3 (cond (isBeyond (d .accessible .0) lba count) 5 0)
+
+-- "Order: not open during a removal: 2; unknown: 6; media access ..; else 0"
 unfoldable pub otherNumber : Device → ℕ → ℕ → ℕ → Lba → ℕ
 otherNumber d code feature count lba =
     cond (underWay d && not (isOpen code feature (lba .0))) 2
     (cond (not (isNamed code)) 6
-    (cond (isMedia code && isSet (d .failed)) 3
-    (cond (isMedia code && isBeyond (d .accessible .0) lba count) 5 0)))
+    (cond (isMedia code) (mediaNumber d count lba) 0))

@@ -77,9 +77,9 @@ judgeRoom d id lba blocks =
 unfoldable pub judgeFound : Device → ElementId → Lba → Found → Ruled
 judgeFound d id lba Missing = says 4 d
 judgeFound d id lba (One e) =
-    cond (isStorage e)
-    (cond (isRemoved e) (stores (FailedTo Clear) d) (judgeRoom d id lba (e .blocks)))
-    (says 4 d)
+    cond (not (isStorage e)) (says 4 d)
+    (cond (isRemoved e) (stores (FailedTo Clear) d)
+    (judgeRoom d id lba (e .blocks)))
 
 -- 1: "security state locked: 1"; 2: "removal under way: 2"
 abbrev pub judge : Device → Security → ElementId → Lba → Ruled

@@ -3,7 +3,7 @@
 ghost use mathlib.Core.Path.{_≡_};
 ghost use Rattle.paper.specs.Answers.{numberOf};
 ghost use Rattle.paper.specs.Told.{said};
-ghost use Rattle.device.specs.Cells.{make, underWay};
+ghost use Rattle.device.specs.Cells.{make, underWay, isSet};
 ghost use Rattle.device.specs.Machine as machine;
 ghost use Rattle.device.specs.Machine.{told};
 ghost use Rattle.device.specs.Making.{madeOf};
@@ -186,6 +186,7 @@ fn goes(store: Store, next: Position) -> Ruling
 }
 
 impl Device {
+    // Whether a removal is under way.
     pub fn is_under_way(self) -> bool
         ensures { λ r. ⌜ r ≡ underWay self ⌝ }
     {
@@ -193,6 +194,17 @@ impl Device {
         match note {
             Note::Empty => false,
             Note::Full(_) => true,
+        }
+    }
+
+    // Whether the failed mark is set.
+    pub fn is_failed(self) -> bool
+        ensures { λ r. ⌜ r ≡ isSet (self .failed) ⌝ }
+    {
+        let mark = self.failed;
+        match mark {
+            Mark::Clear => false,
+            Mark::Set => true,
         }
     }
 

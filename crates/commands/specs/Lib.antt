@@ -1,0 +1,3 @@
+-- The table of what is open during a removal, and what holds of the front call.
+pub mod Open
+pub mod Promises

@@ -1,0 +1,12 @@
+-- "The state comes with each command; no other command on this page looks at it."
+use Prim.Native.Nat.{ℕ}
+use mathlib.Core.Path.{_≡_}
+use Rattle.device.specs.Machine.{command, told}
+use Rattle.device.specs.declared.Device.{Device}
+use Rattle.paper.specs.declared.Lba.{Lba}
+use Rattle.paper.specs.declared.Security.{Security}
+
+abbrev pub Security-unseen : Type 0
+Security-unseen =
+    (d : Device) (s t : Security) (code feature count : ℕ) (lba : Lba) (room : ℕ)
+    → (code ≡ 0x7C → ⊥) → told d (command s code feature count lba room) ≡ told d (command t code feature count lba room)
