@@ -11,7 +11,7 @@ use lib.Seq.{drop-cons}
 use borrow.Author.Tests.{eq-eqb, ne-eqb}
 use Rattle.device.specs.Commands.{isOpen}
 use Rattle.words.specs.Lists.{oneOf}
-use Rattle.commands.specs.Open.{leaves, rowFits, anyFits}
+use Rattle.commands.specs.Open.{hasRest, rowFits, anyFits}
 use Rattle.commands.specs.declared.Row.{Row}
 
 abbrev row : ℕ → ℕ → ℕ → ℕ → ℕ → Row
@@ -58,21 +58,21 @@ module _ (code feature lba i : ℕ) (so : anyFits (drop i rows) code feature lba
 -- ## A row
 
 module _ (modulus rest x : ℕ) where
-  pub leaves-none : modulus ≡ 0 → false ≡ leaves modulus rest x
+  pub leaves-none : modulus ≡ 0 → false ≡ hasRest modulus rest x
   leaves-none e = sym (rw (eq-eqb _ _ e))
 
-  pub leaves-rest : (modulus ≡ 0 → ⊥) → eqb (x % modulus) rest ≡ leaves modulus rest x
+  pub leaves-rest : (modulus ≡ 0 → ⊥) → eqb (x % modulus) rest ≡ hasRest modulus rest x
   leaves-rest n = sym (rw (ne-eqb _ _ n))
 
 module _ (r : Row) (code feature lba : ℕ) where
   pub fits-code : (code ≡ r .0 → ⊥) → false ≡ rowFits r code feature lba
   fits-code n = sym (rw (ne-eqb _ _ n))
 
-  module _ (same : code ≡ r .0) (b : Bool) (is-b : b ≡ leaves (r .1) (r .2) feature) where
+  module _ (same : code ≡ r .0) (b : Bool) (is-b : b ≡ hasRest (r .1) (r .2) feature) where
     pub fits-feature : b ≡ false → false ≡ rowFits r code feature lba
     fits-feature n = sym (rw (eq-eqb _ _ same, sym is-b ∙ n))
 
-    pub fits-lba : b ≡ true → (c : Bool) → c ≡ leaves (r .3) (r .4) lba → c ≡ rowFits r code feature lba
+    pub fits-lba : b ≡ true → (c : Bool) → c ≡ hasRest (r .3) (r .4) lba → c ≡ rowFits r code feature lba
     fits-lba y c is-c = is-c ∙ sym (rw (eq-eqb _ _ same, sym is-b ∙ y))
 
 -- ## One of some codes

@@ -6,11 +6,11 @@ use lib.Dec.{eqb}
 use Rattle.commands.specs.declared.Row.{Row}
 
 -- no number leaves anything when divided by 0
-abbrev pub leaves : ℕ → ℕ → ℕ → Bool
-leaves modulus rest x = cond (eqb modulus 0) false (eqb (x % modulus) rest)
+abbrev pub hasRest : ℕ → ℕ → ℕ → Bool
+hasRest modulus rest x = cond (eqb modulus 0) false (eqb (x % modulus) rest)
 
 abbrev pub rowFits : Row → ℕ → ℕ → ℕ → Bool
-rowFits r code feature lba = eqb code (r .0) && (leaves (r .1) (r .2) feature && leaves (r .3) (r .4) lba)
+rowFits r code feature lba = eqb code (r .0) && (hasRest (r .1) (r .2) feature && hasRest (r .3) (r .4) lba)
 
 abbrev pub anyFits : List Row → ℕ → ℕ → ℕ → Bool
 anyFits [] code feature lba = false

@@ -1,4 +1,4 @@
--- "The state comes with each command; no other command on this page looks at it."
+-- "The state comes with each command; no other command on this page looks at it"
 use Prim.Native.Nat.{ℕ}
 use mathlib.Core.Path.{_≡_}
 use Rattle.device.specs.Machine.{command, told}

@@ -9,7 +9,7 @@ ghost use Rattle.device.specs.Cells.{underWay};
 ghost use Rattle.device.specs.Commands.{statusNumber, otherNumber, isMedia, isNamed, isOpen, sectorsOf, isBeyond, mediaNumber};
 ghost use Rattle.device.specs.Machine as machine;
 ghost use Rattle.device.specs.Machine.{told};
-ghost use Rattle.commands.specs.Open.{leaves, rowFits};
+ghost use Rattle.commands.specs.Open.{hasRest, rowFits};
 use device::Command;
 use device::Device;
 use device::Stepped;
@@ -43,8 +43,8 @@ const OPEN: [Row; 16] = [
 ];
 
 // Whether a register leaves this rest.
-fn does_leave(modulus: u32, rest: u32, x: u64) -> bool
-    ensures { λ r. ⌜ r ≡ leaves modulus rest x ⌝ }
+fn has_rest(modulus: u32, rest: u32, x: u64) -> bool
+    ensures { λ r. ⌜ r ≡ hasRest modulus rest x ⌝ }
 {
     if modulus == 0 {
         return false;
@@ -58,10 +58,10 @@ fn does_fit(row: Row, code: u8, feature: u16, lba: u64) -> bool
     if code != row.0 {
         return false;
     }
-    if !does_leave(row.1, row.2, feature as u64) {
+    if !has_rest(row.1, row.2, feature as u64) {
         return false;
     }
-    does_leave(row.3, row.4, lba)
+    has_rest(row.3, row.4, lba)
 }
 
 // Whether a command is open during a removal.

@@ -5,13 +5,13 @@ use mathlib.Core.Path.{_≡_, refl, ap}
 use lib.ListN.{getD}
 use Rattle.paper.specs.declared.ElementId.{ElementId}
 use Rattle.table.proofs.Stores.{store-elsewhere, store-map, store-count}
-use Rattle.table.specs.Elements.{live, blank, withHealth}
+use Rattle.table.specs.Elements.{live, blank, bare, withHealth}
 use Rattle.table.specs.Search.{place, storeHealth}
 use Rattle.table.specs.declared.Element.{Element}
 use Rattle.table.specs.declared.Table.{Table}
 use Rattle.device.specs.Cells.{make, withTable, withNative, withAccessible, withFailed, withNote, withPosition}
 use Rattle.device.specs.Machine.{rule}
-use Rattle.device.specs.Promises.{Cell, nativeMax, accessibleMax, failedMark, note, health, addressOf, markOf, noteOf, healthOf, cellOf, One-cell, Writes-one-cell}
+use Rattle.device.specs.Promises.{Cell, nativeMax, accessibleMax, failedMark, note, health, addressOf, markOf, noteOf, healthOf, cellOf, One-cell, At-most-one-cell}
 use Rattle.device.specs.declared.Device.{Device}
 use Rattle.device.specs.declared.Note.the-variants.{Empty, Full}
 use Rattle.device.specs.declared.Position.{Position}
@@ -42,7 +42,7 @@ module _ (d : Device) (p : Position) where
         cell = cell;
         others = others-of cell d (withPosition p (withTable (storeHealth (id .0) h (d .table)) d)) (λ _. refl) (λ _. refl) (λ _. refl) (λ _. refl)
             (λ i n. store-elsewhere (id .0) (withHealth h) (d .table) i (λ e. n (ap health e)));
-        elements = store-map (id .0) (withHealth h) (d .table) (withHealth 0) (λ e. refl);
+        elements = store-map (id .0) (withHealth h) (d .table) bare (λ e. refl);
         count = store-count (id .0) (withHealth h) (d .table) .0;
         limit = store-count (id .0) (withHealth h) (d .table) .1;
       }
@@ -53,7 +53,7 @@ module _ (d : Device) (p : Position) where
     wrote-cell n a f m = record {
       cell = cell;
       others = others-of cell d x n a f m (λ i _. ap (λ (t : Table). getD (t .elements) i blank) same);
-      elements = ap (λ (t : Table). map (withHealth 0) (t .elements)) same;
+      elements = ap (λ (t : Table). map bare (t .elements)) same;
       count = ap (λ (t : Table). t .count) same;
       limit = ap (λ (t : Table). t .limit) same;
     }
@@ -68,5 +68,5 @@ module _ (d : Device) (p : Position) where
   wrote (Noted w) = wrote-cell note (withPosition p (withNote (Full w) d)) refl (λ _. refl) (λ _. refl) (λ _. refl) own
   wrote NoteEmptied = wrote-cell note (withPosition p (withNote Empty d)) refl (λ _. refl) (λ _. refl) (λ _. refl) own
 
-pub writes-one-cell : Writes-one-cell
-writes-one-cell d e = wrote d (rule d e .next) (rule d e .store)
+pub at-most-one-cell : At-most-one-cell
+at-most-one-cell d e = wrote d (rule d e .next) (rule d e .store)

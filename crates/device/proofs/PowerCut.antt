@@ -1,8 +1,9 @@
 -- Only the position is lost with power: tidy devices with equal cells differ in it alone, and a cut sets it.
+use Prim.Native.Nat.{ℕ}
 use mathlib.Core.Path.{_≡_, refl, sym, ap, _∙_}
 use lib.ListN.{take-append-drop}
 use Rattle.device.specs.Cells.{withPosition}
-use Rattle.device.specs.Promises.{Tidy, note, Same-cells, Cut-forgets}
+use Rattle.device.specs.Promises.{Tidy, Same-cells, Stop-keeps-cells, Reset-changes-nothing, Cut-forgets}
 use Rattle.device.specs.Rulings.{carriedOut}
 use Rattle.device.specs.Steps.{ruleStop}
 use Rattle.device.specs.declared.Device.{Device}
@@ -10,6 +11,19 @@ use Rattle.device.specs.declared.Note.the-variants.{Empty, Full}
 use Rattle.device.specs.declared.Note.{Note}
 use Rattle.device.specs.declared.Position.the-variants.{Wind1}
 use Rattle.device.specs.declared.Position.{Position}
+
+pub reset-changes-nothing : Reset-changes-nothing
+reset-changes-nothing d = (refl, refl, refl)
+
+pub stop-keeps-cells : Stop-keeps-cells
+stop-keeps-cells d = (kept 0 (d .note), kept 10 (d .note))
+  where
+    same : (p : Position) → Same-cells d (withPosition p d)
+    same p = record { elements = refl; count = refl; limit = refl; native = refl; accessible = refl; failed = refl; note = refl }
+
+    kept : (idle : ℕ) (n : Note) → Same-cells d (carriedOut d (ruleStop d idle n))
+    kept idle Empty = same (d .position)
+    kept idle (Full w) = same Wind1
 
 module _ (d x : Device) (tidy : Tidy d) (tidyX : Tidy x) (same : Same-cells d x) where
   same-elements : d .table .elements ≡ x .table .elements

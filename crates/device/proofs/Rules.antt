@@ -30,9 +30,9 @@ use Rattle.device.specs.declared.Device.{Device}
 use Rattle.device.specs.declared.Mark.the-variants.{Clear}
 use Rattle.device.specs.declared.Note.the-variants.{Empty, Full}
 use Rattle.device.specs.declared.Note.{Note}
-use Rattle.device.specs.declared.Plan.{Plan}
 use Rattle.device.specs.declared.Position.the-variants.{Work1}
 use Rattle.device.specs.declared.Position.{Position}
+use Rattle.device.specs.declared.Removal.{Removal}
 use Rattle.device.specs.declared.Store.the-variants.{Graded, FailedTo, Noted}
 use Rattle.device.specs.declared.Store.{Store}
 
@@ -134,21 +134,21 @@ module _ (d : Device) (s : Security) (feature count : ℕ) (lba : Lba) (g : Rule
 pub removed-found : (t : Table) (id : ElementId) (b : Bool) (f x : Found) → f ≡ find (id .0) (live t) → f ≡ x → b ≡ foundRemoved x → b ≡ removedIn t id
 removed-found t id b f x is-f e q = q ∙ ap foundRemoved (sym e ∙ is-f)
 
-module _ (d : Device) (w : Plan) (b : Bool) (is-b : b ≡ removedIn (d .table) (w .element)) where
+module _ (d : Device) (w : Removal) (b : Bool) (is-b : b ≡ removedIn (d .table) (w .element)) where
   pub wound-new : b ≡ true → w .new ≡ woundUp d w
   wound-new e = ap (λ (x : Bool). cond x (w .new) (w .old)) (sym e ∙ is-b)
 
   pub wound-old : b ≡ false → w .old ≡ woundUp d w
   wound-old e = ap (λ (x : Bool). cond x (w .new) (w .old)) (sym e ∙ is-b)
 
-pub at-position : (d : Device) (w : Plan) (s : Store) (p q : Position) → p ≡ q → s ≡ storeAt d w q → s ≡ storeAt d w p
+pub at-position : (d : Device) (w : Removal) (s : Store) (p q : Position) → p ≡ q → s ≡ storeAt d w q → s ≡ storeAt d w p
 at-position d w s p q e z = z ∙ ap (storeAt d w) (sym e)
 
 module _ (d : Device) (g : Ruled) where
   pub step-idle : d .note ≡ Empty → g ≡ says 10 d → g ≡ rule d step
   step-idle e z = z ∙ ap (ruleStep d) (sym e)
 
-  pub step-full : (w : Plan) (s : Store) (p : Position) → d .note ≡ Full w → s ≡ storeAt d w (d .position) → p ≡ nextOf (d .position) → g ≡ goes s p → g ≡ rule d step
+  pub step-full : (w : Removal) (s : Store) (p : Position) → d .note ≡ Full w → s ≡ storeAt d w (d .position) → p ≡ nextOf (d .position) → g ≡ goes s p → g ≡ rule d step
   step-full w s p e is-s is-p z = z ∙ (λ i. goes (is-s i) (is-p i)) ∙ ap (ruleStep d) (sym e)
 
 pub stop-at : (d : Device) (idle : ℕ) (g : Ruled) (n : Note) → d .note ≡ n → g ≡ ruleStop d idle n → g ≡ ruleStop d idle (d .note)

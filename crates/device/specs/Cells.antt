@@ -1,7 +1,9 @@
 -- Document 01, "Table and cells": "Cells that survive power loss, each written whole or not at all".
+use Prim.Native.Nat.{ℕ}
 use mathlib.Core.Bool.{Bool, true, false}
 use Rattle.paper.specs.declared.Lba.{Lba}
-use Rattle.table.specs.Search.{storeHealth}
+use Rattle.table.specs.Elements.{atFFh}
+use Rattle.table.specs.Search.{storeIn, storeHealth}
 use Rattle.table.specs.declared.Table.{Table}
 use Rattle.device.specs.declared.Device.{Device}
 use Rattle.device.specs.declared.Mark.the-variants.{Clear, Set}
@@ -20,10 +22,18 @@ isFull (Full w) = true
 abbrev pub underWay : Device → Bool
 underWay d = isFull (d .note)
 
+-- the number of a command that has to wait for a removal
+abbrev pub busyNumber : Device → ℕ
+busyNumber d = 2
+
 -- whether the failed mark is set
 unfoldable pub isSet : Mark → Bool
 isSet Clear = false
 isSet Set = true
+
+-- the number of a media access while it is set
+abbrev pub failedNumber : Mark → ℕ
+failedNumber m = 3
 
 -- ## One cell written
 
@@ -51,7 +61,7 @@ abbrev pub make : Store → Device → Device
 make Nothing d = d
 make (NativeTo v) d = withNative v d
 make (AccessibleTo v) d = withAccessible v d
-make (Marked id) d = withTable (storeHealth (id .0) 0xFF (d .table)) d
+make (Marked id) d = withTable (storeIn (id .0) atFFh (d .table)) d
 make (Graded id h) d = withTable (storeHealth (id .0) h (d .table)) d
 make (FailedTo m) d = withFailed m d
 make (Noted w) d = withNote (Full w) d

@@ -9,7 +9,7 @@ use Rattle.paper.specs.Registers.{low48}
 use Rattle.paper.specs.declared.Lba.{Lba}
 use Rattle.paper.specs.declared.Security.{Security}
 use Rattle.words.specs.Lists.{oneOf}
-use Rattle.device.specs.Cells.{underWay, isSet}
+use Rattle.device.specs.Cells.{underWay, isSet, busyNumber, failedNumber}
 use Rattle.device.specs.Remove.{aborts}
 use Rattle.device.specs.declared.Command.the-variants.{Status}
 use Rattle.device.specs.declared.Device.{Device}
@@ -57,11 +57,11 @@ isBeyond accessible lba count = ltb (accessible + 1) (low48 lba .0 + sectorsOf c
 
 -- "media access with the failed mark: 3; last sector above the accessible max: 5; else 0"
 unfoldable pub mediaNumber : Device → ℕ → Lba → ℕ
-mediaNumber d count lba = cond (isSet (d .failed)) 3 (cond (isBeyond (d .accessible .0) lba count) 5 0)
+mediaNumber d count lba = cond (isSet (d .failed)) (failedNumber (d .failed)) (cond (isBeyond (d .accessible .0) lba count) 5 0)
 
 -- "Order: not open during a removal: 2; unknown: 6; media access ..; else 0"
 unfoldable pub otherNumber : Device → ℕ → ℕ → ℕ → Lba → ℕ
 otherNumber d code feature count lba =
-    cond (underWay d && not (isOpen code feature (lba .0))) 2
+    cond (underWay d && not (isOpen code feature (lba .0))) (busyNumber d)
     (cond (not (isNamed code)) 6
     (cond (isMedia code) (mediaNumber d count lba) 0))

@@ -12,12 +12,12 @@ use Rattle.device.specs.declared.Note.the-variants.{Empty}
 use Rattle.device.specs.declared.Position.the-variants.{Work1}
 
 -- "the starting maximum address is the sum minus 1"
-abbrev pub startOf : Table → Lba
-startOf t = record { 0 = blockSum (live t) - 1 }
+abbrev pub startingMax : Table → Lba
+startingMax t = record { 0 = blockSum (live t) - 1 }
 
 -- a new device: both addresses at the start, no mark, no note, unused slots blank
 abbrev pub fresh : Table → Device
-fresh t = record { table = tidied t; native = startOf t; accessible = startOf t; failed = Clear; note = Empty; position = Work1 }
+fresh t = record { table = tidied t; native = startingMax t; accessible = startingMax t; failed = Clear; note = Empty; position = Work1 }
 
 unfoldable pub madeOf : Device → Table → Told Device
 madeOf d t = cond (good (t .count) (live t) (t .limit)) (tells 0 (fresh t)) (tells 8 d)

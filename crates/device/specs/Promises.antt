@@ -4,14 +4,14 @@ use mathlib.Core.Bool.{true}
 use mathlib.Core.List.{map}
 use mathlib.Core.Path.{_≡_}
 use lib.ListN.{length, drop, getD, replicate}
-use Rattle.paper.specs.Told.{Told, said}
+use Rattle.paper.specs.Told.{Told, tells, said}
 use Rattle.paper.specs.declared.Answer.{Answer}
 use Rattle.paper.specs.declared.Lba.{Lba}
-use Rattle.table.specs.Check.{ascending, good}
-use Rattle.table.specs.Elements.{live, blank, withHealth}
+use Rattle.table.specs.Check.{ascending}
+use Rattle.table.specs.Elements.{live, blank, bare}
 use Rattle.table.specs.declared.Table.{Table}
-use Rattle.device.specs.Machine.{Event, powerCut, told}
-use Rattle.device.specs.Making.{fresh, madeOf}
+use Rattle.device.specs.Machine.{Event, mediaError, powerCut, comreset, hardwareReset, softwareReset, told}
+use Rattle.device.specs.Making.{madeOf}
 use Rattle.device.specs.declared.Device.{Device}
 use Rattle.device.specs.declared.Mark.{Mark}
 use Rattle.device.specs.declared.Note.the-variants.{Empty}
@@ -49,11 +49,15 @@ Keeps-tidy = (d : Device) (e : Event) → Tidy d → Tidy (told d e .state)
 abbrev pub Keeps-order : Type 0
 Keeps-order = (d : Device) (e : Event) → ascending 0 (live (told d e .state .table)) ≡ ascending 0 (live (d .table))
 
--- a new device is tidy, and its identifiers ascend
+-- the making of a device too: a new one is tidy and its identifiers ascend, and a refusal leaves the one that was there
 abbrev pub Made-tidy : Type 0
-Made-tidy = (t : Table) → length (t .elements) ≡ 128 → good (t .count) (live t) (t .limit) ≡ true → Tidy (fresh t) × (ascending 0 (live (fresh t .table)) ≡ true)
+Made-tidy = (d : Device) (t : Table) → length (t .elements) ≡ 128 → Tidy d → Tidy (madeOf d t .state)
 
--- ## At most one cell differs after a call, and nothing that is no cell but the position
+abbrev pub Made-in-order : Type 0
+Made-in-order =
+    (d : Device) (t : Table) → length (t .elements) ≡ 128 → ascending 0 (live (d .table)) ≡ true → ascending 0 (live (madeOf d t .state .table)) ≡ true
+
+-- ## At most one cell differs after a call, and nothing that is no cell but the position (the making of a device writes them all)
 
 -- an element's health is a cell of its place
 pub data Cell : Type 0 where
@@ -76,12 +80,12 @@ cellOf d (health i) = healthOf (getD (d .table .elements) i blank .health)
 pub record One-cell (d x : Device) : Type 0 where
   pub cell : Cell
   pub others : (c : Cell) → (c ≡ cell → ⊥) → cellOf x c ≡ cellOf d c
-  pub elements : map (withHealth 0) (x .table .elements) ≡ map (withHealth 0) (d .table .elements)
+  pub elements : map bare (x .table .elements) ≡ map bare (d .table .elements)
   pub count : x .table .count ≡ d .table .count
   pub limit : x .table .limit ≡ d .table .limit
 
-abbrev pub Writes-one-cell : Type 0
-Writes-one-cell = (d : Device) (e : Event) → One-cell d (told d e .state)
+abbrev pub At-most-one-cell : Type 0
+At-most-one-cell = (d : Device) (e : Event) → One-cell d (told d e .state)
 
 -- ## "Only the position in the step list is lost with power."
 
@@ -94,5 +98,13 @@ pub record Same-cells (d x : Device) : Type 0 where
   pub failed : d .failed ≡ x .failed
   pub note : d .note ≡ x .note
 
+-- an error or a cut "makes no store", and a reset changes nothing
+abbrev pub Stop-keeps-cells : Type 0
+Stop-keeps-cells = (d : Device) → Same-cells d (told d powerCut .state) × Same-cells d (told d mediaError .state)
+
+abbrev pub Reset-changes-nothing : Type 0
+Reset-changes-nothing = (d : Device) → (told d comreset ≡ tells 0 d) × (told d hardwareReset ≡ tells 0 d) × (told d softwareReset ≡ tells 0 d)
+
+-- so what is left after a cut depends on the cells alone
 abbrev pub Cut-forgets : Type 0
 Cut-forgets = (d x : Device) → Tidy d → Tidy x → Same-cells d x → told d powerCut .state ≡ told x powerCut .state

@@ -12,17 +12,17 @@ use Rattle.table.specs.Search.{find}
 use Rattle.table.specs.declared.Found.the-variants.{Missing, One}
 use Rattle.table.specs.declared.Found.{Found}
 use Rattle.table.specs.declared.Table.{Table}
-use Rattle.device.specs.Cells.{underWay}
+use Rattle.device.specs.Cells.{underWay, busyNumber}
 use Rattle.device.specs.Rulings.{Ruled, says, stores, goes}
 use Rattle.device.specs.declared.Command.the-variants.{Remove, Status}
 use Rattle.device.specs.declared.Command.{Command}
 use Rattle.device.specs.declared.Device.{Device}
 use Rattle.device.specs.declared.Mark.the-variants.{Clear}
-use Rattle.device.specs.declared.Plan.{Plan}
 use Rattle.device.specs.declared.Position.the-variants.{Work1}
+use Rattle.device.specs.declared.Removal.{Removal}
 use Rattle.device.specs.declared.Store.the-variants.{FailedTo, Noted}
 
--- 000, table 12: "under locked, unlocked, frozen this command is aborted, runs, runs; GET PHYSICAL ELEMENT STATUS runs in all three"
+-- check 1, after 000, table 12: "under locked, unlocked, frozen this command is aborted, runs, runs; GET PHYSICAL ELEMENT STATUS runs in all three"
 abbrev pub aborts : Command → Security → Bool
 aborts Remove Locked = true
 aborts Remove Unlocked = false
@@ -61,8 +61,8 @@ tooHigh native blocks lba = not (eqb lba 0) && ltb native (lba + blocks)
 abbrev pub orDifference : ℕ → Lba → Lba
 orDifference difference lba = cond (eqb (lba .0) 0) (record { 0 = difference }) lba
 
-abbrev pub planOf : Device → ElementId → Lba → ℕ → Plan
-planOf d id lba blocks = record { element = id; old = d .native; new = orDifference (d .native .0 - blocks) lba }
+abbrev pub removalOf : Device → ElementId → Lba → ℕ → Removal
+removalOf d id lba blocks = record { element = id; old = d .native; new = orDifference (d .native .0 - blocks) lba }
 
 -- checks 5 to 7 of an element that is not removed; "Acceptance makes one store: the note."
 unfoldable pub judgeRoom : Device → ElementId → Lba → ℕ → Ruled
@@ -70,7 +70,7 @@ judgeRoom d id lba blocks =
     cond (limitMet (d .table)) (says 4 d)
     (cond (tooSmall (d .native .0) blocks) (says 4 d)
     (cond (tooHigh (d .native .0) blocks (lba .0)) (says 4 d)
-    (goes (Noted (planOf d id lba blocks)) Work1)))
+    (goes (Noted (removalOf d id lba blocks)) Work1)))
 
 -- 3: "identifier not in the table, or type not 01h: 4"
 -- 4: "health FFh: 0; no element or address changes, but a failed mark is cleared"
@@ -85,7 +85,7 @@ judgeFound d id lba (One e) =
 abbrev pub judge : Device → Security → ElementId → Lba → Ruled
 judge d security id lba =
     cond (aborts Remove security) (says 1 d)
-    (cond (underWay d) (says 2 d)
+    (cond (underWay d) (says (busyNumber d) d)
     (judgeFound d id lba (find (id .0) (live (d .table)))))
 
 abbrev pub ruleRemove : Device → Security → ℕ → ℕ → Lba → Ruled

@@ -14,9 +14,9 @@ use Rattle.device.specs.declared.Device.{Device}
 use Rattle.device.specs.declared.Mark.the-variants.{Clear, Set}
 use Rattle.device.specs.declared.Note.the-variants.{Empty, Full}
 use Rattle.device.specs.declared.Note.{Note}
-use Rattle.device.specs.declared.Plan.{Plan}
 use Rattle.device.specs.declared.Position.the-variants.{Work1, Work2, Work3, Work4, Work5, Wind1, Wind2, Wind3, Wind4}
 use Rattle.device.specs.declared.Position.{Position}
+use Rattle.device.specs.declared.Removal.{Removal}
 use Rattle.device.specs.declared.Store.the-variants.{Nothing, NativeTo, AccessibleTo, Marked, Graded, FailedTo, NoteEmptied}
 use Rattle.device.specs.declared.Store.{Store}
 
@@ -29,12 +29,12 @@ abbrev pub removedIn : Table → ElementId → Bool
 removedIn t id = foundRemoved (find (id .0) (live t))
 
 -- "both to the new value if the noted element is FFh, else the old"
-abbrev pub woundUp : Device → Plan → Lba
+abbrev pub woundUp : Device → Removal → Lba
 woundUp d w = cond (removedIn (d .table) (w .element)) (w .new) (w .old)
 
 -- "(1) native max := new; (2) accessible max := new; (3) health := FFh, the marking store; (4) failed mark cleared; (5) note emptied"
 -- "(1) native, (2) accessible ..; (3) failed mark set; (4) note emptied"
-abbrev pub storeAt : Device → Plan → Position → Store
+abbrev pub storeAt : Device → Removal → Position → Store
 storeAt d w Work1 = NativeTo (w .new)
 storeAt d w Work2 = AccessibleTo (w .new)
 storeAt d w Work3 = Marked (w .element)

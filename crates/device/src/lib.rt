@@ -1,5 +1,5 @@
 // The device by value. Each call rules on an answer, one store and the next position; carrying the ruling out builds the device anew,
-// once, and nothing else changes a device.
+// once, and nothing else changes one. `make_device` makes a new one.
 ghost use mathlib.Core.Path.{_≡_};
 ghost use Rattle.paper.specs.Answers.{numberOf};
 ghost use Rattle.paper.specs.Told.{said};
@@ -20,8 +20,8 @@ use table::Element;
 use table::Found;
 use table::Table;
 
-// What the note of a removal holds.
-pub struct Plan {
+// What a note holds of the removal under way.
+pub struct Removal {
     pub element: ElementId,
     pub old: Lba,
     pub new: Lba,
@@ -29,7 +29,7 @@ pub struct Plan {
 
 pub enum Note {
     Empty,
-    Full(Plan),
+    Full(Removal),
 }
 
 // The failed mark.
@@ -68,7 +68,7 @@ pub enum Store {
     Marked(ElementId),
     Graded(ElementId, u8),
     FailedTo(Mark),
-    Noted(Plan),
+    Noted(Removal),
     NoteEmptied,
 }
 
@@ -262,7 +262,7 @@ impl Device {
         }
     }
 
-    // The ruling's store made and its position taken: the one place where a device is built.
+    // The ruling's store made and its position taken: the one place where a device is changed.
     fn carry_out(self, r: Ruling) -> Stepped
         ensures { λ s. ⌜ said (s .answer) (s .device) ≡ tell self (ruled r) ⌝ }
     {
@@ -329,7 +329,7 @@ impl Device {
         }
         let new = new_max(difference, lba);
         goes(
-            Store::Noted(Plan {
+            Store::Noted(Removal {
                 element: id,
                 old,
                 new,
@@ -373,7 +373,7 @@ impl Device {
     }
 
     // Where winding up takes the addresses.
-    fn wound_up(self, w: Plan) -> Lba
+    fn wound_up(self, w: Removal) -> Lba
         ensures { λ r. ⌜ r ≡ steps.woundUp self w ⌝ }
     {
         let t = self.table;
@@ -384,7 +384,7 @@ impl Device {
     }
 
     // The store of a step.
-    fn store_at(self, w: Plan, at: Position) -> Store
+    fn store_at(self, w: Removal, at: Position) -> Store
         ensures { λ r. ⌜ r ≡ steps.storeAt self w at ⌝ }
     {
         let id = w.element;

@@ -1,14 +1,13 @@
 -- Document 01's rules for a table, tried at their edges: device A, and tables that are refused or only just good.
 use Prim.Native.Nat.{ℕ, _-_, _^_}
-use mathlib.Core.Bool.{Bool, true, false, _&&_}
+use mathlib.Core.Bool.{Bool, true, _&&_}
 use mathlib.Core.List.{List, [], _∷_}
 use mathlib.Core.Path.{_≡_, refl}
 use lib.Dec.{eqb}
-use lib.ListN.{replicate}
 use Rattle.paper.specs.Told.{Told}
 use Rattle.words.specs.Lists.{all, sum}
 use Rattle.table.specs.Check.{good, checkOf}
-use Rattle.table.specs.Elements.{blank}
+use Rattle.table.specs.Examples.{element, elementsA}
 use Rattle.table.specs.declared.Element.{Element}
 
 -- a table, the number that it is told, and its blocks
@@ -22,25 +21,19 @@ record Row : Type 0 where
 abbrev row : ℕ → List Element → ℕ → ℕ → ℕ → Row
 row c es l n b = record { count = c; elements = es; limit = l; number = n; blocks = b }
 
-abbrev element : ℕ → ℕ → ℕ → ℕ → Element
-element id kind health blocks = record { id = record { 0 = id }; kind = kind; health = health; unreported = false; blocks = blocks }
-
-abbrev deviceA : List Element
-deviceA = element 1 1 0x20 1000 ∷ element 3 1 0x10 1500 ∷ element 0x0001_0003 1 0x70 500 ∷ element 0x0002_0000 2 0 0 ∷ replicate 124 blank
-
 abbrev rows : List Row
 rows =
-    row 4 deviceA 2 0 3000
+    row 4 elementsA 2 0 3000
     -- the limit 0 to 128
-    ∷ row 4 deviceA 0 0 3000
-    ∷ row 4 deviceA 128 0 3000
-    ∷ row 4 deviceA 129 8 0
+    ∷ row 4 elementsA 0 0 3000
+    ∷ row 4 elementsA 128 0 3000
+    ∷ row 4 elementsA 129 8 0
     -- the count 1 to 128, tested itself
-    ∷ row 1 deviceA 2 0 1000
-    ∷ row 0 deviceA 2 8 0
-    ∷ row 129 deviceA 2 8 0
+    ∷ row 1 elementsA 2 0 1000
+    ∷ row 0 elementsA 2 8 0
+    ∷ row 129 elementsA 2 8 0
     -- a blank slot has identifier 0
-    ∷ row 5 deviceA 2 8 0
+    ∷ row 5 elementsA 2 8 0
     -- identifiers equal, or descending
     ∷ row 2 (element 3 1 0 5 ∷ element 3 1 0 5 ∷ []) 0 8 0
     ∷ row 2 (element 4 1 0 5 ∷ element 3 1 0 5 ∷ []) 0 8 0

@@ -71,7 +71,7 @@ find-sound id (x ∷ xs) e q = go (ltb (x .id .0) id) (eqb (x .id .0) id) refl (
         (List·Memᴰ·head (sym same), subst (λ (y : Element). y .id .0 ≡ id) same (eqb-true (x .id .0) id is-c))
     go false false is-c r later = missing-one r
 
-ascending-both : (low : ℕ) (e : Element) (es : List Element) → ascending low (e ∷ es) ≡ true → (low < e .id .0) × (ascending (e .id .0) es ≡ true)
+pub ascending-both : (low : ℕ) (e : Element) (es : List Element) → ascending low (e ∷ es) ≡ true → (low < e .id .0) × (ascending (e .id .0) es ≡ true)
 ascending-both low e es q = let two = both (ltb low (e .id .0)) (ascending (e .id .0) es) q in (ltb-true low (e .id .0) (two .0), two .1)
 
 pub ascending-above : (low : ℕ) (l : List Element) (e : Element) → ascending low l ≡ true → List·Memᴰ e l → low < e .id .0

@@ -25,6 +25,14 @@ isRemoved e = removedHealth (e .health)
 abbrev pub withHealth : ℕ → Element → Element
 withHealth h e = record { id = e .id; kind = e .kind; health = h; unreported = e .unreported; blocks = e .blocks }
 
+-- an element after its marking store
+abbrev pub atFFh : Element → Element
+atFFh e = withHealth 0xFF e
+
+-- what of an element is no cell
+abbrev pub bare : Element → Element
+bare e = withHealth 0 e
+
 -- how many are at FFh
 abbrev pub removedCount : List Element → ℕ
 removedCount es = sum (λ (e : Element). one (isRemoved e)) es

@@ -1,0 +1,107 @@
+-- The ledger: what demand 3 speaks of, read off the events, answers and stores of a history, and never off a device but the first.
+use Prim.Native.Nat.{ℕ, zero, suc}
+use mathlib.Core.Bool.{Bool, false, cond, _||_}
+use lib.Dec.{eqb}
+use Rattle.device.specs.Cells.{isSet}
+use Rattle.device.specs.Machine.{Event, command, step, mediaError, powerCut, comreset, hardwareReset, softwareReset, grade}
+use Rattle.device.specs.Steps.{foundRemoved, woundUp}
+use Rattle.device.specs.declared.Device.{Device}
+use Rattle.device.specs.declared.Note.the-variants.{Empty, Full}
+use Rattle.device.specs.declared.Note.{Note}
+use Rattle.device.specs.declared.Store.the-variants.{Nothing, NativeTo, AccessibleTo, Marked, Graded, FailedTo, Noted, NoteEmptied}
+use Rattle.device.specs.declared.Store.{Store}
+use Rattle.table.specs.Elements.{live, withHealth}
+use Rattle.table.specs.Search.{find}
+use Rattle.table.specs.declared.Element.{Element}
+use Rattle.history.specs.Runs.{History, empty, _▹_}
+
+-- ## "those whose marking store was made"
+
+abbrev pub marks : Store → ℕ → Bool
+marks Nothing id = false
+marks (NativeTo v) id = false
+marks (AccessibleTo v) id = false
+marks (Marked i) id = eqb (i .0) id
+marks (Graded i h) id = false
+marks (FailedTo m) id = false
+marks (Noted w) id = false
+marks NoteEmptied id = false
+
+-- an element at FFh at the start counts as marked
+abbrev pub marked : Device → History → ℕ → Bool
+marked start empty id = foundRemoved (find id (live (start .table)))
+marked start (past ▹ x) id = marks (x .store) id || marked start past id
+
+-- ## "the one accepted with the latest such store, or the first if there was none"
+
+abbrev pub acceptedBy : Store → ℕ → ℕ
+acceptedBy Nothing before = before
+acceptedBy (NativeTo v) before = before
+acceptedBy (AccessibleTo v) before = before
+acceptedBy (Marked i) before = before
+acceptedBy (Graded i h) before = before
+acceptedBy (FailedTo m) before = before
+acceptedBy (Noted w) before = w .new .0
+acceptedBy NoteEmptied before = before
+
+-- the new maximum of the latest acceptance
+abbrev pub accepted : History → ℕ
+accepted empty = 0
+accepted (past ▹ x) = acceptedBy (x .store) (accepted past)
+
+abbrev pub addressBy : Store → ℕ → ℕ → ℕ
+addressBy Nothing new before = before
+addressBy (NativeTo v) new before = before
+addressBy (AccessibleTo v) new before = before
+addressBy (Marked i) new before = new
+addressBy (Graded i h) new before = before
+addressBy (FailedTo m) new before = before
+addressBy (Noted w) new before = before
+addressBy NoteEmptied new before = before
+
+-- where the start is, or comes to rest by winding up
+abbrev pub resting : Device → Note → ℕ
+resting d Empty = d .native .0
+resting d (Full w) = woundUp d w .0
+
+abbrev pub address : Device → History → ℕ
+address start empty = resting start (start .note)
+address start (past ▹ x) = addressBy (x .store) (accepted past) (address start past)
+
+-- ## "the last accepted grades"
+
+abbrev pub gradedBy : Event → ℕ → ℕ → ℕ → ℕ
+gradedBy (command s code feature count lba room) answer id before = before
+gradedBy step answer id before = before
+gradedBy mediaError answer id before = before
+gradedBy powerCut answer id before = before
+gradedBy comreset answer id before = before
+gradedBy hardwareReset answer id before = before
+gradedBy softwareReset answer id before = before
+gradedBy (grade i h) zero id before = cond (eqb (i .0) id) h before
+gradedBy (grade i h) (suc refused) id before = before
+
+-- the last accepted grade of an element, or its health as built
+abbrev pub gradeIn : History → ℕ → ℕ → ℕ
+gradeIn empty id built = built
+gradeIn (past ▹ x) id built = gradedBy (x .event) (x .answer) id (gradeIn past id built)
+
+-- an element as the history has it: FFh if marked, else the last accepted grade; all else as built
+abbrev pub recorded : Device → History → Element → Element
+recorded start h e = withHealth (cond (marked start h (e .id .0)) 0xFF (gradeIn h (e .id .0) (e .health))) e
+
+-- ## The failed mark: set exactly if winding-up step 3, which alone sets it, came after the last clearing store
+
+abbrev pub failedBy : Store → Bool → Bool
+failedBy Nothing before = before
+failedBy (NativeTo v) before = before
+failedBy (AccessibleTo v) before = before
+failedBy (Marked i) before = before
+failedBy (Graded i h) before = before
+failedBy (FailedTo m) before = isSet m
+failedBy (Noted w) before = before
+failedBy NoteEmptied before = before
+
+abbrev pub failedIn : Device → History → Bool
+failedIn start empty = isSet (start .failed)
+failedIn start (past ▹ x) = failedBy (x .store) (failedIn start past)

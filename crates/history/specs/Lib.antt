@@ -1,0 +1,5 @@
+-- Demand 3: what every run of a device keeps, and how a removal gets on.
+pub mod Demand3
+pub mod Ledger
+pub mod Progress
+pub mod Runs

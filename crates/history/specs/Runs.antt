@@ -1,0 +1,53 @@
+-- Runs: the events that a device meets, the device after them, and what came of each.
+use Prim.Native.Nat.{ℕ}
+use mathlib.Core.Path.{_≡_}
+use Rattle.device.specs.Machine.{Event, rule, told}
+use Rattle.device.specs.declared.Device.{Device}
+use Rattle.device.specs.declared.Store.{Store}
+use Rattle.paper.specs.Told.{said}
+use Rattle.paper.specs.declared.Answer.{Answer}
+
+infixl 20 _▸_
+infixl 20 _▹_
+infixl 20 _▸▸_
+-- "any sequence of commands, work steps, grades, media errors, resets and power cuts", the latest last
+pub data Script : Type 0 where
+  begin : Script
+  _▸_ : Script → Event → Script
+
+-- one script after another
+abbrev pub _▸▸_ : Script → Script → Script
+s ▸▸ begin = s
+s ▸▸ (t ▸ e) = (s ▸▸ t) ▸ e
+
+abbrev pub after : Device → Script → Device
+after d begin = d
+after d (s ▸ e) = told (after d s) e .state
+
+-- what came of an event: the number that it was answered, and the one store that it made
+pub record Entry : Type 0 where
+  pub event : Event
+  pub answer : ℕ
+  pub store : Store
+
+pub data History : Type 0 where
+  empty : History
+  _▹_ : History → Entry → History
+
+abbrev pub entry : Device → Event → Entry
+entry d e = record { event = e; answer = told d e .number; store = rule d e .store }
+
+abbrev pub history : Device → Script → History
+history d begin = empty
+history d (s ▸ e) = history d s ▹ entry (after d s) e
+
+-- ## Runs of the code
+
+-- a chain of calls that keep their promises, each on the device that the one before it left
+pub data Ran (d : Device) : Script → Device → Type 0 where
+  start : Ran d begin d
+  call : {s : Script} {x : Device} → Ran d s x → (e : Event) (a : Answer) (y : Device) → said a y ≡ told x e → Ran d (s ▸ e) y
+
+-- such a chain leaves the device that the definitions speak of
+abbrev pub Runs-are-scripts : Type 0
+Runs-are-scripts = (d : Device) (s : Script) (x : Device) → Ran d s x → x ≡ after d s
