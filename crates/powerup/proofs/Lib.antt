@@ -1,0 +1,2 @@
+-- What is proved of powering up.
+pub mod Rests

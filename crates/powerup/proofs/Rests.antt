@@ -1,0 +1,35 @@
+-- Powering up comes to rest: with a removal under way by the four steps, and without one since a cut and a step then change nothing.
+use mathlib.Core.Path.{_≡_, refl, ap, _∙_}
+use Rattle.device.specs.Machine.{step, powerCut, told}
+use Rattle.device.specs.Rulings.{carriedOut}
+use Rattle.device.specs.Steps.{ruleStep, ruleStop}
+use Rattle.device.specs.declared.Device.{Device}
+use Rattle.device.specs.declared.Note.the-variants.{Empty, Full}
+use Rattle.device.specs.declared.Note.{Note}
+use Rattle.history.proofs.Demand3.{demand-3}
+use Rattle.history.proofs.Progress.{four-steps}
+use Rattle.history.specs.Demand3.{Promise}
+use Rattle.history.specs.Runs.{begin, _▸_, _▸▸_, after, history}
+use Rattle.powerup.specs.Promises.{powerUp, Powered-up-rests}
+
+-- at rest a cut and a step leave the note empty
+cut-rests : (d : Device) → d .note ≡ Empty → told d powerCut .state .note ≡ Empty
+cut-rests d e = ap (λ (n : Note). carriedOut d (ruleStop d 0 n) .note) e ∙ e
+
+step-rests : (d : Device) → d .note ≡ Empty → told d step .state .note ≡ Empty
+step-rests d e = ap (λ (n : Note). carriedOut d (ruleStep d n) .note) e ∙ e
+
+pub powered-up-rests : Powered-up-rests
+powered-up-rests start can s = go (after start s .note) refl
+  where
+    d : Device
+    d = after start s
+
+    idle : d .note ≡ Empty → after start (s ▸▸ powerUp) .note ≡ Empty
+    idle e =
+        step-rests (after start (s ▸ powerCut ▸ step ▸ step ▸ step)) (step-rests (after start (s ▸ powerCut ▸ step ▸ step))
+        (step-rests (after start (s ▸ powerCut ▸ step)) (step-rests (after start (s ▸ powerCut)) (cut-rests d e))))
+
+    go : (n : Note) → after start s .note ≡ n → (after start (s ▸▸ powerUp) .note ≡ Empty) × Promise start (history start (s ▸▸ powerUp)) (after start (s ▸▸ powerUp))
+    go Empty e = (idle e, demand-3 start can (s ▸▸ powerUp) .at-rest (idle e))
+    go (Full w) e = four-steps start can s w e powerCut refl (begin ▸ step ▸ step ▸ step) refl refl

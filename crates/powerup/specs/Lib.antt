@@ -1,0 +1,2 @@
+-- The run that powering up is, and what it leaves.
+pub mod Promises

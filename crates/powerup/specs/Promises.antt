@@ -1,0 +1,16 @@
+-- "After a cut during a removal, four undisturbed steps bring that about": of the code that powers a device up.
+use mathlib.Core.Path.{_≡_}
+use Rattle.device.specs.Machine.{step, powerCut}
+use Rattle.device.specs.declared.Device.{Device}
+use Rattle.device.specs.declared.Note.the-variants.{Empty}
+use Rattle.history.specs.Demand3.{Startable, Promise}
+use Rattle.history.specs.Runs.{Script, begin, _▸_, _▸▸_, after, history}
+
+abbrev pub powerUp : Script
+powerUp = begin ▸ powerCut ▸ step ▸ step ▸ step ▸ step
+
+-- after any run, powering up leaves no removal under way, and the promise of demand 3 holds
+abbrev pub Powered-up-rests : Type 0
+Powered-up-rests =
+    (start : Device) → Startable start → (s : Script)
+    → (after start (s ▸▸ powerUp) .note ≡ Empty) × Promise start (history start (s ▸▸ powerUp)) (after start (s ▸▸ powerUp))
