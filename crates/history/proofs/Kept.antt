@@ -22,9 +22,9 @@ use Rattle.table.specs.Elements.{live, withHealth, atFFh, isRemoved}
 use Rattle.table.specs.Search.{find, change, storeIn}
 use Rattle.table.specs.declared.Element.{Element}
 use Rattle.table.specs.declared.Found.the-variants.{One}
-use Rattle.history.specs.Demand3.{Present}
-use Rattle.history.specs.Ledger.{marks, marked, acceptedBy, accepted, addressBy, address, gradedBy, gradeIn}
+use Rattle.history.specs.Ledger.{markedBy, marked, acceptedBy, accepted, addressBy, address, gradedBy, gradeIn}
 use Rattle.history.specs.Runs.{History, _▹_, entry}
+use Rattle.history.specs.Starts.{Present}
 use Rattle.history.proofs.Tables.{map-members, recordedBy, put, change-map, unmarked, removed-marked}
 
 -- what is known at each position: m says whether the noted element is marked, N is the maximum accepted last, n and c are the native and
@@ -82,11 +82,11 @@ module _ (start : Device) (asc : ascending 0 (live (start .table)) ≡ true) (h 
   -- the invariant after a ruling, the grades being G′ then
   abbrev After : (ℕ → ℕ → ℕ) → Ruled → Type 0
   After G′ r =
-      Kept b (λ id. marks (r .store) id || M id) G′ (acceptedBy (r .store) (accepted h)) (addressBy (r .store) (accepted h) (address start h))
+      Kept b (λ id. markedBy (r .store) id (M id)) G′ (acceptedBy (r .store) (accepted h)) (addressBy (r .store) (accepted h) (address start h))
       (live (carriedOut d r .table)) (carriedOut d r .native .0) (carriedOut d r .accessible .0) (r .next) (carriedOut d r .note)
 
   is-marked : (id : ℕ) → foundRemoved (find id (live (d .table))) ≡ M id
-  is-marked id = ap (λ (t : List Element). foundRemoved (find id t)) (inv .same) ∙ removed-marked M G 0 b asc (inv .low) id (inv .only id)
+  is-marked id = ap (λ (t : List Element). foundRemoved (find id t)) (inv .same) ∙ removed-marked M G b asc (inv .low) id (inv .only id)
 
   standing : (id : ℕ) (e : Element) → find id (live (d .table)) ≡ One e → isRemoved e ≡ false → (M id ≡ false) × Present b id
   standing id e p q = unmarked M G b id e (subst (λ (t : List Element). find id t ≡ One e) (inv .same) p) q

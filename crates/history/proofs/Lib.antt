@@ -1,6 +1,9 @@
 -- Demand 3, proved.
 pub mod Demand3
+pub mod Events
 pub mod Kept
 pub mod Progress
+pub mod Promise
 pub mod Runs
+pub mod Starts
 pub mod Tables

@@ -1,36 +1,41 @@
 -- The ledger: what demand 3 speaks of, read off the events, answers and stores of a history, and never off a device but the first.
 use Prim.Native.Nat.{ℕ, zero, suc}
-use mathlib.Core.Bool.{Bool, false, cond, _||_}
+use mathlib.Core.Bool.{Bool, false, cond, _||_, _&&_}
+use mathlib.Core.List.{List, [], _∷_}
 use lib.Dec.{eqb}
 use Rattle.device.specs.Cells.{isSet}
 use Rattle.device.specs.Machine.{Event, command, step, mediaError, powerCut, comreset, hardwareReset, softwareReset, grade}
-use Rattle.device.specs.Steps.{foundRemoved, woundUp}
+use Rattle.device.specs.Steps.{woundUp}
 use Rattle.device.specs.declared.Device.{Device}
 use Rattle.device.specs.declared.Note.the-variants.{Empty, Full}
 use Rattle.device.specs.declared.Note.{Note}
 use Rattle.device.specs.declared.Store.the-variants.{Nothing, NativeTo, AccessibleTo, Marked, Graded, FailedTo, Noted, NoteEmptied}
 use Rattle.device.specs.declared.Store.{Store}
-use Rattle.table.specs.Elements.{live, withHealth}
-use Rattle.table.specs.Search.{find}
+use Rattle.table.specs.Elements.{live, isRemoved, withHealth}
 use Rattle.table.specs.declared.Element.{Element}
 use Rattle.history.specs.Runs.{History, empty, _▹_}
 
 -- ## "those whose marking store was made"
 
-abbrev pub marks : Store → ℕ → Bool
-marks Nothing id = false
-marks (NativeTo v) id = false
-marks (AccessibleTo v) id = false
-marks (Marked i) id = eqb (i .0) id
-marks (Graded i h) id = false
-marks (FailedTo m) id = false
-marks (Noted w) id = false
-marks NoteEmptied id = false
+abbrev pub markedBy : Store → ℕ → Bool → Bool
+markedBy Nothing id before = before
+markedBy (NativeTo v) id before = before
+markedBy (AccessibleTo v) id before = before
+markedBy (Marked i) id before = eqb (i .0) id || before
+markedBy (Graded i h) id before = before
+markedBy (FailedTo m) id before = before
+markedBy (Noted w) id before = before
+markedBy NoteEmptied id before = before
 
--- an element at FFh at the start counts as marked
+-- whether an element of this identifier is at FFh
+abbrev pub removedAmong : List Element → ℕ → Bool
+removedAmong [] id = false
+removedAmong (e ∷ es) id = (eqb (e .id .0) id && isRemoved e) || removedAmong es id
+
+-- an element at FFh at the start counts as marked; a new device has none
 abbrev pub marked : Device → History → ℕ → Bool
-marked start empty id = foundRemoved (find id (live (start .table)))
-marked start (past ▹ x) id = marks (x .store) id || marked start past id
+marked start empty id = removedAmong (live (start .table)) id
+marked start (past ▹ x) id = markedBy (x .store) id (marked start past id)
 
 -- ## "the one accepted with the latest such store, or the first if there was none"
 
@@ -59,13 +64,13 @@ addressBy (FailedTo m) new before = before
 addressBy (Noted w) new before = before
 addressBy NoteEmptied new before = before
 
--- where the start is, or comes to rest by winding up
-abbrev pub resting : Device → Note → ℕ
-resting d Empty = d .native .0
-resting d (Full w) = woundUp d w .0
+-- the first: where the start is, or is wound up to
+abbrev pub firstAddress : Device → Note → ℕ
+firstAddress d Empty = d .native .0
+firstAddress d (Full w) = woundUp d w .0
 
 abbrev pub address : Device → History → ℕ
-address start empty = resting start (start .note)
+address start empty = firstAddress start (start .note)
 address start (past ▹ x) = addressBy (x .store) (accepted past) (address start past)
 
 -- ## "the last accepted grades"
@@ -90,7 +95,7 @@ gradeIn (past ▹ x) id built = gradedBy (x .event) (x .answer) id (gradeIn past
 abbrev pub recorded : Device → History → Element → Element
 recorded start h e = withHealth (cond (marked start h (e .id .0)) 0xFF (gradeIn h (e .id .0) (e .health))) e
 
--- ## The failed mark: set exactly if winding-up step 3, which alone sets it, came after the last clearing store
+-- ## The failed mark: set exactly if winding-up step 3, which alone sets it (Progress, `Setting-store`), came after the last clearing store
 
 abbrev pub failedBy : Store → Bool → Bool
 failedBy Nothing before = before

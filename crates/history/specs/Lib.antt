@@ -2,4 +2,6 @@
 pub mod Demand3
 pub mod Ledger
 pub mod Progress
+pub mod Promise
 pub mod Runs
+pub mod Starts

@@ -1,17 +1,22 @@
--- Demand 3: "Undisturbed, a removal makes its marking store at the third step and ends at the fifth. After a cut during a removal, four
--- undisturbed steps bring that about."
+-- How a removal gets on.
 use Prim.Native.Nat.{ℕ, zero, suc, _≤_}
 use mathlib.Core.Bool.{Bool, true, false, _&&_}
 use mathlib.Core.Path.{_≡_}
 use Rattle.device.specs.Machine.{Event, command, step, mediaError, powerCut, comreset, hardwareReset, softwareReset, grade, rule, told}
+use Rattle.device.specs.Remove.{identifierOf}
+use Rattle.device.specs.Steps.{removedIn, woundUp}
 use Rattle.device.specs.declared.Device.{Device}
-use Rattle.device.specs.declared.Mark.the-variants.{Clear}
+use Rattle.device.specs.declared.Mark.the-variants.{Clear, Set}
 use Rattle.device.specs.declared.Note.the-variants.{Empty, Full}
+use Rattle.device.specs.declared.Position.the-variants.{Work3, Wind1, Wind3}
+use Rattle.device.specs.declared.Position.{Position}
 use Rattle.device.specs.declared.Removal.{Removal}
 use Rattle.device.specs.declared.Store.the-variants.{NativeTo, AccessibleTo, Marked, FailedTo, Noted, NoteEmptied}
 use Rattle.device.specs.declared.Store.{Store}
-use Rattle.history.specs.Demand3.{Startable, Promise}
-use Rattle.history.specs.Runs.{Script, begin, _▸_, _▸▸_, after, history}
+use Rattle.paper.specs.declared.ElementId.{ElementId}
+use Rattle.paper.specs.declared.Lba.{Lba}
+use Rattle.paper.specs.declared.Security.{Security}
+use Rattle.history.specs.Runs.{Script, begin, _▸_, _▸▸_, after}
 
 -- ## "Undisturbed": no media error and no power cut; commands, grades and resets may come between the steps
 
@@ -44,9 +49,37 @@ abbrev pub steps : Script → ℕ
 steps begin = 0
 steps (s ▸ e) = stepBy e (steps s)
 
--- ## Five steps
+-- ## Acceptance
 
--- the stores of document 01's list, counted from 0: the marking store is the third
+-- 7Ch answered 0 for an element that is not at FFh has made the note of it
+abbrev pub Acceptance : Type 0
+Acceptance =
+    (d : Device) (security : Security) (feature count : ℕ) (lba : Lba) (room : ℕ)
+    → told d (command security 0x7C feature count lba room) .number ≡ 0 → removedIn (d .table) (identifierOf feature count) ≡ false
+    → (w : Removal) × (rule d (command security 0x7C feature count lba room) .store ≡ Noted w) × (w .element ≡ identifierOf feature count) × (w .old ≡ d .native)
+
+-- ## Which events make the marking store, and the store that sets the failed mark
+
+-- the next step is the one at this position, of this removal
+pub record At (p : Position) (w : Removal) (d : Device) : Type 0 where
+  pub note : d .note ≡ Full w
+  pub position : d .position ≡ p
+
+abbrev pub Marking-store : Type 0
+Marking-store = (d : Device) (e : Event) (id : ElementId) → rule d e .store ≡ Marked id → (e ≡ step) × ((w : Removal) × At Work3 w d × (w .element ≡ id))
+
+abbrev pub Setting-store : Type 0
+Setting-store = (d : Device) (e : Event) → rule d e .store ≡ FailedTo Set → (e ≡ step) × ((w : Removal) × At Wind3 w d)
+
+-- ## Undisturbed steps
+
+-- k steps are done: the removal is under way, and the next step answers 0 and makes the store of its turn
+pub record On-its-way (stores : ℕ → Store) (w : Removal) (k : ℕ) (d : Device) : Type 0 where
+  pub note : d .note ≡ Full w
+  pub answer : told d step .number ≡ 0
+  pub store : rule d step .store ≡ stores k
+
+-- document 01's list, counted from 0: the marking store is the third
 abbrev pub workStore : Removal → ℕ → Store
 workStore w zero = NativeTo (w .new)
 workStore w (suc zero) = AccessibleTo (w .new)
@@ -54,18 +87,12 @@ workStore w (suc (suc zero)) = Marked (w .element)
 workStore w (suc (suc (suc zero))) = FailedTo Clear
 workStore w (suc (suc (suc (suc n)))) = NoteEmptied
 
--- before the next step, after as many as the script has: the removal is under way, and the step answers 0 and makes the store of its turn
-pub record On-its-way (w : Removal) (k : ℕ) (d : Device) : Type 0 where
-  pub note : d .note ≡ Full w
-  pub answer : told d step .number ≡ 0
-  pub store : rule d step .store ≡ workStore w k
-
--- an event that makes the note is the acceptance of a removal
+-- after an event that made the note
 abbrev pub Five-steps : Type 0
 Five-steps =
     (d : Device) (e : Event) (w : Removal) → rule d e .store ≡ Noted w
     → (s : Script) → calm s ≡ true → steps s ≤ 4
-    → On-its-way w (steps s) (after d (begin ▸ e ▸▸ s))
+    → On-its-way (workStore w) w (steps s) (after d (begin ▸ e ▸▸ s))
 
 abbrev pub Fifth-ends : Type 0
 Fifth-ends =
@@ -73,9 +100,9 @@ Fifth-ends =
     → (s : Script) → calm s ≡ true → steps s ≡ 4
     → after d (begin ▸ e ▸▸ (s ▸ step)) .note ≡ Empty
 
--- ## Four steps
+-- ## Winding up
 
--- a cut, or a media error
+-- "A media error or a power cut while the note is full .. sets the position to the first winding-up step"
 abbrev pub stops : Event → Bool
 stops (command s code feature count lba room) = false
 stops step = false
@@ -86,17 +113,24 @@ stops hardwareReset = false
 stops softwareReset = false
 stops (grade i h) = false
 
--- after a stop during a removal each of the next four undisturbed steps answers 0
-abbrev pub Four-steps-answer : Type 0
-Four-steps-answer =
-    (d : Device) (w : Removal) → d .note ≡ Full w → (e : Event) → stops e ≡ true
-    → (s : Script) → calm s ≡ true → steps s ≤ 3
-    → told (after d (begin ▸ e ▸▸ s)) step .number ≡ 0
+abbrev pub Stop-winds : Type 0
+Stop-winds = (d : Device) (w : Removal) → d .note ≡ Full w → (e : Event) → stops e ≡ true → (told d e .number ≡ 0) × At Wind1 w (told d e .state)
 
--- the fourth empties the note, and the promise holds
+-- the list of winding up, to where it leads
+abbrev pub windStore : Lba → ℕ → Store
+windStore v zero = NativeTo v
+windStore v (suc zero) = AccessibleTo v
+windStore v (suc (suc zero)) = FailedTo Set
+windStore v (suc (suc (suc n))) = NoteEmptied
+
 abbrev pub Four-steps : Type 0
 Four-steps =
-    (start : Device) → Startable start → (s : Script) (w : Removal) → after start s .note ≡ Full w → (e : Event) → stops e ≡ true
-    → (t : Script) → calm t ≡ true → steps t ≡ 3
-    → (after start (s ▸ e ▸▸ (t ▸ step)) .note ≡ Empty)
-    × Promise start (history start (s ▸ e ▸▸ (t ▸ step))) (after start (s ▸ e ▸▸ (t ▸ step)))
+    (d : Device) (w : Removal) → At Wind1 w d
+    → (s : Script) → calm s ≡ true → steps s ≤ 3
+    → On-its-way (windStore (woundUp (after d s) w)) w (steps s) (after d s)
+
+abbrev pub Fourth-ends : Type 0
+Fourth-ends =
+    (d : Device) (w : Removal) → At Wind1 w d
+    → (s : Script) → calm s ≡ true → steps s ≡ 3
+    → after d (s ▸ step) .note ≡ Empty

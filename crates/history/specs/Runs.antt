@@ -1,16 +1,19 @@
 -- Runs: the events that a device meets, the device after them, and what came of each.
 use Prim.Native.Nat.{ℕ}
+use mathlib.Core.List.{List, [], _∷_}
 use mathlib.Core.Path.{_≡_}
 use Rattle.device.specs.Machine.{Event, rule, told}
 use Rattle.device.specs.declared.Device.{Device}
 use Rattle.device.specs.declared.Store.{Store}
+use Rattle.paper.specs.Answers.{numberOf}
 use Rattle.paper.specs.Told.{said}
 use Rattle.paper.specs.declared.Answer.{Answer}
 
 infixl 20 _▸_
 infixl 20 _▹_
 infixl 20 _▸▸_
--- "any sequence of commands, work steps, grades, media errors, resets and power cuts", the latest last
+-- "any sequence of commands, work steps, grades, media errors, resets and power cuts", the latest last. An event makes at most one store
+-- (device/specs/Promises, `At-most-one-cell`), so "a cut after any single store included" is a cut after any event.
 pub data Script : Type 0 where
   begin : Script
   _▸_ : Script → Event → Script
@@ -24,7 +27,7 @@ abbrev pub after : Device → Script → Device
 after d begin = d
 after d (s ▸ e) = told (after d s) e .state
 
--- what came of an event: the number that it was answered, and the one store that it made
+-- what came of an event: the number that it was answered, and the store that it made, if any
 pub record Entry : Type 0 where
   pub event : Event
   pub answer : ℕ
@@ -43,11 +46,15 @@ history d (s ▸ e) = history d s ▹ entry (after d s) e
 
 -- ## Runs of the code
 
--- a chain of calls that keep their promises, each on the device that the one before it left
-pub data Ran (d : Device) : Script → Device → Type 0 where
-  start : Ran d begin d
-  call : {s : Script} {x : Device} → Ran d s x → (e : Event) (a : Answer) (y : Device) → said a y ≡ told x e → Ran d (s ▸ e) y
+-- a chain of calls that keep their promises, each on the device that the one before it left; their numbers, the latest first
+pub data Ran (d : Device) : Script → List ℕ → Device → Type 0 where
+  none : Ran d begin [] d
+  call : {s : Script} {ns : List ℕ} {x : Device} → Ran d s ns x → (e : Event) (a : Answer) (y : Device) → said a y ≡ told x e → Ran d (s ▸ e) (numberOf a ∷ ns) y
 
--- such a chain leaves the device that the definitions speak of
+abbrev pub answersIn : History → List ℕ
+answersIn empty = []
+answersIn (past ▹ x) = x .answer ∷ answersIn past
+
+-- such a chain leaves the device that the definitions speak of, and gave the answers of its history
 abbrev pub Runs-are-scripts : Type 0
-Runs-are-scripts = (d : Device) (s : Script) (x : Device) → Ran d s x → x ≡ after d s
+Runs-are-scripts = (d : Device) (s : Script) (ns : List ℕ) (x : Device) → Ran d s ns x → (x ≡ after d s) × (ns ≡ answersIn (history d s))

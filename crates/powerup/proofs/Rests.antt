@@ -7,8 +7,7 @@ use Rattle.device.specs.declared.Device.{Device}
 use Rattle.device.specs.declared.Note.the-variants.{Empty, Full}
 use Rattle.device.specs.declared.Note.{Note}
 use Rattle.history.proofs.Demand3.{demand-3}
-use Rattle.history.proofs.Progress.{four-steps}
-use Rattle.history.specs.Demand3.{Promise}
+use Rattle.history.specs.Promise.{Promise}
 use Rattle.history.specs.Runs.{begin, _▸_, _▸▸_, after, history}
 use Rattle.powerup.specs.Promises.{powerUp, Powered-up-rests}
 
@@ -31,5 +30,5 @@ powered-up-rests start can s = go (after start s .note) refl
         (step-rests (after start (s ▸ powerCut ▸ step)) (step-rests (after start (s ▸ powerCut)) (cut-rests d e))))
 
     go : (n : Note) → after start s .note ≡ n → (after start (s ▸▸ powerUp) .note ≡ Empty) × Promise start (history start (s ▸▸ powerUp)) (after start (s ▸▸ powerUp))
-    go Empty e = (idle e, demand-3 start can (s ▸▸ powerUp) .at-rest (idle e))
-    go (Full w) e = four-steps start can s w e powerCut refl (begin ▸ step ▸ step ▸ step) refl refl
+    go Empty e = (idle e, demand-3 .kept start can (s ▸▸ powerUp) .at-rest (idle e))
+    go (Full w) e = demand-3 .brought-about start can s w e powerCut refl (begin ▸ step ▸ step ▸ step) refl refl

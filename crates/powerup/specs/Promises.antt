@@ -3,8 +3,9 @@ use mathlib.Core.Path.{_≡_}
 use Rattle.device.specs.Machine.{step, powerCut}
 use Rattle.device.specs.declared.Device.{Device}
 use Rattle.device.specs.declared.Note.the-variants.{Empty}
-use Rattle.history.specs.Demand3.{Startable, Promise}
+use Rattle.history.specs.Promise.{Promise}
 use Rattle.history.specs.Runs.{Script, begin, _▸_, _▸▸_, after, history}
+use Rattle.history.specs.Starts.{Startable}
 
 abbrev pub powerUp : Script
 powerUp = begin ▸ powerCut ▸ step ▸ step ▸ step ▸ step
