@@ -1,43 +1,26 @@
--- The front call, 12h's checks and the judgement of the other codes: a law for each way out.
-use Prim.Native.Nat.{ℕ, _+_, _-_, _*_, _≤_, _<_, _^_}
+-- The front call and the judgement of the other codes: a law for each way out.
+use Prim.Native.Nat.{ℕ, _+_, _-_, _≤_, _<_, _^_}
 use mathlib.Core.Bool.{Bool, true, false, not, _&&_}
-use mathlib.Core.List.{[], _∷_}
+use mathlib.Core.List.{List, [], _∷_}
 use mathlib.Core.Path.{_≡_, refl, sym, ap, _∙_}
 use native.Mathlib.Nat.{mod-lt}
 use native.Mathlib.Omega.{arith}
 use lib.Dec.{ltb, lit<}
+use lib.ListN.{length}
 use borrow.Author.Tests.{eq-eqb, ne-eqb, lt-ltb, le-ltb, ltb-true, ltb-false}
 use Rattle.device.specs.Cells.{underWay, isSet}
-use Rattle.device.specs.Commands.{statusNumber, otherNumber, isMedia, isNamed, isOpen, sectorsOf, isBeyond, mediaNumber}
+use Rattle.device.specs.Commands.{otherNumber, isMedia, isNamed, isOpen, sectorsOf, isBeyond, mediaNumber}
 use Rattle.device.specs.Machine.{command, told}
-use Rattle.device.specs.Remove.{aborts}
-use Rattle.device.specs.declared.Command.the-variants.{Status}
 use Rattle.device.specs.declared.Device.{Device}
-use Rattle.layout.specs.Requests.{refused, pagesOf}
-use Rattle.layout.specs.declared.Request.{Request}
 use Rattle.paper.specs.Answers.{numberOf}
 use Rattle.paper.specs.Registers.{low48}
 use Rattle.paper.specs.Told.{Told, tells, said}
 use Rattle.paper.specs.declared.Answer.{Answer}
 use Rattle.paper.specs.declared.Lba.{Lba}
 use Rattle.paper.specs.declared.Security.{Security}
+use Rattle.status.specs.Page.{shown}
 use Rattle.words.specs.Lists.{oneOf}
-
--- ## 12h
-
-module _ (s : Security) (q : Request) (room : ℕ) (a : Bool) (is-a : a ≡ aborts Status s) where
-  pub status-locked : a ≡ true → 1 ≡ statusNumber s q room
-  status-locked y = sym (rw (sym is-a ∙ y))
-
-  module _ (n : a ≡ false) (b : Bool) (is-b : b ≡ refused q) where
-    pub status-refused : b ≡ true → 4 ≡ statusNumber s q room
-    status-refused y = sym (rw (sym is-a ∙ n, sym is-b ∙ y))
-
-    pub status-small : b ≡ false → room < 512 * pagesOf q → 7 ≡ statusNumber s q room
-    status-small m h = sym (rw (sym is-a ∙ n, sym is-b ∙ m, lt-ltb _ _ h))
-
-    pub status-done : b ≡ false → 512 * pagesOf q ≤ room → 0 ≡ statusNumber s q room
-    status-done m h = sym (rw (sym is-a ∙ n, sym is-b ∙ m, le-ltb _ _ h))
+use Rattle.commands.specs.Lent.{lent}
 
 -- ## Sectors
 
@@ -118,14 +101,20 @@ module _ (d : Device) (count : ℕ) (lba : Lba) (f : Bool) (is-f : f ≡ isSet (
 
 -- ## The front call
 
-module _ (d : Device) (s : Security) (code feature count : ℕ) (lba : Lba) (room : ℕ) where
-  pub front-remove : (t : Told Device) → code ≡ 0x7C → t ≡ told d (command s 0x7C feature count lba 0) → t ≡ told d (command s code feature count lba room)
-  front-remove t e q = q ∙ sym (rw (eq-eqb _ _ e))
+module _ (d : Device) (s : Security) (code feature count : ℕ) (lba : Lba) (buf : List ℕ) where
+  -- what the front call tells, and what it leaves in the buffer
+  abbrev Front : Told Device → List ℕ → Type 0
+  Front t out = (t ≡ told d (command s code feature count lba (length buf))) × (out ≡ lent d s code feature count lba buf)
+
+  pub front-remove : (t : Told Device) → code ≡ 0x7C → t ≡ told d (command s 0x7C feature count lba 0) → Front t buf
+  front-remove t e q = (q ∙ sym (rw (eq-eqb _ _ e)), sym (rw e))
 
   module _ (not-remove : code ≡ 0x7C → ⊥) (a : Answer) where
-    pub front-status : code ≡ 0x12 → numberOf a ≡ statusNumber s (record { feature = feature; count = record { 0 = count }; lba = lba }) room
-        → said a d ≡ told d (command s code feature count lba room)
-    front-status e q = ap (λ (n : ℕ). tells n d) q ∙ sym (rw (ne-eqb _ _ not-remove, eq-eqb _ _ e))
+    pub front-status : code ≡ 0x12 → (out : List ℕ) → said a out ≡ shown d s (record { feature = feature; count = record { 0 = count }; lba = lba }) buf → Front (said a d) out
+    front-status e out q = (
+      ap (λ (t : Told (List ℕ)). tells (t .number) d) q ∙ sym (rw (ne-eqb _ _ not-remove, eq-eqb _ _ e)),
+      ap (λ (t : Told (List ℕ)). t .state) q ∙ sym (rw (eq-eqb _ _ e)),
+    )
 
-    pub front-other : (code ≡ 0x12 → ⊥) → numberOf a ≡ otherNumber d code feature count lba → said a d ≡ told d (command s code feature count lba room)
-    front-other n q = ap (λ (k : ℕ). tells k d) q ∙ sym (rw (ne-eqb _ _ not-remove, ne-eqb _ _ n))
+    pub front-other : (code ≡ 0x12 → ⊥) → numberOf a ≡ otherNumber d code feature count lba → Front (said a d) buf
+    front-other n q = (ap (λ (k : ℕ). tells k d) q ∙ sym (rw (ne-eqb _ _ not-remove, ne-eqb _ _ n)), sym (rw (ne-eqb _ _ n)))

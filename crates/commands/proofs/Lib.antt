@@ -1,4 +1,5 @@
 -- What is proved of the front call.
+
 pub mod Judgement
 pub mod Open
 pub mod Security

@@ -1,12 +1,17 @@
 -- "The state comes with each command; no other command on this page looks at it"
 use Prim.Native.Nat.{ℕ}
+use mathlib.Core.List.{List}
 use mathlib.Core.Path.{_≡_}
+use lib.ListN.{length}
 use Rattle.device.specs.Machine.{command, told}
 use Rattle.device.specs.declared.Device.{Device}
 use Rattle.paper.specs.declared.Lba.{Lba}
 use Rattle.paper.specs.declared.Security.{Security}
+use Rattle.commands.specs.Lent.{lent}
 
 abbrev pub Security-unseen : Type 0
 Security-unseen =
-    (d : Device) (s t : Security) (code feature count : ℕ) (lba : Lba) (room : ℕ)
-    → (code ≡ 0x7C → ⊥) → told d (command s code feature count lba room) ≡ told d (command t code feature count lba room)
+    (d : Device) (s t : Security) (code feature count : ℕ) (lba : Lba) (buf : List ℕ)
+    → (code ≡ 0x7C → ⊥)
+    → (told d (command s code feature count lba (length buf)) ≡ told d (command t code feature count lba (length buf)))
+    × (lent d s code feature count lba buf ≡ lent d t code feature count lba buf)

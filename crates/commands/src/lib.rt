@@ -1,16 +1,17 @@
-// The front call: any command code, with the security state, the registers and the length of the lent buffer.
+// The front call: any command code, with the security state, the registers and the lent buffer.
 ghost use mathlib.Core.Path.{_≡_};
 ghost use mathlib.Core.Bool.{not, _&&_};
 ghost use Prim.Native.Nat.{_≤_};
+ghost use lib.ListN.{length};
 ghost use Rattle.paper.specs.Answers.{numberOf};
 ghost use Rattle.words.specs.Lists.{oneOf};
 ghost use Rattle.paper.specs.Told.{said};
 ghost use Rattle.device.specs.Cells.{underWay};
-ghost use Rattle.device.specs.Commands.{statusNumber, otherNumber, isMedia, isNamed, isOpen, sectorsOf, isBeyond, mediaNumber};
+ghost use Rattle.device.specs.Commands.{otherNumber, isMedia, isNamed, isOpen, sectorsOf, isBeyond, mediaNumber};
 ghost use Rattle.device.specs.Machine as machine;
 ghost use Rattle.device.specs.Machine.{told};
+ghost use Rattle.commands.specs.Lent.{lent};
 ghost use Rattle.commands.specs.Open.{hasRest, rowFits};
-use device::Command;
 use device::Device;
 use device::Stepped;
 use layout::Request;
@@ -137,22 +138,6 @@ fn is_beyond(accessible: Lba, lba: Lba, count: u16) -> bool
     accessible.0 < last
 }
 
-// The checks of GET PHYSICAL ELEMENT STATUS.
-fn status_answer(security: Security, request: Request, room: usize) -> Answer
-    ensures { λ r. ⌜ numberOf r ≡ statusNumber security request room ⌝ }
-{
-    if device::is_aborted(Command::Status, security) {
-        return Answer::SecurityLocked;
-    }
-    if request.is_refused() {
-        return Answer::InvalidField;
-    }
-    if room < 512 * (request.count.0 as usize) {
-        return Answer::SmallBuffer;
-    }
-    Answer::Done
-}
-
 fn media_answer(d: Device, count: u16, lba: Lba) -> Answer
     ensures { λ r. ⌜ numberOf r ≡ mediaNumber d count lba ⌝ }
 {
@@ -190,9 +175,11 @@ pub fn command(
     feature: u16,
     count: u16,
     lba: Lba,
-    room: usize,
+    buf: &mut [u8],
 ) -> Stepped
-    ensures { λ r. ⌜ said (r .answer) (r .device) ≡ told d (machine.command security code feature count lba room) ⌝ }
+    ensures { λ r.
+        ⌜ (said (r .answer) (r .device) ≡ told d (machine.command security code feature count lba (length (now (buf .entry)))))
+        × (now (buf .exit) ≡ lent d security code feature count lba (now (buf .entry))) ⌝ }
 {
     if code == 0x7C {
         return d.remove(security, feature, count, lba);
@@ -203,7 +190,7 @@ pub fn command(
             count: PageCount(count),
             lba,
         };
-        let answer = status_answer(security, request, room);
+        let answer = status::show(d, security, request, buf);
         return Stepped { answer, device: d };
     }
     let answer = other_answer(d, code, feature, count, lba);

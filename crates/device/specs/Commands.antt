@@ -14,7 +14,7 @@ use Rattle.device.specs.Remove.{aborts}
 use Rattle.device.specs.declared.Command.the-variants.{Status}
 use Rattle.device.specs.declared.Device.{Device}
 
--- ## 12h: "all 4; then the buffer below 512p bytes: 7"
+-- ## 12h: "all 4; then the buffer below 512p bytes: 7. Allowed during a removal."; 1 by 000, table 12, where no state aborts it
 
 abbrev pub statusNumber : Security → Request → ℕ → ℕ
 statusNumber security q room = cond (aborts Status security) 1 (cond (refused q) 4 (cond (ltb room (512 * pagesOf q)) 7 0))

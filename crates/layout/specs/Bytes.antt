@@ -1,5 +1,5 @@
 -- The 32 bytes of a page's header (004, table 102) and of a descriptor (003, table 103), in either byte order, and their reading back.
-use Prim.Native.Nat.{ℕ, _%_, _^_, _<_}
+use Prim.Native.Nat.{ℕ, _-_, _*_, _%_, _^_, _<_, min}
 use mathlib.Core.List.{List, [], _∷_, _++_}
 use lib.Dec.{eqb}
 use lib.ListN.{getD, replicate}
@@ -62,3 +62,17 @@ pub record DescriptorFits (d : Descriptor) : Type 0 where
   pub kind : d .kind < 2 ^ 8
   pub health : d .health < 2 ^ 8
   pub capacity : d .capacity < 2 ^ 64
+
+-- ## What a page of p times 512 bytes holds
+
+-- a header and 16p - 1 descriptors of 32 bytes, where p is at least 1
+abbrev pub roomOf : ℕ → ℕ
+roomOf p = 16 * p - 1
+
+-- "returned, the smaller of N and 16p - 1"
+abbrev pub returnedOf : ℕ → ℕ → ℕ
+returnedOf n p = min n (roomOf p)
+
+-- the 8 bytes of an unreported capacity
+abbrev pub allOnes : ℕ
+allOnes = 2 ^ 64 - 1

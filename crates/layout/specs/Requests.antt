@@ -21,10 +21,11 @@ pagesOf q = q .count .0
 abbrev pub startOf : Request → ℕ
 startOf q = low48 (q .lba) .0
 
--- "Checks: filter 10b or 11b, report type above 1, p = 0: all 4"
+-- FEATURE's two fields
 abbrev pub fieldsRefused : Request → Bool
 fieldsRefused q = leb 2 (filterOf q) || ltb 1 (reportTypeOf q)
 
+-- "Checks: filter 10b or 11b, report type above 1, p = 0: all 4"
 unfoldable pub refused : Request → Bool
 refused q = fieldsRefused q || eqb (pagesOf q) 0
 
