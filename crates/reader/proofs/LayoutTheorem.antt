@@ -1,0 +1,162 @@
+-- The layout theorem: the reader takes exactly the pages that keep each rule, and refuses any other at the first that is broken.
+use Prim.Native.Nat.{ℕ, _+_, _-_, _*_, _≤_, _<_}
+use mathlib.Core.Bool.{Bool, true, false, not, _&&_, _||_, or-true, false≢true}
+use mathlib.Core.List.{List, _∷_, _++_}
+use mathlib.Core.Logic.{_⊎_, inl, inr, ⊎-elim}
+use mathlib.Core.Path.{_≡_, refl, ap, subst}
+use native.Mathlib.Omega.{arith}
+use lib.Dec.{eqb, leb, ltb}
+use lib.ListN.{length, getD}
+use borrow.Author.Tests.{eq-eqb, ne-eqb, le-leb, lt-leb, le-ltb, lt-ltb, eqb-true, eqb-false, leb-true, ltb-true, not-true}
+use Rattle.layout.proofs.Requests.{accepted}
+use Rattle.layout.specs.Bytes.{headerIn, returnedOf}
+use Rattle.layout.specs.Requests.{filterOf, reportTypeOf, pagesOf, startOf, refused, takesId, takesType, takesHealth}
+use Rattle.layout.specs.declared.Descriptor.{Descriptor}
+use Rattle.layout.specs.declared.Header.{Header}
+use Rattle.layout.specs.declared.Request.{Request}
+use Rattle.paper.specs.Told.{Told, tells}
+use Rattle.words.specs.declared.Order.the-variants.{Little}
+use Rattle.words.specs.declared.Order.{Order}
+use Rattle.reader.specs.Checks.{baseOf, descriptorAt, lastBefore, inTurn, earned, checkOf, offenceAt, paddingAt, pageOffence}
+use Rattle.reader.specs.First.{unless, _orElse_, firstBelow}
+use Rattle.reader.specs.Layout.{Rule, rule, below, Asked, Slow, descriptorRules, listRules, paddingRules, pageRules}
+use Rattle.reader.specs.Promises.{Takes-exactly, Refuses-exactly}
+use Rattle.reader.specs.Reading.{Values, header, place, answerOf, readOf}
+use Rattle.reader.specs.declared.Offence.the-variants.{Clean, At}
+use Rattle.reader.specs.declared.Offence.{Offence}
+use Rattle.reader.proofs.Rules.{Decides, one, join, next, all-below, clean-if, at-if}
+
+-- ## Each test and its rule
+
+and-both : (a b : Bool) → (a && b) ≡ true → (a ≡ true) × (b ≡ true)
+and-both true b e = (refl, e)
+and-both false b e = absurd (false≢true e)
+
+or-either : (a b : Bool) → (a || b) ≡ true → (a ≡ true) ⊎ (b ≡ true)
+or-either true b e = inl refl
+or-either false b e = inr e
+
+-- "if the first then the second", tested
+implied : (a b : Bool) → (not a || b) ≡ true → a ≡ true → b ≡ true
+implied true b e y = e
+implied false b e y = absurd (false≢true y)
+
+implies : (a b : Bool) → (a ≡ true → b ≡ true) → (not a || b) ≡ true
+implies true b f = f refl
+implies false b f = refl
+
+asked-to : (q : Request) → not (refused q) ≡ true → Asked q
+asked-to q e = accepted q (not-true _ e)
+
+asked-from : (q : Request) → Asked q → not (refused q) ≡ true
+unfolding refused
+asked-from q (f, r, p) = rw (lt-leb 2 (filterOf q) (omega arith), le-ltb 1 (reportTypeOf q) r, ne-eqb (pagesOf q) 0 (omega arith))
+
+module _ (q : Request) (last id : ℕ) where
+  turn-to : inTurn q last id ≡ true → (1 ≤ id) × (startOf q ≤ id) × (last < id)
+  turn-to e =
+      let a = and-both (not (eqb id 0)) (takesId q id && ltb last id) e in
+      let b = and-both (takesId q id) (ltb last id) (a .1) in
+      let some = eqb-false id 0 (not-true _ (a .0)) in
+      (omega (arith, some), leb-true _ _ (b .0), ltb-true _ _ (b .1))
+
+  turn-from : (1 ≤ id) × (startOf q ≤ id) × (last < id) → inTurn q last id ≡ true
+  turn-from (some, from, after) = rw (ne-eqb id 0 (omega arith), le-leb (startOf q) id from, lt-ltb last id after)
+
+slow-to : (h : ℕ) → ((leb 0x65 h && leb h 0xCF) || eqb h 0xFF) ≡ true → Slow h
+slow-to h e =
+    ⊎-elim
+    (λ x. let b = and-both (leb 0x65 h) (leb h 0xCF) x in inl (leb-true _ _ (b .0), leb-true _ _ (b .1)))
+    (λ x. inr (eqb-true _ _ x))
+    (or-either (leb 0x65 h && leb h 0xCF) (eqb h 0xFF) e)
+
+slow-from : (h : ℕ) → Slow h → ((leb 0x65 h && leb h 0xCF) || eqb h 0xFF) ≡ true
+slow-from h (inl (low, high)) = rw (le-leb 0x65 h low, le-leb h 0xCF high)
+slow-from h (inr e) = rw (eq-eqb h 0xFF e, or-true)
+
+module _ (q : Request) (d : Descriptor) where
+  earned-to : earned d ≡ true → d .restorable ≡ true → d .health ≡ 0xFF
+  earned-to e y = eqb-true _ _ (implied (d .restorable) (eqb (d .health) 0xFF) e y)
+
+  earned-from : (d .restorable ≡ true → d .health ≡ 0xFF) → earned d ≡ true
+  earned-from f = implies (d .restorable) (eqb (d .health) 0xFF) (λ y. eq-eqb _ _ (f y))
+
+  type-to : takesType (reportTypeOf q) (d .kind) ≡ true → reportTypeOf q ≡ 1 → d .kind ≡ 1
+  type-to e y = eqb-true _ _ (implied (eqb (reportTypeOf q) 1) (eqb (d .kind) 1) e (eq-eqb _ _ y))
+
+  type-from : (reportTypeOf q ≡ 1 → d .kind ≡ 1) → takesType (reportTypeOf q) (d .kind) ≡ true
+  type-from f = implies (eqb (reportTypeOf q) 1) (eqb (d .kind) 1) (λ y. eq-eqb _ _ (f (eqb-true _ _ y)))
+
+  health-to : takesHealth (filterOf q) (d .health) ≡ true → filterOf q ≡ 1 → Slow (d .health)
+  unfolding takesHealth
+  health-to e y = slow-to (d .health) (implied (eqb (filterOf q) 1) _ e (eq-eqb _ _ y))
+
+  health-from : (filterOf q ≡ 1 → Slow (d .health)) → takesHealth (filterOf q) (d .health) ≡ true
+  unfolding takesHealth
+  health-from f = implies (eqb (filterOf q) 1) _ (λ y. slow-from (d .health) (f (eqb-true _ _ y)))
+
+-- ## The checks decide the rules
+
+descriptor-decides : (q : Request) (last base : ℕ) (d : Descriptor) → Decides (checkOf q last base d) (descriptorRules q last base d)
+descriptor-decides q last base d =
+    next (inTurn q last (d .id .0)) (rule (base + 4) _) (turn-to q last (d .id .0)) (turn-from q last (d .id .0)) _ _
+    (next (earned d) (rule (base + 13) _) (earned-to q d) (earned-from q d) _ _
+    (next (takesType (reportTypeOf q) (d .kind)) (rule (base + 14) _) (type-to q d) (type-from q d) _ _
+    (one (takesHealth (filterOf q) (d .health)) (rule (base + 15) _) (health-to q d) (health-from q d))))
+
+next-same : (a b p : ℕ) (c : Offence) (rs : List Rule) → Decides c rs → Decides (unless (eqb a b) p orElse c) (rule p (a ≡ b) ∷ rs)
+next-same a b p = next (eqb a b) (rule p (a ≡ b)) (eqb-true a b) (eq-eqb a b)
+
+module _ (o : Order) (s : List ℕ) (q : Request) where
+  list-decides : (n : ℕ) → Decides (firstBelow n (offenceAt o s q)) (below n (listRules o s q))
+  list-decides n = all-below n (offenceAt o s q) (listRules o s q) (λ k. descriptor-decides q (lastBefore o s k) (baseOf k) (descriptorAt o s k))
+
+  padding-decides : (n from : ℕ) → Decides (firstBelow n (paddingAt s from)) (below n (paddingRules s from))
+  padding-decides n from =
+      all-below n (paddingAt s from) (paddingRules s from)
+      (λ i. one (eqb (getD s (from + i) 0) 0) (rule (from + i) (getD s (from + i) 0 ≡ 0)) (eqb-true _ _) (eq-eqb _ _))
+
+  page-decides : Decides (pageOffence o s q) (pageRules o s q)
+  page-decides =
+      let n = headerIn o s .returned in
+      let list : Offence = firstBelow n (offenceAt o s q) in
+      let padding : Offence = firstBelow (length s - baseOf n) (paddingAt s (baseOf n)) in
+      let rest : List Rule = below n (listRules o s q) ++ below (length s - baseOf n) (paddingRules s (baseOf n)) in
+      next (not (refused q)) (rule 0 (Asked q)) (asked-to q) (asked-from q) _ _
+      (next-same (length s) (512 * pagesOf q) 0 _ _
+      (next-same n (returnedOf (headerIn o s .number) (pagesOf q)) 4 (list orElse padding) rest
+      (join list padding _ _ (list-decides n) (padding-decides (length s - baseOf n) (baseOf n)))))
+
+-- ## The theorem
+
+taken : (a : Offence) (h : Header) → answerOf a h .number ≡ 0 → a ≡ Clean
+taken Clean h e = refl
+taken (At p) h e = absurd (let no : _≡_ {A = ℕ} 9 0 = e in omega arith)
+
+placed : Values → ℕ
+placed (header h) = 0
+placed (place p) = p
+
+refused-at : (a : Offence) (h : Header) (p : ℕ) → answerOf a h ≡ tells 9 (place p) → a ≡ At p
+unfolding placed
+refused-at Clean h p e = absurd (let no : _≡_ {A = ℕ} 0 9 = ap (λ (t : Told Values). t .number) e in omega arith)
+refused-at (At r) h p e = ap At (ap (λ (t : Told Values). placed (t .state)) e)
+
+module _ (s : List ℕ) (q : Request) where
+  decided : (a : Offence) → pageOffence Little s q ≡ a → Decides a (pageRules Little s q)
+  decided a e = subst (λ (x : Offence). Decides x (pageRules Little s q)) e (page-decides Little s q)
+
+  said : (a : Offence) → pageOffence Little s q ≡ a → readOf s q ≡ answerOf a (headerIn Little s)
+  said a e = ap (λ (x : Offence). answerOf x (headerIn Little s)) e
+
+pub takes-exactly : Takes-exactly
+takes-exactly s q = (
+  λ e. decided s q Clean (taken (pageOffence Little s q) (headerIn Little s) e),
+  λ each. said s q Clean (clean-if (pageOffence Little s q) (pageRules Little s q) (page-decides Little s q) each),
+)
+
+pub refuses-exactly : Refuses-exactly
+refuses-exactly s q p = (
+  λ e. decided s q (At p) (refused-at (pageOffence Little s q) (headerIn Little s) p e),
+  λ first. said s q (At p) (at-if (pageOffence Little s q) (pageRules Little s q) p (page-decides Little s q) first),
+)

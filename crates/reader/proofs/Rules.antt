@@ -1,0 +1,69 @@
+-- A check that decides a list of rules: clean where each holds, else at the place of the first that is broken.
+use Prim.Native.Nat.{ℕ, zero, suc}
+use mathlib.Core.Bool.{Bool, true, false, false≢true}
+use mathlib.Core.List.{List, [], _∷_, _++_}
+use mathlib.Core.Logic.{inl, inr}
+use mathlib.Core.Path.{_≡_, refl, sym, ap, _∙_}
+use Rattle.reader.specs.First.{unless, _orElse_, firstBelow}
+use Rattle.reader.specs.Layout.{Rule, Each, FirstBroken, below}
+use Rattle.reader.specs.declared.Offence.the-variants.{Clean, At}
+use Rattle.reader.specs.declared.Offence.{Offence}
+
+abbrev pub Decides : Offence → List Rule → Type 0
+Decides Clean rs = Each rs
+Decides (At p) rs = FirstBroken rs p
+
+-- ## Put together
+
+pub one : (t : Bool) (r : Rule) → (t ≡ true → r .Holds) → (r .Holds → t ≡ true) → Decides (unless t (r .place)) (r ∷ [])
+one true r to from = (to refl, tt)
+one false r to from = inl (λ h. false≢true (from h), refl)
+
+each-both : (rs ss : List Rule) → Each rs → Each ss → Each (rs ++ ss)
+each-both [] ss e f = f
+each-both (r ∷ rs) ss (h, e) f = (h, each-both rs ss e f)
+
+first-after : (rs ss : List Rule) (p : ℕ) → Each rs → FirstBroken ss p → FirstBroken (rs ++ ss) p
+first-after [] ss p e f = f
+first-after (r ∷ rs) ss p (h, e) f = inr (h, first-after rs ss p e f)
+
+first-in : (rs ss : List Rule) (p : ℕ) → FirstBroken rs p → FirstBroken (rs ++ ss) p
+first-in [] ss p f = absurd f
+first-in (r ∷ rs) ss p (inl f) = inl f
+first-in (r ∷ rs) ss p (inr (h, f)) = inr (h, first-in rs ss p f)
+
+pub join : (a b : Offence) (rs ss : List Rule) → Decides a rs → Decides b ss → Decides (a orElse b) (rs ++ ss)
+join Clean Clean rs ss v w = each-both rs ss v w
+join Clean (At p) rs ss v w = first-after rs ss p v w
+join (At p) b rs ss v w = first-in rs ss p v
+
+-- a rule more in front
+pub next : (t : Bool) (r : Rule) → (t ≡ true → r .Holds) → (r .Holds → t ≡ true)
+    → (b : Offence) (rs : List Rule) → Decides b rs → Decides (unless t (r .place) orElse b) (r ∷ rs)
+next t r to from b rs v = join (unless t (r .place)) b (r ∷ []) rs (one t r to from) v
+
+pub all-below : (n : ℕ) (f : ℕ → Offence) (g : ℕ → List Rule) → ((k : ℕ) → Decides (f k) (g k)) → Decides (firstBelow n f) (below n g)
+all-below zero f g v = tt
+all-below (suc n) f g v = join (firstBelow n f) (f n) (below n g) (g n) (all-below n f g v) (v n)
+
+-- ## Decided one way only
+
+never-both : (rs : List Rule) (p : ℕ) → Each rs → FirstBroken rs p → ⊥
+never-both [] p e f = f
+never-both (r ∷ rs) p (h, e) (inl (n, at)) = n h
+never-both (r ∷ rs) p (h, e) (inr (_, f)) = never-both rs p e f
+
+one-first : (rs : List Rule) (p r : ℕ) → FirstBroken rs p → FirstBroken rs r → p ≡ r
+one-first [] p r f g = absurd f
+one-first (x ∷ rs) p r (inl (n, at)) (inl (m, to)) = sym at ∙ to
+one-first (x ∷ rs) p r (inl (n, at)) (inr (h, g)) = absurd (n h)
+one-first (x ∷ rs) p r (inr (h, f)) (inl (m, to)) = absurd (m h)
+one-first (x ∷ rs) p r (inr (h, f)) (inr (k, g)) = one-first rs p r f g
+
+pub clean-if : (a : Offence) (rs : List Rule) → Decides a rs → Each rs → a ≡ Clean
+clean-if Clean rs v e = refl
+clean-if (At p) rs v e = absurd (never-both rs p e v)
+
+pub at-if : (a : Offence) (rs : List Rule) (p : ℕ) → Decides a rs → FirstBroken rs p → a ≡ At p
+at-if Clean rs p v f = absurd (never-both rs p v f)
+at-if (At r) rs p v f = ap At (one-first rs r p v f)

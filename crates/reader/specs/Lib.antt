@@ -1,0 +1,7 @@
+-- The checks of a page and what the reader says.
+
+pub mod Checks
+pub mod First
+pub mod Layout
+pub mod Promises
+pub mod Reading

@@ -1,0 +1,29 @@
+-- What holds of every reading. Each is a statement; proofs/ has the proof under the same name in lower case.
+use Prim.Native.Nat.{ℕ}
+use mathlib.Core.List.{List}
+use mathlib.Core.Path.{_≡_}
+use Rattle.layout.specs.Bytes.{headerIn}
+use Rattle.layout.specs.declared.Request.{Request}
+use Rattle.paper.specs.Told.{tells}
+use Rattle.words.specs.declared.Order.the-variants.{Little}
+use Rattle.reader.specs.Layout.{Each, FirstBroken, pageRules}
+use Rattle.reader.specs.Reading.{header, place, heard, readOf}
+use Rattle.reader.specs.declared.Reading.{Reading}
+
+-- no second answer fits
+abbrev pub One-reading : Type 0
+One-reading = (s : List ℕ) (q : Request) (a b : Reading) → heard a ≡ readOf s q → heard b ≡ readOf s q → a ≡ b
+
+-- ## The layout theorem
+
+-- a page is taken, with its header's numbers, exactly if it keeps each rule
+abbrev pub Takes-exactly : Type 0
+Takes-exactly =
+    (s : List ℕ) (q : Request)
+    → (readOf s q .number ≡ 0 → Each (pageRules Little s q)) × (Each (pageRules Little s q) → readOf s q ≡ tells 0 (header (headerIn Little s)))
+
+-- it is refused at a place exactly if the first rule that it breaks has that place
+abbrev pub Refuses-exactly : Type 0
+Refuses-exactly =
+    (s : List ℕ) (q : Request) (p : ℕ)
+    → (readOf s q ≡ tells 9 (place p) → FirstBroken (pageRules Little s q) p) × (FirstBroken (pageRules Little s q) p → readOf s q ≡ tells 9 (place p))

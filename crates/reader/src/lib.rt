@@ -1,0 +1,164 @@
+// The host's reader of a status page: the page and the request that it answers, checked in document 01's order. A page is read in place.
+ghost use mathlib.Core.Path.{_≡_};
+ghost use Prim.Native.Nat.{_+_, _-_, _*_, _^_, _≤_, _<_, min};
+ghost use lib.ListN.{length};
+ghost use Rattle.reader.specs.Checks.{inTurn, earned, checkOf, offenceAt, paddingAt, contentsOf};
+ghost use Rattle.reader.specs.First.{firstBelow};
+ghost use Rattle.reader.specs.Reading as paper;
+use layout::Descriptor;
+use layout::Header;
+use layout::Request;
+use paper::ElementId;
+use words::Order;
+
+// What a check finds: nothing, or the place of an offence.
+enum Offence {
+    Clean,
+    At(usize),
+}
+
+// The header's numbers, or the place of the first offence.
+pub enum Reading {
+    Accepted(Header),
+    Refused(usize),
+}
+
+// What stands at a descriptor's number.
+pub enum Slot {
+    Outside,
+    Holds(Descriptor),
+}
+
+// Whether an identifier may follow the last one, 0 being none.
+fn is_in_turn(request: Request, last: ElementId, id: ElementId) -> bool
+    ensures { λ r. ⌜ r ≡ inTurn request (last .0) (id .0) ⌝ }
+{
+    if id.0 == 0 {
+        return false;
+    }
+    if !request.takes_id(id) {
+        return false;
+    }
+    last.0 < id.0
+}
+
+// Whether the restoration bit is clear or the element is removed.
+fn is_earned(d: Descriptor) -> bool
+    ensures { λ r. ⌜ r ≡ earned d ⌝ }
+{
+    if !d.restorable {
+        return true;
+    }
+    d.health == 0xFF
+}
+
+// The first offence of a descriptor that starts at `base`, after the last identifier.
+fn judge(d: Descriptor, request: Request, last: ElementId, base: usize) -> Offence
+    requires { ⌜ base + 32 < 2 ^ 64 ⌝ }
+    ensures { λ r. ⌜ r ≡ checkOf request (last .0) base d ⌝ }
+{
+    let id = d.id;
+    if !is_in_turn(request, last, id) {
+        return Offence::At(base + 4);
+    }
+    if !is_earned(d) {
+        return Offence::At(base + 13);
+    }
+    if !request.takes_type(d.kind) {
+        return Offence::At(base + 14);
+    }
+    if !request.takes_health(d.health) {
+        return Offence::At(base + 15);
+    }
+    Offence::Clean
+}
+
+// The first offence of the first `count` descriptors.
+fn check_list(page: &[u8], request: Request, count: u32, o: Order) -> Offence
+    ensures { λ r. ⌜ r ≡ firstBelow count (offenceAt o (now (page .entry)) request) ⌝ }
+{
+    let mut last = ElementId(0);
+    let mut k: u32 = 0;
+    while k < count {
+        let base = 32 + 32 * (k as usize);
+        let d = Descriptor::read(words::tail(page, base), o);
+        let found = judge(d, request, last, base);
+        if let Offence::At(place) = found {
+            return Offence::At(place);
+        }
+        last = d.id;
+        k += 1;
+    }
+    Offence::Clean
+}
+
+// The first byte from a place on that is not 0.
+fn check_padding(page: &[u8], from: usize) -> Offence
+    requires { ⌜ from ≤ length (now page) ⌝ }
+    ensures { λ r. ⌜ r ≡ firstBelow (length (now (page .entry)) - from) (paddingAt (now (page .entry)) from) ⌝ }
+{
+    let count = page.len() - from;
+    let mut i: usize = 0;
+    while i < count {
+        if page[from + i] != 0 {
+            return Offence::At(from + i);
+        }
+        i += 1;
+    }
+    Offence::Clean
+}
+
+// The first offence of the descriptors and of the padding after them.
+fn check_contents(page: &[u8], request: Request, count: u32, o: Order) -> Offence
+    requires { ⌜ 32 + 32 * count ≤ length (now page) ⌝ }
+    ensures { λ r. ⌜ r ≡ contentsOf o (now (page .entry)) request count ⌝ }
+{
+    let first = check_list(page, request, count, o);
+    if let Offence::At(place) = first {
+        return Offence::At(place);
+    }
+    check_padding(page, 32 + 32 * (count as usize))
+}
+
+fn smaller(a: u32, b: u32) -> u32
+    ensures { λ r. ⌜ r ≡ min a b ⌝ }
+{
+    if a < b { a } else { b }
+}
+
+fn answer(found: Offence, h: Header) -> Reading
+    ensures { λ r. ⌜ paper.heard r ≡ paper.answerOf found h ⌝ }
+{
+    match found {
+        Offence::Clean => Reading::Accepted(h),
+        Offence::At(place) => Reading::Refused(place),
+    }
+}
+
+pub fn read(page: &[u8], request: Request) -> Reading
+    ensures { λ r. ⌜ paper.heard r ≡ paper.readOf (now (page .entry)) request ⌝ }
+{
+    if request.is_refused() {
+        return Reading::Refused(0);
+    }
+    if page.len() != 512 * (request.count.0 as usize) {
+        return Reading::Refused(0);
+    }
+    let h = Header::read(page, Order::Little);
+    if h.returned != smaller(h.number, 16 * (request.count.0 as u32) - 1) {
+        return Reading::Refused(4);
+    }
+    answer(check_contents(page, request, h.returned, Order::Little), h)
+}
+
+// Descriptor k of a page; outside at or above returned. A byte past the end counts as 0.
+pub fn descriptor(page: &[u8], k: u32) -> Slot
+    ensures { λ r. ⌜ r ≡ paper.slotOf (now (page .entry)) k ⌝ }
+{
+    let h = Header::read(page, Order::Little);
+    if h.returned <= k {
+        return Slot::Outside;
+    }
+    let base = 32 + 32 * (k as usize);
+    Slot::Holds(Descriptor::read(words::tail(page, base), Order::Little))
+}
