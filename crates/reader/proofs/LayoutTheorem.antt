@@ -19,7 +19,7 @@ use Rattle.words.specs.declared.Order.the-variants.{Little}
 use Rattle.words.specs.declared.Order.{Order}
 use Rattle.reader.specs.Checks.{baseOf, descriptorAt, lastBefore, inTurn, earned, checkOf, offenceAt, paddingAt, pageOffence}
 use Rattle.reader.specs.First.{unless, _orElse_, firstBelow}
-use Rattle.reader.specs.Layout.{Rule, rule, below, Asked, Slow, descriptorRules, listRules, paddingRules, pageRules}
+use Rattle.reader.specs.Layout.{Rule, rule, below, Asked, InFilter, descriptorRules, rulesAt, paddingRules, pageRules}
 use Rattle.reader.specs.Promises.{Takes-exactly, Refuses-exactly}
 use Rattle.reader.specs.Reading.{Values, header, place, answerOf, readOf}
 use Rattle.reader.specs.declared.Offence.the-variants.{Clean, At}
@@ -63,16 +63,16 @@ module _ (q : Request) (last id : ℕ) where
   turn-from : (1 ≤ id) × (startOf q ≤ id) × (last < id) → inTurn q last id ≡ true
   turn-from (some, from, after) = rw (ne-eqb id 0 (omega arith), le-leb (startOf q) id from, lt-ltb last id after)
 
-slow-to : (h : ℕ) → ((leb 0x65 h && leb h 0xCF) || eqb h 0xFF) ≡ true → Slow h
-slow-to h e =
+in-filter-to : (h : ℕ) → ((leb 0x65 h && leb h 0xCF) || eqb h 0xFF) ≡ true → InFilter h
+in-filter-to h e =
     ⊎-elim
     (λ x. let b = and-both (leb 0x65 h) (leb h 0xCF) x in inl (leb-true _ _ (b .0), leb-true _ _ (b .1)))
     (λ x. inr (eqb-true _ _ x))
     (or-either (leb 0x65 h && leb h 0xCF) (eqb h 0xFF) e)
 
-slow-from : (h : ℕ) → Slow h → ((leb 0x65 h && leb h 0xCF) || eqb h 0xFF) ≡ true
-slow-from h (inl (low, high)) = rw (le-leb 0x65 h low, le-leb h 0xCF high)
-slow-from h (inr e) = rw (eq-eqb h 0xFF e, or-true)
+in-filter-from : (h : ℕ) → InFilter h → ((leb 0x65 h && leb h 0xCF) || eqb h 0xFF) ≡ true
+in-filter-from h (inl (low, high)) = rw (le-leb 0x65 h low, le-leb h 0xCF high)
+in-filter-from h (inr e) = rw (eq-eqb h 0xFF e, or-true)
 
 module _ (q : Request) (d : Descriptor) where
   earned-to : earned d ≡ true → d .restorable ≡ true → d .health ≡ 0xFF
@@ -87,13 +87,13 @@ module _ (q : Request) (d : Descriptor) where
   type-from : (reportTypeOf q ≡ 1 → d .kind ≡ 1) → takesType (reportTypeOf q) (d .kind) ≡ true
   type-from f = implies (eqb (reportTypeOf q) 1) (eqb (d .kind) 1) (λ y. eq-eqb _ _ (f (eqb-true _ _ y)))
 
-  health-to : takesHealth (filterOf q) (d .health) ≡ true → filterOf q ≡ 1 → Slow (d .health)
+  health-to : takesHealth (filterOf q) (d .health) ≡ true → filterOf q ≡ 1 → InFilter (d .health)
   unfolding takesHealth
-  health-to e y = slow-to (d .health) (implied (eqb (filterOf q) 1) _ e (eq-eqb _ _ y))
+  health-to e y = in-filter-to (d .health) (implied (eqb (filterOf q) 1) _ e (eq-eqb _ _ y))
 
-  health-from : (filterOf q ≡ 1 → Slow (d .health)) → takesHealth (filterOf q) (d .health) ≡ true
+  health-from : (filterOf q ≡ 1 → InFilter (d .health)) → takesHealth (filterOf q) (d .health) ≡ true
   unfolding takesHealth
-  health-from f = implies (eqb (filterOf q) 1) _ (λ y. slow-from (d .health) (f (eqb-true _ _ y)))
+  health-from f = implies (eqb (filterOf q) 1) _ (λ y. in-filter-from (d .health) (f (eqb-true _ _ y)))
 
 -- ## The checks decide the rules
 
@@ -108,8 +108,8 @@ next-same : (a b p : ℕ) (c : Offence) (rs : List Rule) → Decides c rs → De
 next-same a b p = next (eqb a b) (rule p (a ≡ b)) (eqb-true a b) (eq-eqb a b)
 
 module _ (o : Order) (s : List ℕ) (q : Request) where
-  list-decides : (n : ℕ) → Decides (firstBelow n (offenceAt o s q)) (below n (listRules o s q))
-  list-decides n = all-below n (offenceAt o s q) (listRules o s q) (λ k. descriptor-decides q (lastBefore o s k) (baseOf k) (descriptorAt o s k))
+  list-decides : (n : ℕ) → Decides (firstBelow n (offenceAt o s q)) (below n (rulesAt o s q))
+  list-decides n = all-below n (offenceAt o s q) (rulesAt o s q) (λ k. descriptor-decides q (lastBefore o s k) (baseOf k) (descriptorAt o s k))
 
   padding-decides : (n from : ℕ) → Decides (firstBelow n (paddingAt s from)) (below n (paddingRules s from))
   padding-decides n from =
@@ -121,7 +121,7 @@ module _ (o : Order) (s : List ℕ) (q : Request) where
       let n = headerIn o s .returned in
       let list : Offence = firstBelow n (offenceAt o s q) in
       let padding : Offence = firstBelow (length s - baseOf n) (paddingAt s (baseOf n)) in
-      let rest : List Rule = below n (listRules o s q) ++ below (length s - baseOf n) (paddingRules s (baseOf n)) in
+      let rest : List Rule = below n (rulesAt o s q) ++ below (length s - baseOf n) (paddingRules s (baseOf n)) in
       next (not (refused q)) (rule 0 (Asked q)) (asked-to q) (asked-from q) _ _
       (next-same (length s) (512 * pagesOf q) 0 _ _
       (next-same n (returnedOf (headerIn o s .number) (pagesOf q)) 4 (list orElse padding) rest

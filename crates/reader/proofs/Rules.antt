@@ -15,7 +15,7 @@ Decides (At p) rs = FirstBroken rs p
 
 -- ## Put together
 
-pub one : (t : Bool) (r : Rule) → (t ≡ true → r .Holds) → (r .Holds → t ≡ true) → Decides (unless t (r .place)) (r ∷ [])
+pub one : (t : Bool) (r : Rule) → (t ≡ true → r .Says) → (r .Says → t ≡ true) → Decides (unless t (r .place)) (r ∷ [])
 one true r to from = (to refl, tt)
 one false r to from = inl (λ h. false≢true (from h), refl)
 
@@ -38,7 +38,7 @@ join Clean (At p) rs ss v w = first-after rs ss p v w
 join (At p) b rs ss v w = first-in rs ss p v
 
 -- a rule more in front
-pub next : (t : Bool) (r : Rule) → (t ≡ true → r .Holds) → (r .Holds → t ≡ true)
+pub next : (t : Bool) (r : Rule) → (t ≡ true → r .Says) → (r .Says → t ≡ true)
     → (b : Offence) (rs : List Rule) → Decides b rs → Decides (unless t (r .place) orElse b) (r ∷ rs)
 next t r to from b rs v = join (unless t (r .place)) b (r ∷ []) rs (one t r to from) v
 

@@ -27,7 +27,7 @@ abbrev pub lastBefore : Order → List ℕ → ℕ → ℕ
 lastBefore o s zero = 0
 lastBefore o s (suc k) = descriptorAt o s k .id .0
 
--- not: "identifier 0, below the start, or not above the one before"
+-- none of: "identifier 0, below the start, or not above the one before"
 abbrev pub inTurn : Request → ℕ → ℕ → Bool
 inTurn q last id = not (eqb id 0) && (takesId q id && ltb last id)
 

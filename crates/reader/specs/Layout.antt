@@ -14,20 +14,20 @@ use Rattle.reader.specs.Checks.{baseOf, descriptorAt, lastBefore}
 
 pub record Rule : Type 1 where
   pub place : ℕ
-  pub Holds : Type 0
+  pub Says : Type 0
 
 abbrev pub rule : ℕ → Type 0 → Rule
-rule p H = record { place = p; Holds = H }
+rule p S = record { place = p; Says = S }
 
 -- ## Rules kept, and the first that is broken
 
 abbrev pub Each : List Rule → Type 0
 Each [] = Unit {0}
-Each (r ∷ rs) = r .Holds × Each rs
+Each (r ∷ rs) = r .Says × Each rs
 
 abbrev pub FirstBroken : List Rule → ℕ → Type 0
 FirstBroken [] p = ⊥
-FirstBroken (r ∷ rs) p = ((r .Holds → ⊥) × (r .place ≡ p)) ⊎ (r .Holds × FirstBroken rs p)
+FirstBroken (r ∷ rs) p = ((r .Says → ⊥) × (r .place ≡ p)) ⊎ (r .Says × FirstBroken rs p)
 
 -- the rules of 0, 1, .., n - 1
 abbrev pub below : ℕ → (ℕ → List Rule) → List Rule
@@ -36,25 +36,27 @@ below (suc n) g = below n g ++ g n
 
 -- ## The rules
 
--- a request that does not get 4
+-- not: "A request that would get 4"
 abbrev pub Asked : Request → Type 0
 Asked q = (filterOf q ≤ 1) × (reportTypeOf q ≤ 1) × (1 ≤ pagesOf q)
 
-abbrev pub Slow : ℕ → Type 0
-Slow health = ((0x65 ≤ health) × (health ≤ 0xCF)) ⊎ (health ≡ 0xFF)
+-- "65h to CFh, or FFh"
+abbrev pub InFilter : ℕ → Type 0
+InFilter health = ((0x65 ≤ health) × (health ≤ 0xCF)) ⊎ (health ≡ 0xFF)
 
--- of a descriptor that starts at `base`, after the identifier `last`
+-- of a descriptor that starts at `base`, after the identifier `last`: its bytes 4, 13, 14 and 15
 abbrev pub descriptorRules : Request → ℕ → ℕ → Descriptor → List Rule
 descriptorRules q last base d =
     rule (base + 4) ((1 ≤ d .id .0) × (startOf q ≤ d .id .0) × (last < d .id .0))
     ∷ rule (base + 13) (d .restorable ≡ true → d .health ≡ 0xFF)
     ∷ rule (base + 14) (reportTypeOf q ≡ 1 → d .kind ≡ 1)
-    ∷ rule (base + 15) (filterOf q ≡ 1 → Slow (d .health))
+    ∷ rule (base + 15) (filterOf q ≡ 1 → InFilter (d .health))
     ∷ []
 
-abbrev pub listRules : Order → List ℕ → Request → ℕ → List Rule
-listRules o s q k = descriptorRules q (lastBefore o s k) (baseOf k) (descriptorAt o s k)
+abbrev pub rulesAt : Order → List ℕ → Request → ℕ → List Rule
+rulesAt o s q k = descriptorRules q (lastBefore o s k) (baseOf k) (descriptorAt o s k)
 
+-- not: "non-zero padding byte"
 abbrev pub paddingRules : List ℕ → ℕ → ℕ → List Rule
 paddingRules s from i = rule (from + i) (getD s (from + i) 0 ≡ 0) ∷ []
 
@@ -64,4 +66,4 @@ pageRules o s q =
     rule 0 (Asked q)
     ∷ rule 0 (length s ≡ 512 * pagesOf q)
     ∷ rule 4 (h .returned ≡ returnedOf (h .number) (pagesOf q))
-    ∷ (below (h .returned) (listRules o s q) ++ below (length s - baseOf (h .returned)) (paddingRules s (baseOf (h .returned))))
+    ∷ (below (h .returned) (rulesAt o s q) ++ below (length s - baseOf (h .returned)) (paddingRules s (baseOf (h .returned))))

@@ -21,7 +21,7 @@ pub data Values : Type 0 where
   header : Header → Values
   place : ℕ → Values
 
--- "refused 9 at .. the place"
+-- "9 page refused, with a byte place"
 abbrev pub heard : Reading → Told Values
 heard (Accepted h) = tells 0 (header h)
 heard (Refused p) = tells 9 (place p)

@@ -135,6 +135,7 @@ fn answer(found: Offence, h: Header) -> Reading
     }
 }
 
+// A page as the answer to a request.
 pub fn read(page: &[u8], request: Request) -> Reading
     ensures { λ r. ⌜ paper.heard r ≡ paper.readOf (now (page .entry)) request ⌝ }
 {
