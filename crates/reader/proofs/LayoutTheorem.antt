@@ -28,7 +28,7 @@ use Rattle.reader.proofs.Rules.{Decides, one, join, next, all-below, cl
 
 -- ## Each test and its rule
 
-and-both : (a b : Bool) → (a && b) ≡ true → (a ≡ true) × (b ≡ true)
+pub and-both : (a b : Bool) → (a && b) ≡ true → (a ≡ true) × (b ≡ true)
 and-both true b e = (refl, e)
 and-both false b e = absurd (false≢true e)
 
@@ -81,13 +81,13 @@ module _ (q : Request) (d : Descriptor) where
   earned-from : (d .restorable ≡ true → d .health ≡ 0xFF) → earned d ≡ true
   earned-from f = implies (d .restorable) (eqb (d .health) 0xFF) (λ y. eq-eqb _ _ (f y))
 
-  type-to : takesType (reportTypeOf q) (d .kind) ≡ true → reportTypeOf q ≡ 1 → d .kind ≡ 1
+  pub type-to : takesType (reportTypeOf q) (d .kind) ≡ true → reportTypeOf q ≡ 1 → d .kind ≡ 1
   type-to e y = eqb-true _ _ (implied (eqb (reportTypeOf q) 1) (eqb (d .kind) 1) e (eq-eqb _ _ y))
 
   type-from : (reportTypeOf q ≡ 1 → d .kind ≡ 1) → takesType (reportTypeOf q) (d .kind) ≡ true
   type-from f = implies (eqb (reportTypeOf q) 1) (eqb (d .kind) 1) (λ y. eq-eqb _ _ (f (eqb-true _ _ y)))
 
-  health-to : takesHealth (filterOf q) (d .health) ≡ true → filterOf q ≡ 1 → InFilter (d .health)
+  pub health-to : takesHealth (filterOf q) (d .health) ≡ true → filterOf q ≡ 1 → InFilter (d .health)
   unfolding takesHealth
   health-to e y = in-filter-to (d .health) (implied (eqb (filterOf q) 1) _ e (eq-eqb _ _ y))
 

@@ -1,9 +1,10 @@
 -- A check that decides a list of rules: clean where each holds, else at the place of the first that is broken.
-use Prim.Native.Nat.{ℕ, zero, suc}
+use Prim.Native.Nat.{ℕ, zero, suc, _<_}
 use mathlib.Core.Bool.{Bool, true, false, false≢true}
 use mathlib.Core.List.{List, [], _∷_, _++_}
 use mathlib.Core.Logic.{inl, inr}
 use mathlib.Core.Path.{_≡_, refl, sym, ap, _∙_}
+use native.Mathlib.Omega.{arith}
 use Rattle.reader.specs.First.{unless, _orElse_, firstBelow}
 use Rattle.reader.specs.Layout.{Rule, Each, FirstBroken, below}
 use Rattle.reader.specs.declared.Offence.the-variants.{Clean, At}
@@ -19,7 +20,7 @@ pub one : (t : Bool) (r : Rule) → (t ≡ true → r .Says) → (r .Says → t 
 one true r to from = (to refl, tt)
 one false r to from = inl (λ h. false≢true (from h), refl)
 
-each-both : (rs ss : List Rule) → Each rs → Each ss → Each (rs ++ ss)
+pub each-both : (rs ss : List Rule) → Each rs → Each ss → Each (rs ++ ss)
 each-both [] ss e f = f
 each-both (r ∷ rs) ss (h, e) f = (h, each-both rs ss e f)
 
@@ -45,6 +46,10 @@ next t r to from b rs v = join (unless t (r .place)) b (r ∷ []) rs (one t r to
 pub all-below : (n : ℕ) (f : ℕ → Offence) (g : ℕ → List Rule) → ((k : ℕ) → Decides (f k) (g k)) → Decides (firstBelow n f) (below n g)
 all-below zero f g v = tt
 all-below (suc n) f g v = join (firstBelow n f) (f n) (below n g) (g n) (all-below n f g v) (v n)
+
+pub each-below : (n : ℕ) (g : ℕ → List Rule) → ((k : ℕ) → k < n → Each (g k)) → Each (below n g)
+each-below zero g v = tt
+each-below (suc n) g v = each-both (below n g) (g n) (each-below n g (λ k l. v k (omega arith))) (v n (omega arith))
 
 -- ## Decided one way only
 

@@ -1,0 +1,4 @@
+-- What is proved of the device and the reader together.
+
+pub mod Agreement
+pub mod Lists

@@ -1,0 +1,3 @@
+-- The device and the reader together.
+
+pub mod Agreement
