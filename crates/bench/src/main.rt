@@ -1,5 +1,5 @@
-// Two pages of document 01's bench, asked with FEATURE 4100h, COUNT 1, LBA 0 over a buffer of two pages: that of 16 matching elements,
-// and G1. What the program must write, read off document 01, is in `stdout`.
+// Document 01's bench through the front call: the page of 16 matching elements and that of G1, asked with FEATURE 4100h, COUNT 1, LBA 0
+// over a buffer of two pages; the media accesses after R1, R5 and R6. What the program must write, read off document 01, is in `stdout`.
 use device::Device;
 use device::Mark;
 use device::Note;
@@ -147,6 +147,50 @@ fn ask(offered: Table, buf: &mut [u8]) {
     print_touched(words::tail(buf, 512));
 }
 
+fn step(d: Device) -> Device {
+    let s = d.step();
+    s.device
+}
+
+fn four_steps(d: Device) -> Device {
+    step(step(step(step(d))))
+}
+
+// Device A with R1's removal accepted, and two steps made.
+fn two_steps_in() -> Device {
+    let made = device::make_device(nothing(), device_a());
+    let d = made.device;
+    let taken = d.remove(Security::Unlocked, 1, 3, Lba(0));
+    step(step(taken.device))
+}
+
+// After a cut: four steps.
+fn cut(d: Device) -> Device {
+    let s = d.power_cut();
+    four_steps(s.device)
+}
+
+// 25h, a read: the number that it gets.
+fn print_access(d: Device, name: &[u8], lba: u64, count: u16) {
+    let mut none = [0u8; 0];
+    let s = commands::command(d, Security::Unlocked, 0x25, 0, count, Lba(lba), &mut none);
+    let answer = s.answer;
+    print_answer(name, answer);
+}
+
+fn print_accesses() {
+    let r1 = step(step(step(two_steps_in())));
+    print_access(r1, b"after R1, LBA 2499 COUNT 1: ", 2499, 1);
+    print_access(r1, b"after R1, LBA 2499 COUNT 2: ", 2499, 2);
+    print_access(cut(two_steps_in()), b"after R5, LBA 0 COUNT 1: ", 0, 1);
+    print_access(
+        cut(step(two_steps_in())),
+        b"after R6, LBA 0 COUNT 1: ",
+        0,
+        1,
+    );
+}
+
 fn main() {
     let mut full = [0xA5u8; 1024];
     word(b"16 matching elements, one page\n");
@@ -157,4 +201,6 @@ fn main() {
     word(b"G1\n");
     ask(device_a(), &mut g1);
     print_descriptor(b"only ", &g1, 32);
+    word(b"media access\n");
+    print_accesses();
 }

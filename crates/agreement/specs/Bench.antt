@@ -1,0 +1,64 @@
+-- Document 01's bench examples R1 to R8 and G1 to G4 as one table: a row of the device, and what the last command leaves in the lent buffer.
+use Prim.Native.Nat.{ℕ}
+use mathlib.Core.Bool.{Bool, true, false, _&&_}
+use mathlib.Core.List.{List, [], _∷_, _++_, map}
+use lib.Dec.{eqb}
+use lib.ListN.{replicate}
+use Rattle.commands.specs.Lent.{lent}
+use Rattle.device.specs.Examples.{Row, row, rows, holds, run, deviceA, asBuilt}
+use Rattle.device.specs.Machine.{Event, command, step, mediaError, powerCut, comreset, hardwareReset, softwareReset, grade}
+use Rattle.device.specs.declared.Device.{Device}
+use Rattle.paper.specs.declared.Security.the-variants.{Unlocked}
+
+pub record Example : Type 0 where
+  pub line : Row
+  pub before : List ℕ
+  pub after : List ℕ
+
+-- only a command is lent a buffer
+abbrev pub leaves : Device → Event → List ℕ → List ℕ
+leaves d (command s code feature count lba room) buf = lent d s code feature count lba buf
+leaves d step buf = buf
+leaves d mediaError buf = buf
+leaves d powerCut buf = buf
+leaves d comreset buf = buf
+leaves d hardwareReset buf = buf
+leaves d softwareReset buf = buf
+leaves d (grade id h) buf = buf
+
+abbrev pub same : List ℕ → List ℕ → Bool
+same [] [] = true
+same [] (y ∷ ys) = false
+same (x ∷ xs) [] = false
+same (x ∷ xs) (y ∷ ys) = eqb x y && same xs ys
+
+abbrev pub shows : Example → Bool
+shows x =
+    holds (x .line) && same (leaves (run (x .line .device) (x .line .before)) (x .line .event) (x .before)) (x .after)
+
+-- without a buffer
+abbrev pub bare : Row → Example
+bare r = record { line = r; before = []; after = [] }
+
+-- 12h on device A, over a page of A5h: the number, and the bytes afterwards
+abbrev pub old : List ℕ
+old = replicate 512 0xA5
+
+abbrev pub get : ℕ → ℕ → ℕ → ℕ → List ℕ → Example
+get feature count lba number bytes =
+    record { line = row deviceA [] (command Unlocked 0x12 feature count (record { 0 = lba }) 512) number 2999 asBuilt false false; before = old; after = bytes }
+
+abbrev pub zeros : ℕ → List ℕ
+zeros n = replicate n 0
+
+abbrev pub examples : List Example
+examples =
+    map bare rows
+    -- G1: "one descriptor, 0001_0003h; its bytes 4..7 are 03 00 01 00, 16..17 are F4 01"
+    ++ (get 0x4100 1 0 0 ((1 ∷ zeros 3) ++ (1 ∷ zeros 7) ++ (2 ∷ zeros 23) ++ (0x03 ∷ 0x00 ∷ 0x01 ∷ 0x00 ∷ zeros 6) ++ (0x01 ∷ 0x70 ∷ 0xF4 ∷ 0x01 ∷ zeros 462))
+    -- G2: "N = 0, only byte 12 (02h) non-zero"
+    ∷ get 0x4100 1 0x1_0000_0000 0 (zeros 12 ++ (0x02 ∷ zeros 499))
+    -- G3, G4
+    ∷ get 0x4100 0 0 4 old
+    ∷ get 0x8000 1 0 4 old
+    ∷ [])
