@@ -1,4 +1,4 @@
--- The definitions compute each of the twelve examples.
+-- The definitions compute each row of the twelve examples.
 use mathlib.Core.Bool.{true}
 use mathlib.Core.Path.{_≡_, refl}
 use Rattle.device.specs.Cells.{isSet}

@@ -1,5 +1,5 @@
 // Document 01's bench through the front call: the page of 16 matching elements and that of G1, asked with FEATURE 4100h, COUNT 1, LBA 0
-// over a buffer of two pages; the media accesses after R1, R5 and R6. What the program must write, read off document 01, is in `stdout`.
+// over a buffer of two pages; the media accesses after R1, R5 and R6. What the program must write is in `stdout`.
 use device::Device;
 use device::Mark;
 use device::Note;
