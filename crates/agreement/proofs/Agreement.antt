@@ -109,34 +109,34 @@ module _ (d : Device) (q : Request) (fits : Fits d) (asc : ascending 0 (live (d 
   abbrev zeros : List ℕ
   zeros = replicate (512 * pagesOf q - 32 * (n + 1)) 0
 
-  parts : pageOf d q ≡ first ++ (flat page.descriptorAt listed ++ zeros)
+  parts : pageOf d q ≡ first ++ (flat page.elementBytes listed ++ zeros)
   unfolding pageOf
-  parts = append-assoc first (flat page.descriptorAt listed) zeros
+  parts = append-assoc first (flat page.elementBytes listed) zeros
 
   listed-length : length listed ≡ n
   listed-length = length-take (roomOf (pagesOf q)) (listOf d q) ∙ min-comm (roomOf (pagesOf q)) (length (listOf d q))
 
   header-here : headerIn Little (pageOf d q) ≡ headerOf d q
-  header-here = ap (headerIn Little) parts ∙ header-back Little (headerOf d q) (flat page.descriptorAt listed ++ zeros) header-fits
+  header-here = ap (headerIn Little) parts ∙ header-back Little (headerOf d q) (flat page.elementBytes listed ++ zeros) header-fits
 
   descriptor-here : (k : ℕ) → k < n → checks.descriptorAt Little (pageOf d q) k ≡ descriptorOf (getD (listOf d q) k blank)
   descriptor-here k l =
       let e = getD (listOf d q) k blank in
       let same : getD listed k blank ≡ e = getD-take (roomOf (pagesOf q)) (listOf d q) k blank (omega arith) in
       let fit : ElementFits e = every-at ElementFits (listOf d q) k blank (omega arith) list-fits in
-      let here : drop (baseOf k) (pageOf d q) ≡ page.descriptorAt e ++ after page.descriptorAt 32 wide listed k zeros =
+      let here : drop (baseOf k) (pageOf d q) ≡ page.elementBytes e ++ after page.elementBytes 32 wide listed k zeros =
       ap (drop (baseOf k)) parts
-      ∙ drop-append-add first (flat page.descriptorAt listed ++ zeros) (32 * k)
-      ∙ flat-at page.descriptorAt 32 wide listed k blank zeros (omega (arith, listed-length))
-      ∙ ap (λ (x : Element). page.descriptorAt x ++ after page.descriptorAt 32 wide listed k zeros) same in
-      ap (descriptorIn Little) here ∙ descriptor-back Little (descriptorOf e) (after page.descriptorAt 32 wide listed k zeros) (descriptor-fits e fit)
+      ∙ drop-append-add first (flat page.elementBytes listed ++ zeros) (32 * k)
+      ∙ flat-at page.elementBytes 32 wide listed k blank zeros (omega (arith, listed-length))
+      ∙ ap (λ (x : Element). page.elementBytes x ++ after page.elementBytes 32 wide listed k zeros) same in
+      ap (descriptorIn Little) here ∙ descriptor-back Little (descriptorOf e) (after page.elementBytes 32 wide listed k zeros) (descriptor-fits e fit)
 
   padding-here : (i : ℕ) → i < length (pageOf d q) - baseOf n → getD (pageOf d q) (baseOf n + i) 0 ≡ 0
   padding-here i l =
       let whole = whole-pages d q (accepted q ok .2) in
-      let front : List ℕ = first ++ flat page.descriptorAt listed in
-      let long : length front ≡ baseOf n = rw (length-append, length-flat page.descriptorAt 32 wide listed, listed-length) in
-      let same : pageOf d q ≡ front ++ zeros = parts ∙ sym (append-assoc first (flat page.descriptorAt listed) zeros) in
+      let front : List ℕ = first ++ flat page.elementBytes listed in
+      let long : length front ≡ baseOf n = rw (length-append, length-flat page.elementBytes 32 wide listed, listed-length) in
+      let same : pageOf d q ≡ front ++ zeros = parts ∙ sym (append-assoc first (flat page.elementBytes listed) zeros) in
       ap (λ (s : List ℕ). getD s (baseOf n + i) 0) same
       ∙ subst (λ (m : ℕ). getD (front ++ zeros) (m + i) 0 ≡ 0) long
       (getD-append-add front zeros i 0 ∙ getD-replicate (512 * pagesOf q - 32 * (n + 1)) i 0 0 (omega (arith, whole)))

@@ -7,8 +7,8 @@ use Rattle.layout.specs.Requests.{refused, takesHealth}
 use Rattle.status.specs.Page.{shownHealth, isRestorable, asks, listOf, pageOf}
 use Rattle.table.specs.Search.{find, change, storeIn}
 use Rattle.words.specs.Lists.{all}
-use Rattle.agreement.specs.Bench.{shows, examples}
+use Rattle.agreement.specs.Bench.{asSaid, examples}
 
-pub twelve : all shows examples ≡ true
+pub twelve : all asSaid examples ≡ true
 unfolding find change storeIn isSet judgeRoom judgeFound refused takesHealth shownHealth isRestorable asks listOf pageOf
 twelve = refl

@@ -1,6 +1,6 @@
 -- What holds of each element of a list, of those kept, and of the one at a place; a part of a flattened list.
 use Prim.Native.Nat.{ℕ, zero, suc, _+_, _*_, _≤_, _<_}
-use mathlib.Core.Bool.{Bool, true, false, cond, _&&_, false≢true}
+use mathlib.Core.Bool.{Bool, true, false, cond}
 use mathlib.Core.List.{List, [], _∷_, _++_, append-assoc}
 use mathlib.Core.Path.{_≡_, refl, _∙_, subst}
 use native.Mathlib.Nat.{mul-suc, add-comm, not-suc-le-zero, le-of-suc-le-suc, mul-zero}
@@ -9,6 +9,7 @@ use lib.Dec.{ltb}
 use lib.ListN.{length, getD, take, drop}
 use lib.Seq.{drop-append-add}
 use borrow.Author.Tests.{lt-ltb, ltb-true}
+use Rattle.reader.proofs.LayoutTheorem.{and-both}
 use Rattle.table.specs.Check.{ascending}
 use Rattle.table.specs.Elements.{blank}
 use Rattle.table.specs.declared.Element.{Element}
@@ -44,21 +45,17 @@ kept-all {A} f (x ∷ xs) = one (f x) refl (kept-all f xs)
 
 -- ## Ascending
 
-both : (a b : Bool) → (a && b) ≡ true → (a ≡ true) × (b ≡ true)
-both true b e = (refl, e)
-both false b e = absurd (false≢true e)
-
 ascending-from : (low high : ℕ) (l : List Element) → low ≤ high → ascending high l ≡ true → ascending low l ≡ true
 ascending-from low high [] h e = refl
 ascending-from low high (x ∷ xs) h e =
-    let b = both (ltb high (x .id .0)) (ascending (x .id .0) xs) e in
+    let b = and-both (ltb high (x .id .0)) (ascending (x .id .0) xs) e in
     let up = ltb-true high (x .id .0) (b .0) in
     rw (lt-ltb low (x .id .0) (omega (arith, up))) (b .1)
 
 pub ascending-keep : (f : Element → Bool) (low : ℕ) (l : List Element) → ascending low l ≡ true → ascending low (keep f l) ≡ true
 ascending-keep f low [] e = refl
 ascending-keep f low (x ∷ xs) e =
-    let b = both (ltb low (x .id .0)) (ascending (x .id .0) xs) e in
+    let b = and-both (ltb low (x .id .0)) (ascending (x .id .0) xs) e in
     one (f x) (b .0) (ascending-keep f (x .id .0) xs (b .1))
   where
     one : (t : Bool) → ltb low (x .id .0) ≡ true → ascending (x .id .0) (keep f xs) ≡ true → ascending low (cond t (x ∷ keep f xs) (keep f xs)) ≡ true
@@ -72,9 +69,9 @@ before low l (suc k) = getD l k blank .id .0
 
 pub ascending-at : (low : ℕ) (l : List Element) (k : ℕ) → k < length l → ascending low l ≡ true → before low l k < getD l k blank .id .0
 ascending-at low [] k h e = absurd (not-suc-le-zero h)
-ascending-at low (x ∷ xs) zero h e = ltb-true low (x .id .0) (both (ltb low (x .id .0)) (ascending (x .id .0) xs) e .0)
-ascending-at low (x ∷ xs) (suc zero) h e = ascending-at (x .id .0) xs 0 (le-of-suc-le-suc h) (both (ltb low (x .id .0)) (ascending (x .id .0) xs) e .1)
-ascending-at low (x ∷ xs) (suc (suc k)) h e = ascending-at (x .id .0) xs (suc k) (le-of-suc-le-suc h) (both (ltb low (x .id .0)) (ascending (x .id .0) xs) e .1)
+ascending-at low (x ∷ xs) zero h e = ltb-true low (x .id .0) (and-both (ltb low (x .id .0)) (ascending (x .id .0) xs) e .0)
+ascending-at low (x ∷ xs) (suc zero) h e = ascending-at (x .id .0) xs 0 (le-of-suc-le-suc h) (and-both (ltb low (x .id .0)) (ascending (x .id .0) xs) e .1)
+ascending-at low (x ∷ xs) (suc (suc k)) h e = ascending-at (x .id .0) xs (suc k) (le-of-suc-le-suc h) (and-both (ltb low (x .id .0)) (ascending (x .id .0) xs) e .1)
 
 -- ## A part of a flattened list
 

@@ -33,13 +33,13 @@ same [] (y ∷ ys) = false
 same (x ∷ xs) [] = false
 same (x ∷ xs) (y ∷ ys) = eqb x y && same xs ys
 
-abbrev pub shows : Example → Bool
-shows x =
+abbrev pub asSaid : Example → Bool
+asSaid x =
     holds (x .line) && same (leaves (run (x .line .device) (x .line .before)) (x .line .event) (x .before)) (x .after)
 
 -- without a buffer
-abbrev pub bare : Row → Example
-bare r = record { line = r; before = []; after = [] }
+abbrev pub unlent : Row → Example
+unlent r = record { line = r; before = []; after = [] }
 
 -- 12h on device A, over a page of A5h: the number, and the bytes afterwards
 abbrev pub old : List ℕ
@@ -54,7 +54,7 @@ zeros n = replicate n 0
 
 abbrev pub examples : List Example
 examples =
-    map bare rows
+    map unlent rows
     -- G1: "one descriptor, 0001_0003h; its bytes 4..7 are 03 00 01 00, 16..17 are F4 01"
     ++ (get 0x4100 1 0 0 ((1 ∷ zeros 3) ++ (1 ∷ zeros 7) ++ (2 ∷ zeros 23) ++ (0x03 ∷ 0x00 ∷ 0x01 ∷ 0x00 ∷ zeros 6) ++ (0x01 ∷ 0x70 ∷ 0xF4 ∷ 0x01 ∷ zeros 462))
     -- G2: "N = 0, only byte 12 (02h) non-zero"

@@ -27,7 +27,7 @@ use Rattle.table.specs.declared.Element.{Element}
 use Rattle.words.proofs.Lists.{take-min, keep-yes, keep-no, lay, lay-part, length-flat}
 use Rattle.words.specs.Lists.{keep, flat}
 use Rattle.words.specs.declared.Order.the-variants.{Little}
-use Rattle.status.specs.Page.{shownHealth, isRestorable, capacityOf, descriptorOf, descriptorAt, asks, listOf, busyOf, headerOf, pageOf, shown}
+use Rattle.status.specs.Page.{shownHealth, isRestorable, capacityOf, descriptorOf, elementBytes, asks, listOf, busyOf, headerOf, pageOf, shown}
 
 -- ## An element
 
@@ -88,7 +88,7 @@ listed d q list n so = so
 
 -- ## The bytes
 
-pub wide : (e : Element) → length (descriptorAt e) ≡ 32
+pub wide : (e : Element) → length (elementBytes e) ≡ 32
 wide e = refl
 
 -- the three stores, one after the other: the header h, the descriptors f, the zeros z
@@ -114,18 +114,18 @@ module _ (d : Device) (q : Request) (list : List Element) (n r : ℕ) (so : take
     header : h ≡ headerBytes Little (headerOf d q)
     header = is-h ∙ rw (is-x, is-g, is-r, count)
 
-    pub filled : (b b₁ b₂ z : List ℕ) (m : ℕ) → b₁ ≡ paste b 0 h 32 → b₂ ≡ take 32 b₁ ++ flat descriptorAt (take r list) ++ drop (32 + 32 * r) b₁
+    pub filled : (b b₁ b₂ z : List ℕ) (m : ℕ) → b₁ ≡ paste b 0 h 32 → b₂ ≡ take 32 b₁ ++ flat elementBytes (take r list) ++ drop (32 + 32 * r) b₁
         → z ≡ replicate m 0 → m ≡ 512 * pagesOf q - (32 + 32 * r)
         → putMid (32 + 32 * r) (512 * pagesOf q - (32 + 32 * r)) b₂ z ≡ pageOf d q ++ drop (512 * pagesOf q) b
     unfolding pageOf
     filled b b₁ b₂ z m is-b₁ is-b₂ is-z is-m =
-        let wide-list : length (flat descriptorAt (take r list)) ≡ 32 * r =
-        length-flat descriptorAt 32 wide (take r list) ∙ rw (length-take-le r list (omega arith)) in
+        let wide-list : length (flat elementBytes (take r list)) ≡ 32 * r =
+        length-flat elementBytes 32 wide (take r list) ∙ rw (length-take-le r list (omega arith)) in
         let returned : headerOf d q .returned ≡ r = rw (is-r, count) in
         let zeros : 512 * pagesOf q - 32 * (headerOf d q .returned + 1) ≡ m = rw returned (omega arith) in
         let whole : 32 + 32 * r + (512 * pagesOf q - (32 + 32 * r)) ≡ 512 * pagesOf q = omega arith in
         rw (is-b₂, is-b₁)
-        (stores h (flat descriptorAt (take r list)) z b r (512 * pagesOf q - (32 + 32 * r)) (rw is-h) wide-list
+        (stores h (flat elementBytes (take r list)) z b r (512 * pagesOf q - (32 + 32 * r)) (rw is-h) wide-list
         ∙ rw (cut, zeros, whole, is-z, header))
 
 -- ## The answer, and the buffer

@@ -132,7 +132,7 @@ fn clear(part: &mut [u8])
 // Stores the descriptors of the first `returned` elements, behind the header.
 fn put_list(es: [Element; 128], returned: usize, buf: &mut [u8])
     requires { ⌜ (returned ≤ 128) × (32 + 32 * returned ≤ length (now buf)) ⌝ }
-    ensures { λ _. ⌜ now (buf .exit) ≡ take 32 (now (buf .entry)) ++ flat page.descriptorAt (take returned es) ++ drop (32 + 32 * returned) (now (buf .entry)) ⌝ }
+    ensures { λ _. ⌜ now (buf .exit) ≡ take 32 (now (buf .entry)) ++ flat page.elementBytes (take returned es) ++ drop (32 + 32 * returned) (now (buf .entry)) ⌝ }
 {
     let mut k = 0;
     while k < returned {

@@ -6,13 +6,13 @@ use lib.ListN.{length}
 use borrow.Author.Needs.{needs}
 use Rattle.table.specs.Elements.{blank}
 use Rattle.words.proofs.Lists.{laid, laid-none, laid-more}
-use Rattle.status.specs.Page.{descriptorAt}
+use Rattle.status.specs.Page.{elementBytes}
 use Rattle.status.proofs.Page.{wide}
 use Rattle.status.proofs.put_list.Statement.{statement}
 use Rattle.status.proofs.put_list.Tie as tie
 
 abbrev Inv-loop : tie.InvT-loop
-Inv-loop returned buf₀ es k₀ buf k = (buf ≡ laid descriptorAt 32 wide es buf₀ 32 k) × (k ≤ returned) × (length buf ≡ length buf₀) × (length es ≡ 128)
+Inv-loop returned buf₀ es k₀ buf k = (buf ≡ laid elementBytes 32 wide es buf₀ 32 k) × (k ≤ returned) × (length buf ≡ length buf₀) × (length es ≡ 128)
 
 abbrev μ-loop : tie.MeasureT-loop
 μ-loop returned buf₀ es k₀ buf k = returned - k
@@ -23,7 +23,7 @@ put-list-spec =
     (tie.spec
     Inv-loop
     μ-loop
-    (λ c. (laid-none descriptorAt 32 wide (c .before .args .t1) (c .before .args .buf .now) 32, search needs, search needs, c .before .good .0 .1 .0 .1))
+    (λ c. (laid-none elementBytes 32 wide (c .before .args .t1) (c .before .args .buf .now) 32, search needs, search needs, c .before .good .0 .1 .0 .1))
     (λ c. search needs)
     (λ c. search needs)
     (λ c κs. search needs)
@@ -41,7 +41,7 @@ put-list-spec =
     let bytes = c .before .before .before .before .before .bytes in (
       put .ensures
           ∙ rw (l .inv .0, bytes .ensures, described .ensures)
-          (laid-more descriptorAt 32 wide (s .args .t1) (s .args .buf .now) 32 (l .k) blank (omega (arith, s .pre)) (omega (arith, s .pre))),
+          (laid-more elementBytes 32 wide (s .args .t1) (s .args .buf .now) 32 (l .k) blank (omega (arith, s .pre)) (omega (arith, s .pre))),
       omega arith,
       put .kept .0 ∙ l .inv .2,
       l .inv .3,
