@@ -160,3 +160,22 @@ refuses-exactly s q p = (
   λ e. decided s q (At p) (refused-at (pageOffence Little s q) (headerIn Little s) p e),
   λ first. said s q (At p) (at-if (pageOffence Little s q) (pageRules Little s q) p (page-decides Little s q) first),
 )
+
+-- ## A header that was given
+
+tag : Values → ℕ
+tag (header h) = 0
+tag (place p) = 1
+
+given : Header → Values → Header
+given g (header h) = h
+given g (place p) = g
+
+header-of : (a : Offence) (g h : Header) → answerOf a g .state ≡ header h → (answerOf a g .number ≡ 0) × (g ≡ h)
+unfolding tag given
+header-of Clean g h e = (refl, ap (given g) e)
+header-of (At p) g h e = absurd (let no : _≡_ {A = ℕ} 1 0 = ap tag e in omega arith)
+
+-- it goes with 0, and is the page's
+pub with-header : (s : List ℕ) (q : Request) (h : Header) → readOf s q .state ≡ header h → (readOf s q .number ≡ 0) × (headerIn Little s ≡ h)
+with-header s q h = header-of (pageOffence Little s q) (headerIn Little s) h

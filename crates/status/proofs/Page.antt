@@ -5,7 +5,7 @@ use mathlib.Core.List.{List, _++_}
 use mathlib.Core.Path.{_≡_, refl, sym, ap, _∙_}
 use native.Mathlib.Omega.{arith}
 use lib.ListN.{length, take, drop, getD, set, replicate, length-append, length-set}
-use lib.Seq.{paste, take-all, length-take-le, take-take}
+use lib.Seq.{length-take-le, take-take}
 use borrow.Author.Tests.{lt-ltb, le-ltb}
 use borrow.Rule.Slice.PartMut.{putMid}
 use Rattle.device.specs.Remove.{aborts}
@@ -24,8 +24,8 @@ use Rattle.paper.specs.declared.ElementId.{ElementId}
 use Rattle.paper.specs.declared.Security.{Security}
 use Rattle.table.specs.Elements.{live, blank, removedCount}
 use Rattle.table.specs.declared.Element.{Element}
-use Rattle.words.proofs.Lists.{take-min, keep-yes, keep-no, lay, lay-part, length-flat}
-use Rattle.words.specs.Lists.{keep, flat}
+use Rattle.words.proofs.Lists.{take-min, keep-yes, keep-no, stored-two, lay-part, length-flat}
+use Rattle.words.specs.Lists.{keep, flat, stored}
 use Rattle.words.specs.declared.Order.the-variants.{Little}
 use Rattle.status.specs.Page.{shownHealth, isRestorable, capacityOf, descriptorOf, elementBytes, asks, listOf, busyOf, headerOf, pageOf, shown}
 
@@ -91,13 +91,6 @@ listed d q list n so = so
 pub wide : (e : Element) → length (elementBytes e) ≡ 32
 wide e = refl
 
--- the three stores, one after the other: the header h, the descriptors f, the zeros z
-stores : (h f z b : List ℕ) (a k : ℕ) → length h ≡ 32 → length f ≡ 32 * a
-    → putMid (32 + 32 * a) k (take 32 (paste b 0 h 32) ++ f ++ drop (32 + 32 * a) (paste b 0 h 32)) z ≡ h ++ f ++ z ++ drop (32 + 32 * a + k) b
-stores h f z b a k is-h is-f =
-    rw (take-all 32 h (omega arith), lay h f b 32 (32 * a) is-h)
-    (lay-part (h ++ f) z b (32 + 32 * a) k (rw length-append (omega arith)))
-
 -- what the calls ensure, put together
 module _ (d : Device) (q : Request) (list : List Element) (n r : ℕ) (so : take n list ≡ listOf d q) (few : n ≤ 128) (long : length list ≡ 128)
     (is-r : r ≡ returnedOf n (pagesOf q)) (some : 1 ≤ pagesOf q) where
@@ -114,18 +107,22 @@ module _ (d : Device) (q : Request) (list : List Element) (n r : ℕ) (so : take
     header : h ≡ headerBytes Little (headerOf d q)
     header = is-h ∙ rw (is-x, is-g, is-r, count)
 
-    pub filled : (b b₁ b₂ z : List ℕ) (m : ℕ) → b₁ ≡ paste b 0 h 32 → b₂ ≡ take 32 b₁ ++ flat elementBytes (take r list) ++ drop (32 + 32 * r) b₁
+    pub filled : (b b₁ b₂ z : List ℕ) (m : ℕ) → 512 * pagesOf q ≤ length b → b₁ ≡ stored b 0 h → b₂ ≡ stored b₁ 32 (flat elementBytes (take r list))
         → z ≡ replicate m 0 → m ≡ 512 * pagesOf q - (32 + 32 * r)
         → putMid (32 + 32 * r) (512 * pagesOf q - (32 + 32 * r)) b₂ z ≡ pageOf d q ++ drop (512 * pagesOf q) b
     unfolding pageOf
-    filled b b₁ b₂ z m is-b₁ is-b₂ is-z is-m =
-        let wide-list : length (flat elementBytes (take r list)) ≡ 32 * r =
-        length-flat elementBytes 32 wide (take r list) ∙ rw (length-take-le r list (omega arith)) in
+    filled b b₁ b₂ z m large is-b₁ is-b₂ is-z is-m =
+        let list-bytes : List ℕ = flat elementBytes (take r list) in
+        let wide-header : length h ≡ 32 = rw is-h in
+        let wide-list : length list-bytes ≡ 32 * r = length-flat elementBytes 32 wide (take r list) ∙ rw (length-take-le r list (omega arith)) in
+        let wide-both : length (h ++ list-bytes) ≡ 32 + 32 * r = length-append h list-bytes ∙ omega (arith, wide-header, wide-list) in
+        let front : b₂ ≡ h ++ list-bytes ++ drop (32 + 32 * r) b =
+        stored-two b h list-bytes b₁ b₂ 32 (omega (arith, wide-both)) (omega (arith, wide-header)) is-b₁ is-b₂ ∙ rw wide-both in
         let returned : headerOf d q .returned ≡ r = rw (is-r, count) in
         let zeros : 512 * pagesOf q - 32 * (headerOf d q .returned + 1) ≡ m = rw returned (omega arith) in
         let whole : 32 + 32 * r + (512 * pagesOf q - (32 + 32 * r)) ≡ 512 * pagesOf q = omega arith in
-        rw (is-b₂, is-b₁)
-        (stores h (flat elementBytes (take r list)) z b r (512 * pagesOf q - (32 + 32 * r)) (rw is-h) wide-list
+        rw front
+        (lay-part (h ++ list-bytes) z b (32 + 32 * r) (512 * pagesOf q - (32 + 32 * r)) wide-both
         ∙ rw (cut, zeros, whole, is-z, header))
 
 -- ## The answer, and the buffer

@@ -3,10 +3,9 @@ ghost use mathlib.Core.Path.{_≡_};
 ghost use mathlib.Core.List.{_++_};
 ghost use Prim.Native.Nat.{_+_, _*_, _≤_, min};
 ghost use lib.ListN.{length, take, drop, replicate};
-ghost use lib.Seq.{paste};
 ghost use Rattle.paper.specs.Answers.{numberOf};
 ghost use Rattle.paper.specs.Told.{said};
-ghost use Rattle.words.specs.Lists.{flat, keep};
+ghost use Rattle.words.specs.Lists.{flat, keep, stored};
 ghost use Rattle.device.specs.Commands.{statusNumber};
 ghost use Rattle.layout.specs.Requests.{pagesOf};
 ghost use Rattle.status.specs.Page.{shownHealth, capacityOf, asks, listOf, busyOf, headerOf, pageOf, shown};
@@ -107,18 +106,6 @@ fn busy(note: Note) -> ElementId
     }
 }
 
-// Stores bytes at a place.
-fn put(buf: &mut [u8], at: usize, b: &[u8])
-    requires { ⌜ at + length (now b) ≤ length (now buf) ⌝ }
-    ensures { λ _. ⌜ now (buf .exit) ≡ paste (now (buf .entry)) at (now (b .entry)) (length (now (b .entry))) ⌝ }
-{
-    let mut k = 0;
-    while k < b.len() {
-        buf[at + k] = b[k];
-        k += 1;
-    }
-}
-
 fn clear(part: &mut [u8])
     ensures { λ _. ⌜ now (part .exit) ≡ replicate (length (now (part .entry))) 0 ⌝ }
 {
@@ -132,14 +119,14 @@ fn clear(part: &mut [u8])
 // Stores the descriptors of the first `returned` elements, behind the header.
 fn put_list(es: [Element; 128], returned: usize, buf: &mut [u8])
     requires { ⌜ (returned ≤ 128) × (32 + 32 * returned ≤ length (now buf)) ⌝ }
-    ensures { λ _. ⌜ now (buf .exit) ≡ take 32 (now (buf .entry)) ++ flat page.elementBytes (take returned es) ++ drop (32 + 32 * returned) (now (buf .entry)) ⌝ }
+    ensures { λ _. ⌜ now (buf .exit) ≡ stored (now (buf .entry)) 32 (flat page.elementBytes (take returned es)) ⌝ }
 {
     let mut k = 0;
     while k < returned {
         let e = es[k];
         let d = descriptor_of(e);
         let bytes = d.bytes(Order::Little);
-        put(buf, 32 + 32 * k, &bytes);
+        words::put(buf, 32 + 32 * k, &bytes);
         k += 1;
     }
 }
@@ -166,7 +153,7 @@ fn fill(d: Device, request: Request, buf: &mut [u8])
     let first = header.bytes(Order::Little);
     let end = 32 + 32 * returned;
     let size = 512 * pages;
-    put(buf, 0, &first);
+    words::put(buf, 0, &first);
     put_list(listed, returned, buf);
     clear(&mut buf[end..size]);
 }

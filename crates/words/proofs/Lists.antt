@@ -1,14 +1,16 @@
--- Laws of kept, flattened and summed lists; most say what a turn of a loop adds.
-use Prim.Native.Nat.{ℕ, zero, suc, _+_, _*_, _≤_, _<_, min}
+-- Laws of kept, flattened, stored and summed lists; most say what a turn of a loop adds.
+use Prim.Native.Nat.{ℕ, zero, suc, _+_, _-_, _*_, _≤_, _<_, min}
 use mathlib.Core.Bool.{Bool, true, false, cond}
 use mathlib.Core.List.{List, [], _∷_, _++_, append-assoc, append-nil}
 use mathlib.Core.Path.{_≡_, refl, sym, ap, _∙_, subst}
-use native.Mathlib.Nat.{zero-min, min-zero, suc-min-suc, mul-zero, mul-suc, add-comm, mul-add, mul-one, add-zero, add-assoc}
+use native.Mathlib.Nat.{zero-add, zero-min, min-zero, suc-min-suc, mul-zero, mul-suc, add-comm, mul-add, mul-one, add-zero, add-assoc}
 use native.Mathlib.Numerals.{add-one}
 use native.Mathlib.Omega.{arith}
-use lib.ListN.{length, getD, take, drop, set, length-append, length-take, drop-of-length-le, take-append-drop}
+use lib.Dec.{leb}
+use lib.ListN.{length, getD, take, drop, set, length-append, length-take, length-drop, drop-of-length-le, take-append-drop}
 use lib.Seq.{take-suc, take-suc-set, drop-cons, getD-take, drop-append-add, drop-drop, take-at, drop-at, length-take-le, paste, take-all}
-use Rattle.words.specs.Lists.{keep, flat, sum}
+use borrow.Author.Tests.{le-leb, lt-leb, leb-true, leb-false}
+use Rattle.words.specs.Lists.{keep, flat, fits, stored, sum}
 
 -- ## A count above the length
 
@@ -55,13 +57,46 @@ module _ {A B : Type 0} (f : A → List B) where
   flat-append [] ys = refl
   flat-append (x ∷ xs) ys = ap (λ (l : List B). f x ++ l) (flat-append xs ys) ∙ sym (append-assoc (f x) (flat f xs) (flat f ys))
 
-  pub flat-more : (l : List A) (i : ℕ) (d : A) → i < length l → flat f (take (i + 1) l) ≡ flat f (take i l) ++ f (getD l i d)
+  flat-more : (l : List A) (i : ℕ) (d : A) → i < length l → flat f (take (i + 1) l) ≡ flat f (take i l) ++ f (getD l i d)
   flat-more l i d h = rw (add-one, take-suc l i d h, flat-append (take i l) (getD l i d ∷ []), append-nil)
 
   -- each made w long
   pub length-flat : (w : ℕ) → ((x : A) → length (f x) ≡ w) → (l : List A) → length (flat f l) ≡ w * length l
   length-flat w each [] = sym (mul-zero w)
   length-flat w each (x ∷ xs) = rw (length-append, each x, length-flat w each xs, mul-suc w (length xs)) (add-comm w (w * length xs))
+
+-- ## Stored at a place
+
+pub fits-not : (n at room : ℕ) → room < n → false ≡ fits n at room
+fits-not n at room h = sym (lt-leb (at + n) room (omega arith))
+
+pub fits-rest : (n at room : ℕ) → n ≤ room → leb at (room - n) ≡ fits n at room
+fits-rest n at room h = by-test (leb at (room - n)) refl
+  where
+    by-test : (t : Bool) → leb at (room - n) ≡ t → leb at (room - n) ≡ fits n at room
+    by-test true e = e ∙ sym (le-leb (at + n) room (omega (arith, leb-true at (room - n) e)))
+    by-test false e = e ∙ sym (lt-leb (at + n) room (omega (arith, leb-false at (room - n) e)))
+
+module _ {A : Type 0} (d b : List A) where
+  stored-front : length b ≤ length d → stored d 0 b ≡ b ++ drop (length b) d
+  stored-front h = rw (zero-add (length b), le-leb _ _ h)
+
+module _ {A : Type 0} (d b : List A) (at : ℕ) where
+  stored-fits : at + length b ≤ length d → stored d at b ≡ take at d ++ b ++ drop (at + length b) d
+  stored-fits h = rw (le-leb _ _ h)
+
+  stored-paste : at + length b ≤ length d → stored d at b ≡ paste d at b (length b)
+  stored-paste h = stored-fits h ∙ sym (ap (λ (l : List A). (take at d ++ l) ++ drop (at + length b) d) (take-all (length b) b (omega arith)))
+
+  module _ (t : Bool) (is-t : t ≡ fits (length b) at (length d)) where
+    pub room-there : t ≡ true → at + length b ≤ length d
+    room-there y = leb-true (at + length b) (length d) (sym is-t ∙ y)
+
+    pub stored-yes : t ≡ true → (r : List A) → r ≡ paste d at b (length b) → r ≡ stored d at b
+    stored-yes y r e = e ∙ sym (stored-paste (room-there y))
+
+    pub stored-no : t ≡ false → d ≡ stored d at b
+    stored-no n = sym (rw (sym is-t ∙ n))
 
 -- ## Laid over the front
 
@@ -70,30 +105,50 @@ module _ {A : Type 0} where
   drop-laid P d n k e = subst (λ (m : ℕ). drop (m + k) (P ++ drop n d) ≡ drop (n + k) d) e (drop-append-add P (drop n d) k ∙ drop-drop k n d)
 
   -- P lies over the front of d, and b is stored right after it
-  pub lay : (P b d : List A) (n k : ℕ) → length P ≡ n → take n (P ++ drop n d) ++ b ++ drop (n + k) (P ++ drop n d) ≡ P ++ b ++ drop (n + k) d
+  lay : (P b d : List A) (n k : ℕ) → length P ≡ n → take n (P ++ drop n d) ++ b ++ drop (n + k) (P ++ drop n d) ≡ P ++ b ++ drop (n + k) d
   lay P b d n k e = rw (take-at P (drop n d) n e, drop-laid P d n k e)
 
   -- the same, where b is what a part from a on, of k elements, holds after a call
   pub lay-part : (P b d : List A) (a k : ℕ) → length P ≡ a → take a (P ++ drop a d) ++ (b ++ drop k (drop a (P ++ drop a d))) ≡ P ++ b ++ drop (a + k) d
   lay-part P b d a k e = rw (take-at P (drop a d) a e, drop-at P (drop a d) a e, drop-drop k a d) (sym (append-assoc P b (drop (a + k) d)))
 
--- a loop that stores f of each element of es, of w each, side by side from place a on: what stands after k turns, and a turn
-module _ {A B : Type 0} (f : A → List B) (w : ℕ) (each : (x : A) → length (f x) ≡ w) (es : List A) (d : List B) (a : ℕ) where
-  abbrev pub laid : ℕ → List B
-  laid k = take a d ++ flat f (take k es) ++ drop (a + w * k) d
+-- ## Stored one after another
 
-  pub laid-none : d ≡ laid 0
-  laid-none = sym (rw (append-nil, mul-zero, add-zero) (take-append-drop a d))
+module _ {A : Type 0} (d : List A) (at : ℕ) where
+  pub stored-none : stored d at [] ≡ d
+  stored-none = by-test (fits 0 at (length d))
+    where
+      by-test : (t : Bool) → cond t (take at d ++ [] ++ drop (at + 0) d) d ≡ d
+      by-test true = rw (append-nil, add-zero) (take-append-drop at d)
+      by-test false = refl
 
-  laid-length : (k : ℕ) → a ≤ length d → k ≤ length es → length (take a d ++ flat f (take k es)) ≡ a + w * k
-  laid-length k h l = rw (length-append, length-take-le a d h, length-flat f w each (take k es), length-take-le k es l)
+  pub stored-more : (a b : List A) → at + length (a ++ b) ≤ length d → stored (stored d at a) (at + length a) b ≡ stored d at (a ++ b)
+  stored-more a b h =
+      let P : List A = take at d ++ a in
+      let front : length P ≡ at + length a = length-append (take at d) a ∙ rw (length-take-le at d (omega arith)) in
+      let both : length (a ++ b) ≡ length a + length b = length-append a b in
+      let room : at + length a + length b ≤ length (P ++ drop (at + length a) d) =
+      rw (length-append P (drop (at + length a) d), front, length-drop) (omega arith) in
+      rw (stored-fits d a at (omega arith), stored-fits d (a ++ b) at h, stored-fits (P ++ drop (at + length a) d) b (at + length a) room, both, ← add-assoc)
+      (lay P b d (at + length a) (length b) front ∙ simp append-assoc)
 
-  pub laid-more : (k : ℕ) (z : A) → a ≤ length d → k < length es → paste (laid k) (a + w * k) (f (getD es k z)) w ≡ laid (k + 1)
-  laid-more k z h l =
-      let P : List B = take a d ++ flat f (take k es) in
-      let more : a + w * (k + 1) ≡ a + w * k + w = rw (mul-add, mul-one, add-assoc) in
-      rw (take-all w (f (getD es k z)) (omega (arith, each (getD es k z))), more, flat-more f es k z l)
-      (lay P (f (getD es k z)) d (a + w * k) w (laid-length k h (omega arith)) ∙ simp append-assoc)
+-- one over the front, then another right after it
+pub stored-two : {A : Type 0} (d a b x y : List A) (n : ℕ) → length (a ++ b) ≤ length d
+    → n ≡ length a → x ≡ stored d 0 a → y ≡ stored x n b → y ≡ a ++ b ++ drop (length (a ++ b)) d
+stored-two {A} d a b x y n room is-n is-x is-y =
+    let start : n ≡ 0 + length a = omega arith in
+    let one : y ≡ stored d 0 (a ++ b) = is-y ∙ rw (is-x, start) (stored-more d 0 a b (omega arith)) in
+    one ∙ stored-front d (a ++ b) room
+
+-- a loop that stores f of each element of es, of w each, side by side from a place on
+pub stored-each : {A B : Type 0} (f : A → List B) (w : ℕ) → ((x : A) → length (f x) ≡ w) → (es : List A) (d x y : List B) (at k : ℕ) (z : A)
+    → at + w * (k + 1) ≤ length d → k < length es → x ≡ stored d at (flat f (take k es)) → y ≡ stored x (at + w * k) (f (getD es k z)) → y ≡ stored d at (flat f (take (k + 1) es))
+stored-each {A} {B} f w each es d x y at k z room less is-x is-y =
+    let F : List B = flat f (take k es) in
+    let long : length F ≡ w * k = length-flat f w each (take k es) ∙ rw (length-take-le k es (omega arith)) in
+    let more : at + w * (k + 1) ≡ at + (w * k + w) = rw (mul-add, mul-one) in
+    let fits : at + length (F ++ f (getD es k z)) ≤ length d = rw (length-append F (f (getD es k z)), long, each (getD es k z), ← more) room in
+    is-y ∙ rw (is-x, ← long, flat-more f es k z less) (stored-more d at F (f (getD es k z)) fits)
 
 -- ## Summed
 

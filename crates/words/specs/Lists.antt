@@ -1,8 +1,9 @@
--- Lists kept and tested, laid end to end, and added up.
+-- Lists kept and tested, laid end to end, stored at a place, and added up.
 use Prim.Native.Nat.{ℕ, _+_}
 use mathlib.Core.Bool.{Bool, true, false, cond, _&&_, _||_}
 use mathlib.Core.List.{List, [], _∷_, _++_}
-use lib.Dec.{eqb}
+use lib.Dec.{eqb, leb}
+use lib.ListN.{length, take, drop}
 
 -- the elements for which the test holds, in order
 abbrev pub keep : {A : Type 0} → (A → Bool) → List A → List A
@@ -23,6 +24,14 @@ oneOf n (x ∷ xs) = eqb n x || oneOf n xs
 abbrev pub flat : {A B : Type 0} → (A → List B) → List A → List B
 flat f [] = []
 flat f (x ∷ xs) = f x ++ flat f xs
+
+-- whether n elements fit from a place on
+abbrev pub fits : ℕ → ℕ → ℕ → Bool
+fits n at room = leb (at + n) room
+
+-- b stored over d from a place on, if it fits there
+abbrev pub stored : {A : Type 0} → List A → ℕ → List A → List A
+stored d at b = cond (fits (length b) at (length d)) (take at d ++ b ++ drop (at + length b) d) d
 
 -- what f measures of each element, added up
 abbrev pub sum : {A : Type 0} → (A → ℕ) → List A → ℕ

@@ -1,7 +1,11 @@
-// Numbers as bytes, in either order, at widths 2, 4 and 8. Reading takes any place: past the end a byte is 0.
+// Numbers as bytes, in either order, at widths 2, 4 and 8, and bytes at a place. Any place will do: past the end a byte is 0, and bytes
+// that do not fit are not stored.
 ghost use mathlib.Core.Path.{_≡_};
-ghost use lib.ListN.{getD, drop};
+ghost use Prim.Native.Nat.{_+_, _≤_};
+ghost use lib.ListN.{length, getD, drop};
+ghost use lib.Seq.{paste};
 ghost use Rattle.words.specs.Bytes.{bytesOf, numberAt, joined};
+ghost use Rattle.words.specs.Lists.{fits, stored};
 
 // Which byte of a number comes first: the lowest (ATA) or the highest (SCSI).
 pub enum Order {
@@ -82,6 +86,35 @@ pub fn tail(s: &[u8], at: usize) -> &[u8]
     ensures { λ r. ⌜ now r ≡ drop at (now (s .entry)) ⌝ }
 {
     if at < s.len() { &s[at..] } else { &s[0..0] }
+}
+
+fn does_fit(n: usize, at: usize, room: usize) -> bool
+    ensures { λ r. ⌜ r ≡ fits n at room ⌝ }
+{
+    if room < n {
+        return false;
+    }
+    at <= room - n
+}
+
+fn copy(buf: &mut [u8], at: usize, b: &[u8])
+    requires { ⌜ at + length (now b) ≤ length (now buf) ⌝ }
+    ensures { λ _. ⌜ now (buf .exit) ≡ paste (now (buf .entry)) at (now (b .entry)) (length (now (b .entry))) ⌝ }
+{
+    let mut k = 0;
+    while k < b.len() {
+        buf[at + k] = b[k];
+        k += 1;
+    }
+}
+
+// Stores bytes from a place on, if all of them fit.
+pub fn put(buf: &mut [u8], at: usize, b: &[u8])
+    ensures { λ _. ⌜ now (buf .exit) ≡ stored (now (buf .entry)) at (now (b .entry)) ⌝ }
+{
+    if does_fit(b.len(), at, buf.len()) {
+        copy(buf, at, b);
+    }
 }
 
 fn join2(a: u8, b: u8, o: Order) -> u16

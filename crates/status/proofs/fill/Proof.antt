@@ -1,6 +1,5 @@
 -- `status::fill`.
 use Prim.Native.Nat.{ℕ, _+_, _-_, _*_}
-use mathlib.Core.Path.{_≡_, ap}
 use native.Mathlib.Omega.{arith}
 use lib.ListN.{length}
 use borrow.Author.Needs.{needs}
@@ -23,13 +22,12 @@ returns c =
     let z = c .before .before .clear in
     let end : ℕ = 32 + 32 * r .result in
     let size : ℕ = 512 * s .args .request .count .0 in
-    let wide : length (header .result) ≡ 32 = ap length (header .ensures) in
     let list = col .result in
     filled (s .args .d) (s .args .request) (list .elements) (list .count) (r .result)
     (listed (s .args .d) (s .args .request) (list .elements) (list .count) (col .ensures .0)) (col .ensures .1) (col .ensures .2)
     (r .ensures) (s .pre .0) (busy .result) (busy .ensures) (removed .result) (removed .ensures) (header .result) (header .ensures)
     (s .args .buf .now) (b₁ .last .0) (b₂ .last .1 .1 .0) (z .last .0) (length (midOf end (size - end) (b₂ .last .1 .1 .0)))
-    (rw wide at (b₁ .ensures)) (b₂ .ensures) (z .ensures)
+    (s .pre .1) (b₁ .ensures) (b₂ .ensures) (z .ensures)
     (mid-len end size (b₂ .last .1 .1 .0) (omega (arith, b₂ .kept .1 .1 .0, b₁ .kept .0)))
 
 pub fill-spec : {M : Type 1} → statement M

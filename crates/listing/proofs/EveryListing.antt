@@ -1,0 +1,62 @@
+-- No second listing fits; a refusal writes nothing; 80,000 bytes are enough (specs/Promises).
+use Prim.Native.Nat.{ℕ, _+_, _-_, _*_, _/_, _≤_}
+use mathlib.Core.Bool.{Bool, true, false, cond}
+use mathlib.Core.List.{List, _++_}
+use mathlib.Core.Path.{_≡_, refl, ap}
+use native.Mathlib.Nat.{min-le-right}
+use native.Mathlib.Omega.{arith}
+use lib.Dec.{ltb}
+use lib.ListN.{length, drop, length-append}
+use borrow.Author.Tests.{le-ltb, ltb-false}
+use Rattle.layout.specs.Bytes.{headerIn, returnedOf}
+use Rattle.layout.specs.declared.Header.{Header}
+use Rattle.paper.proofs.Once.{told-once}
+use Rattle.paper.specs.Told.{tells}
+use Rattle.reader.proofs.LayoutTheorem.{takes-exactly, with-header}
+use Rattle.reader.specs.Reading.{Values, header, place, readOf}
+use Rattle.words.specs.declared.Order.the-variants.{Little}
+use Rattle.listing.specs.Listing.{linesBelow, requestOf, inputOf, firstLine, lineCount, listingOf, Output, output, listed}
+use Rattle.listing.specs.Promises.{One-listing, Refusal-writes-nothing, Enough}
+use Rattle.listing.proofs.Listing.{length-first, length-lines}
+
+pub one-listing : One-listing
+one-listing s out a b m n x y is-a is-b =
+    let both : (a ≡ b) × (output m x ≡ output n y) = told-once (listed s out) a b (output m x) (output n y) is-a is-b in
+    (both .0, ap (λ (o : Output). o .count) (both .1), ap (λ (o : Output). o .buffer) (both .1))
+
+pub refusal-writes-nothing : Refusal-writes-nothing
+refusal-writes-nothing s out = by-test (ltb (length out) (length (listingOf s)))
+  where
+    by-test : (t : Bool)
+        → (cond t (tells 7 (output 0 out)) (tells 0 (output (length (listingOf s)) (listingOf s ++ drop (length (listingOf s)) out))) .number ≡ 0 → ⊥)
+        → cond t (tells 7 (output 0 out)) (tells 0 (output (length (listingOf s)) (listingOf s ++ drop (length (listingOf s)) out))) .state ≡ output 0 out
+    by-test true h = refl
+    by-test false h = absurd (h refl)
+
+-- ## How many lines: 128 pages have room for 2,047
+
+few-read : (s : List ℕ) → length s ≤ 65536 → lineCount (readOf s (requestOf s) .state) ≤ 2047
+few-read s short = by-values (readOf s (requestOf s) .state) refl
+  where
+    by-values : (v : Values) → readOf s (requestOf s) .state ≡ v → lineCount v ≤ 2047
+    by-values (place p) e = omega arith
+    by-values (header h) e =
+        let (is-0, is-h) = with-header s (requestOf s) h e in
+        let cut : headerIn Little s .returned ≡ returnedOf (headerIn Little s .number) (length s / 512) = takes-exactly s (requestOf s) .0 is-0 .1 .1 .0 in
+        omega (arith, cut, ap (λ (g : Header). g .returned) is-h, min-le-right (headerIn Little s .number) (16 * (length s / 512) - 1))
+
+few : (s : List ℕ) → lineCount (inputOf s .state) ≤ 2047
+few s = by-test (ltb 65536 (length s)) refl
+  where
+    by-test : (t : Bool) → ltb 65536 (length s) ≡ t → lineCount (cond t (tells 9 (place 65536)) (readOf s (requestOf s)) .state) ≤ 2047
+    by-test true e = omega arith
+    by-test false e = few-read s (ltb-false 65536 (length s) e)
+
+length-listing : (s : List ℕ) → length (listingOf s) ≤ 80000
+unfolding listingOf
+length-listing s =
+    rw (length-append (firstLine (inputOf s .state)) (linesBelow s (lineCount (inputOf s .state))))
+    (omega (arith, few s, length-first (inputOf s .state), length-lines s (lineCount (inputOf s .state))))
+
+pub enough : Enough
+enough s out h = rw (le-ltb (length out) (length (listingOf s)) (omega (arith, length-listing s)))

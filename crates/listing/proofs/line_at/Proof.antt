@@ -1,0 +1,16 @@
+-- `listing::line_at`.
+use borrow.Author.Needs.{needs}
+use Rattle.listing.proofs.Listing.{line-read}
+use Rattle.listing.proofs.line_at.Statement.{statement}
+use Rattle.listing.proofs.line_at.Tie as tie
+
+pub line-at-spec : {M : Type 1} → statement M
+line-at-spec =
+    tie.close
+    (tie.spec
+    (λ c. search needs)
+    (λ c. search needs)
+    (λ c κs. search needs)
+    (λ c κs. search needs)
+    (λ c κs. search needs)
+    (λ c. search (line-read)))

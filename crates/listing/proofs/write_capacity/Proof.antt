@@ -1,0 +1,15 @@
+-- `listing::write_capacity`.
+use borrow.Author.Needs.{needs}
+use Rattle.listing.proofs.Listing.{capacity-unknown, capacity-known}
+use Rattle.listing.proofs.write_capacity.Statement.{statement}
+use Rattle.listing.proofs.write_capacity.Tie as tie
+
+pub write-capacity-spec : {M : Type 1} → statement M
+write-capacity-spec =
+    tie.close
+    (tie.spec
+    (λ c. search needs)
+    (λ c κs. search needs)
+    (λ c. search (capacity-unknown))
+    (λ c κs. search needs)
+    (λ c. search (capacity-known)))

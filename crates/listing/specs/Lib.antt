@@ -1,0 +1,4 @@
+-- The listing of a status page.
+
+pub mod Listing
+pub mod Promises

@@ -1,0 +1,87 @@
+-- Document 01, "The reader", last paragraph: the listing's text, and the lent output buffer.
+use Prim.Native.Nat.{ℕ, zero, suc, _/_}
+use mathlib.Core.Bool.{cond}
+use mathlib.Core.List.{List, [], _++_}
+use lib.Dec.{eqb, ltb}
+use lib.ListN.{length, drop}
+use Rattle.layout.specs.Bytes.{allOnes}
+use Rattle.layout.specs.declared.Descriptor.{Descriptor}
+use Rattle.layout.specs.declared.Header.{Header}
+use Rattle.layout.specs.declared.Request.{Request}
+use Rattle.paper.specs.Told.{Told, tells}
+use Rattle.reader.specs.Checks.{descriptorAt}
+use Rattle.reader.specs.Reading.{Values, header, place, readOf}
+use Rattle.text.specs.Digits.{digits, decimalOf}
+use Rattle.text.specs.Text.{ascii}
+use Rattle.words.specs.declared.Order.the-variants.{Little}
+
+-- ## The lines
+
+-- "then capacity, `-` for all ones"
+abbrev pub capacityOf : ℕ → List ℕ
+capacityOf n = cond (eqb n allOnes) (ascii "-") (decimalOf n)
+
+-- "a line for each descriptor (identifier, type, health in upper hex, then capacity ..)"
+abbrev pub descriptorLine : Descriptor → List ℕ
+descriptorLine d =
+    digits 16 8 (d .id .0) ++ ascii " "
+    ++ digits 16 2 (d .kind) ++ ascii " "
+    ++ digits 16 2 (d .health) ++ ascii " "
+    ++ capacityOf (d .capacity) ++ ascii "\n"
+
+-- "number 1 returned 1 busy 00000000 limit 2 removed 0"
+abbrev pub headerLine : Header → List ℕ
+headerLine h =
+    ascii "number " ++ decimalOf (h .number)
+    ++ ascii " returned " ++ decimalOf (h .returned)
+    ++ ascii " busy " ++ digits 16 8 (h .busy .0)
+    ++ ascii " limit " ++ decimalOf (h .limit)
+    ++ ascii " removed " ++ decimalOf (h .removed) ++ ascii "\n"
+
+-- "or `refused 9 at ` and the place"
+abbrev pub refusedLine : ℕ → List ℕ
+refusedLine p = ascii "refused 9 at " ++ decimalOf p ++ ascii "\n"
+
+-- the lines of the first n descriptors
+abbrev pub linesBelow : List ℕ → ℕ → List ℕ
+linesBelow s zero = []
+linesBelow s (suc n) = linesBelow s n ++ descriptorLine (descriptorAt Little s n)
+
+-- ## The text
+
+-- "an answer to filter 0, report type 0, start 0, and as many pages as the input has"
+abbrev pub requestOf : List ℕ → Request
+requestOf s = record { feature = 0; count = record { 0 = length s / 512 }; lba = record { 0 = 0 } }
+
+-- "at most 65,536 bytes ..; longer input is refused at 65536"
+abbrev pub inputOf : List ℕ → Told Values
+inputOf s = cond (ltb 65536 (length s)) (tells 9 (place 65536)) (readOf s (requestOf s))
+
+-- "It prints one header and a line for each descriptor .. or `refused 9 at ` and the place."
+abbrev pub firstLine : Values → List ℕ
+firstLine (header h) = headerLine h
+firstLine (place p) = refusedLine p
+
+abbrev pub lineCount : Values → ℕ
+lineCount (header h) = h .returned
+lineCount (place p) = 0
+
+unfoldable pub listingOf : List ℕ → List ℕ
+listingOf s = firstLine (inputOf s .state) ++ linesBelow s (lineCount (inputOf s .state))
+
+-- ## The lent buffer
+
+-- how many bytes were written, and the whole buffer
+pub record Output : Type 0 where
+  pub count : ℕ
+  pub buffer : List ℕ
+
+abbrev pub output : ℕ → List ℕ → Output
+output n out = record { count = n; buffer = out }
+
+-- a buffer that is too short gets 7 and stays untouched
+abbrev pub put : List ℕ → List ℕ → Told Output
+put text out = cond (ltb (length out) (length text)) (tells 7 (output 0 out)) (tells 0 (output (length text) (text ++ drop (length text) out)))
+
+abbrev pub listed : List ℕ → List ℕ → Told Output
+listed s out = put (listingOf s) out

@@ -1,0 +1,171 @@
+// The listing of a status page: a line for the header and one for each descriptor, or the place of the first offence.
+ghost use mathlib.Core.Path.{_≡_};
+ghost use Prim.Native.Nat.{_+_, _≤_};
+ghost use lib.ListN.{length};
+ghost use Rattle.io.specs.Counts.{Counts};
+ghost use Rattle.paper.specs.Told.{said};
+ghost use Rattle.reader.specs.Checks.{descriptorAt};
+ghost use Rattle.reader.specs.Reading.{heard};
+ghost use Rattle.text.specs.Text.{nothing, written};
+ghost use Rattle.words.specs.Lists.{stored};
+ghost use Rattle.words.specs.declared.Order.the-variants.{Little};
+ghost use Rattle.listing.specs.Listing.{capacityOf, descriptorLine, headerLine, refusedLine, linesBelow, inputOf, firstLine, lineCount, output, listed};
+ghost use Rattle.listing.specs.Listing as paper;
+use layout::Descriptor;
+use layout::Header;
+use layout::Request;
+use paper::Answer;
+use paper::Lba;
+use paper::PageCount;
+use reader::Reading;
+use text::Text;
+use words::Order;
+
+// 7, or 0 and how many bytes were written.
+pub struct Listed {
+    pub answer: Answer,
+    pub count: usize,
+}
+
+fn write_capacity(t: Text, capacity: u64) -> Text
+    ensures { λ r. ⌜ r ≡ written t (capacityOf capacity) ⌝ }
+{
+    if capacity == 0xFFFF_FFFF_FFFF_FFFF {
+        return t.word(b"-");
+    }
+    t.decimal(capacity)
+}
+
+fn descriptor_line(d: Descriptor) -> Text
+    ensures { λ r. ⌜ r ≡ written nothing (descriptorLine d) ⌝ }
+{
+    let t = Text::nothing()
+        .hex8(d.id.0)
+        .word(b" ")
+        .hex2(d.kind)
+        .word(b" ")
+        .hex2(d.health)
+        .word(b" ");
+    write_capacity(t, d.capacity).word(b"\n")
+}
+
+fn header_line(h: Header) -> Text
+    ensures { λ r. ⌜ r ≡ written nothing (headerLine h) ⌝ }
+{
+    Text::nothing()
+        .word(b"number ")
+        .decimal(h.number as u64)
+        .word(b" returned ")
+        .decimal(h.returned as u64)
+        .word(b" busy ")
+        .hex8(h.busy.0)
+        .word(b" limit ")
+        .decimal(h.limit as u64)
+        .word(b" removed ")
+        .decimal(h.removed as u64)
+        .word(b"\n")
+}
+
+fn refused_line(place: usize) -> Text
+    ensures { λ r. ⌜ r ≡ written nothing (refusedLine place) ⌝ }
+{
+    Text::nothing()
+        .word(b"refused 9 at ")
+        .decimal(place as u64)
+        .word(b"\n")
+}
+
+// What the reader says of the input.
+fn judge(input: &[u8]) -> Reading
+    ensures { λ r. ⌜ heard r ≡ inputOf (now (input .entry)) ⌝ }
+{
+    if 65536 < input.len() {
+        return Reading::Refused(65536);
+    }
+    let request = Request {
+        feature: 0,
+        count: PageCount((input.len() / 512) as u16),
+        lba: Lba(0),
+    };
+    reader::read(input, request)
+}
+
+// The line that every listing starts with.
+fn first_line(answer: Reading) -> Text
+    ensures { λ r. ⌜ r ≡ written nothing (firstLine (heard answer .state)) ⌝ }
+{
+    match answer {
+        Reading::Accepted(h) => header_line(h),
+        Reading::Refused(place) => refused_line(place),
+    }
+}
+
+// How many descriptors it has a line for.
+fn line_count(answer: Reading) -> u32
+    ensures { λ r. ⌜ r ≡ lineCount (heard answer .state) ⌝ }
+{
+    match answer {
+        Reading::Accepted(h) => h.returned,
+        Reading::Refused(_) => 0,
+    }
+}
+
+// The line of descriptor k.
+fn line_at(input: &[u8], k: u32) -> Text
+    ensures { λ r. ⌜ r ≡ written nothing (descriptorLine (descriptorAt Little (now (input .entry)) k)) ⌝ }
+{
+    let base = 32 + 32 * (k as usize);
+    descriptor_line(Descriptor::read(words::tail(input, base), Order::Little))
+}
+
+// How long the lines of the first `count` descriptors are.
+fn measure(input: &[u8], count: u32) -> usize
+    ensures { λ r. ⌜ r ≡ length (linesBelow (now (input .entry)) count) ⌝ }
+{
+    let mut size: usize = 0;
+    let mut k: u32 = 0;
+    while k < count {
+        let line = line_at(input, k);
+        size += line.len;
+        k += 1;
+    }
+    size
+}
+
+// Stores the lines of the first `count` descriptors from a place on.
+fn put_lines(input: &[u8], count: u32, out: &mut [u8], from: usize)
+    requires { ⌜ from + length (linesBelow (now input) count) ≤ length (now out) ⌝ }
+    ensures { λ _. ⌜ now (out .exit) ≡ stored (now (out .entry)) from (linesBelow (now (input .entry)) count) ⌝ }
+{
+    let mut at = from;
+    let mut k: u32 = 0;
+    while k < count {
+        let line = line_at(input, k);
+        line.put(out, at);
+        at += line.len;
+        k += 1;
+    }
+}
+
+// The whole listing, or nothing where it does not fit.
+pub fn list(input: &[u8], out: &mut [u8]) -> Listed
+    ensures { λ r. ⌜ said (r .answer) (output (r .count) (now (out .exit))) ≡ listed (now (input .entry)) (now (out .entry)) ⌝ }
+    ensures { λ r. ⌜ Counts (r .count) (now (out .exit)) ⌝ }
+{
+    let reading = judge(input);
+    let first = first_line(reading);
+    let count = line_count(reading);
+    let size = first.len + measure(input, count);
+    if out.len() < size {
+        return Listed {
+            answer: Answer::SmallBuffer,
+            count: 0,
+        };
+    }
+    first.put(out, 0);
+    put_lines(input, count, out, first.len);
+    Listed {
+        answer: Answer::Done,
+        count: size,
+    }
+}

@@ -1,0 +1,81 @@
+-- Laws of a text under construction: bytes written one after another, and a text that had room for all of them.
+use Prim.Native.Nat.{ℕ, zero, suc, _+_, _-_, _/_, _%_, _≤_, _<_, min}
+use mathlib.Core.List.{List, [], _∷_, _++_, append-nil}
+use mathlib.Core.Path.{_≡_, refl, sym, ap, _∙_}
+use native.Mathlib.Numerals.{add-one}
+use native.Mathlib.Omega.{arith}
+use lib.ListN.{length, set, replicate, length-append, take, drop, getD, drop-of-length-le}
+use lib.Seq.{take-append-seam, set-append-seam, drop-cons, append-snoc}
+use borrow.Author.Tests.{lt-ltb}
+use Rattle.words.proofs.Lists.{take-min}
+use Rattle.text.specs.Digits.{glyph, digits, placesOf, decimalOf}
+use Rattle.text.specs.Text.{nothing, pushed, written, held}
+use Rattle.text.specs.declared.Text.{Text}
+
+pub written-append : (t : Text) (a b : List ℕ) → written t (a ++ b) ≡ written (written t a) b
+unfolding written
+written-append t [] b = refl
+written-append t (x ∷ a) b = written-append (pushed t x) a b
+
+-- ## The recursion of `spell`
+
+pub spell-none : (t : Text) (b n k : ℕ) → k ≡ 0 → t ≡ written t (digits b k n)
+unfolding written
+spell-none t b n k e = sym (rw e)
+
+pub spell-last : (t u r : Text) (b n k c : ℕ)
+    → (k ≡ 0 → ⊥) → u ≡ written t (digits b (k - 1) (n / b)) → c ≡ glyph (n % b) → r ≡ pushed u c → r ≡ written t (digits b k n)
+unfolding written
+spell-last t u r b n zero c h e f g = absurd (h refl)
+spell-last t u r b n (suc k) c h e f g =
+    let last : suc k - 1 ≡ k = omega arith in
+    g ∙ rw (e, f, last) (sym (written-append t (digits b k (n / b)) (glyph (n % b) ∷ [])))
+
+pub in-decimal : (t r : Text) (n k : ℕ) → k ≡ placesOf n → r ≡ written t (digits 10 k n) → r ≡ written t (decimalOf n)
+in-decimal t r n k e g = g ∙ rw e
+
+-- ## The loop of `word`
+
+pub word-next : (t : Text) (s : List ℕ) (i : ℕ) → i < length s → written (pushed t (getD s i 0)) (drop (i + 1) s) ≡ written t (drop i s)
+unfolding written
+word-next t s i h = sym (rw (add-one i) (ap (λ (l : List ℕ). written t l) (drop-cons s i 0 h)))
+
+pub word-all : (t : Text) (s : List ℕ) (i : ℕ) → length s ≤ i → t ≡ written t (drop i s)
+unfolding written
+word-all t s i h = sym (ap (λ (l : List ℕ). written t l) (drop-of-length-le s h))
+
+-- ## Room for all
+
+-- the text that holds some bytes
+abbrev pub holding : List ℕ → Text
+holding l = record { bytes = l ++ replicate (160 - length l) 0; len = length l }
+
+holding-more : (l : List ℕ) (b : ℕ) → length l < 160 → pushed (holding l) b ≡ holding (l ++ (b ∷ []))
+holding-more l b h =
+    let m : ℕ = 159 - length l in
+    let room : 160 - length l ≡ suc m = omega arith in
+    let less : 160 - length (l ++ (b ∷ [])) ≡ m = simp length-append (omega arith) in
+    let long : length l + 1 ≡ length (l ++ (b ∷ [])) = simp length-append in
+    let stored : set (l ++ replicate (160 - length l) 0) (length l) b ≡ (l ++ (b ∷ [])) ++ replicate (160 - length (l ++ (b ∷ []))) 0 =
+    rw (room, less) (set-append-seam l 0 (replicate m 0) b ∙ sym (append-snoc l b (replicate m 0))) in
+    rw (lt-ltb _ _ h) (λ i. record { bytes = stored i; len = long i })
+
+holding-all : (l m : List ℕ) → length l + length m ≤ 160 → written (holding l) m ≡ holding (l ++ m)
+unfolding written
+holding-all l [] h = ap holding (sym (append-nil l))
+holding-all l (b ∷ m) h =
+    let g : length (l ++ (b ∷ [])) + length m ≤ 160 = simp length-append (omega arith) in
+    ap (λ (t : Text). written t m) (holding-more l b (omega arith)) ∙ (holding-all (l ++ (b ∷ [])) m g ∙ ap holding (append-snoc l b m))
+
+pub written-all : (l : List ℕ) → length l ≤ 160 → written nothing l ≡ holding l
+written-all l h = holding-all [] l (omega arith)
+
+pub len-written : (l : List ℕ) → length l ≤ 160 → written nothing l .len ≡ length l
+len-written l h = ap (λ (t : Text). t .len) (written-all l h)
+
+pub held-written : (l : List ℕ) → length l ≤ 160 → held (written nothing l) ≡ l
+held-written l h = ap held (written-all l h) ∙ take-append-seam l (replicate (160 - length l) 0)
+
+-- what `put` copies
+pub held-front : (t : Text) (n : ℕ) → length (t .bytes) ≡ 160 → n ≡ min (t .len) 160 → take n (t .bytes) ≡ held t
+held-front t n long e = rw (e, ← long) (take-min (t .len) (t .bytes))

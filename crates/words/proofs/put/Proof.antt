@@ -1,0 +1,15 @@
+-- `words::put`.
+use borrow.Author.Needs.{needs}
+use Rattle.words.proofs.Lists.{room-there, stored-yes, stored-no}
+use Rattle.words.proofs.put.Statement.{statement}
+use Rattle.words.proofs.put.Tie as tie
+
+pub put-spec : {M : Type 1} → statement M
+put-spec =
+    tie.close
+    (tie.spec
+    (λ c κs. search needs)
+    (λ c κs. search (room-there))
+    (λ c. search needs)
+    (λ c. search (stored-yes))
+    (λ c. search (stored-no)))

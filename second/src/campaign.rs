@@ -1,0 +1,235 @@
+//! The campaign: this program and the recorder's side by side.
+
+use std::fs;
+use std::io::{self, Write};
+use std::time::{Duration, Instant, SystemTime, UNIX_EPOCH};
+
+use crate::cases::placements::{double, single, Placement};
+use crate::cases::random_page::random_page;
+use crate::cases::random_script::random_script;
+use crate::cases::rng::Rng;
+use crate::cases::script_text::Text;
+use crate::recorder::{Recorder, Said};
+use crate::rules::bench;
+use crate::rules::listing::list;
+use crate::rules::script::{meaning, Call, Line};
+
+/// Lines of a random script: many calls for each start of a program.
+const LINES: usize = 2000;
+/// Placements in one script.
+const BATCH: usize = 60;
+/// Gaps that can hold an event: two events end a removal before the last.
+const LAST_GAP: usize = 11;
+/// Differences shown in full; more are only counted.
+const SHOWN: u64 = 5;
+
+struct Campaign {
+    recorder: Recorder,
+    start: Instant,
+    last_progress: Instant,
+    cases: u64,
+    calls: u64,
+    /// Calls of `cut`.
+    cuts: u64,
+    differences: u64,
+}
+
+/// The whole campaign; 1 if there is a difference, 2 if RECORDER cannot be run.
+pub fn run(path: &str, seconds: u64) -> i32 {
+    match Recorder::at(path).and_then(|recorder| compare(recorder, seconds)) {
+        Ok(0) => 0,
+        Ok(_) => 1,
+        Err(error) => {
+            eprintln!("second: {}", error);
+            2
+        }
+    }
+}
+
+fn compare(recorder: Recorder, seconds: u64) -> io::Result<u64> {
+    let now = Instant::now();
+    let mut campaign = Campaign {
+        recorder,
+        start: now,
+        last_progress: now,
+        cases: 0,
+        calls: 0,
+        cuts: 0,
+        differences: 0,
+    };
+    campaign.all_placements()?;
+    campaign.fresh_seeds(Duration::from_secs(seconds))?;
+    println!("{}", campaign.figures());
+    Ok(campaign.differences)
+}
+
+/// The script that a seed stands for.
+pub fn seeded_script(seed: u64) -> Vec<u8> {
+    random_script(seed, LINES)
+}
+
+/// The page that a seed stands for: small ones mostly.
+pub fn seeded_page(seed: u64) -> Vec<u8> {
+    let mut rng = Rng::new(seed);
+    let most = rng.pick(&[1, 1, 2, 3, 3, 10, 128]);
+    random_page(&mut rng, most)
+}
+
+impl Campaign {
+    /// For device A, every placement of one and of two cuts or errors in the
+    /// removal of every element, with an LBA of 0 and another.
+    fn all_placements(&mut self) -> io::Result<()> {
+        for identifier in [0x1, 0x3, 0x0001_0003, 0x0002_0000] {
+            for lba in [0, 1234] {
+                let mut all = single(LAST_GAP);
+                all.extend(double(LAST_GAP));
+                for batch in all.chunks(BATCH) {
+                    let mut text = Text::new();
+                    for events in batch {
+                        let events = events.clone();
+                        Placement {
+                            identifier,
+                            lba,
+                            events,
+                        }
+                        .write(&mut text);
+                    }
+                    let label = format!("placements of {:08X}, LBA {}", identifier, lba);
+                    self.script(&label, &text.bytes(), batch.len())?;
+                }
+            }
+        }
+        Ok(())
+    }
+
+    /// Script after script and page after page.
+    fn fresh_seeds(&mut self, duration: Duration) -> io::Result<()> {
+        let mut seed = time_seed();
+        println!("first seed {}", seed);
+        while self.start.elapsed() < duration {
+            self.script(&format!("seed {}", seed), &seeded_script(seed), 1)?;
+            self.page(seed, &seeded_page(seed))?;
+            seed = seed.wrapping_add(1);
+        }
+        Ok(())
+    }
+
+    fn script(&mut self, label: &str, script: &[u8], cases: usize) -> io::Result<()> {
+        self.cases += cases as u64;
+        self.count_calls(script);
+        if self.script_differs(script)? {
+            self.differences += 1;
+            if self.differences <= SHOWN {
+                self.show_script(label, script)?;
+            }
+        }
+        self.progress();
+        Ok(())
+    }
+
+    fn count_calls(&mut self, script: &[u8]) {
+        for line in script.split(|&byte| byte == b'\n') {
+            if let Line::Call(call) = meaning(line) {
+                self.calls += 1;
+                self.cuts += u64::from(call == Call::Cut);
+            }
+        }
+    }
+
+    fn script_differs(&self, script: &[u8]) -> io::Result<bool> {
+        let said = self.recorder.run("bench", script)?;
+        Ok(said != own_answers(script))
+    }
+
+    /// The smallest prefix that differs, found by halving.
+    fn show_script(&self, label: &str, script: &[u8]) -> io::Result<()> {
+        let lines: Vec<&[u8]> = script.split_inclusive(|&byte| byte == b'\n').collect();
+        let (mut same, mut differs) = (0, lines.len());
+        while differs - same > 1 {
+            let middle = same + (differs - same) / 2;
+            if self.script_differs(&lines[..middle].concat())? {
+                differs = middle;
+            } else {
+                same = middle;
+            }
+        }
+        let prefix = lines[..differs].concat();
+        println!("difference: bench, {}", label);
+        println!("smallest failing prefix, {} lines:", differs);
+        io::stdout().write_all(&prefix)?;
+        let said = self.recorder.run("bench", &prefix)?;
+        show_both(&own_answers(&prefix), &said);
+        Ok(())
+    }
+
+    fn page(&mut self, seed: u64, page: &[u8]) -> io::Result<()> {
+        self.cases += 1;
+        let said = self.recorder.run("list", page)?;
+        let own = own_listing(page);
+        if said != own {
+            self.differences += 1;
+            if self.differences <= SHOWN {
+                let name = format!("difference-page-{}", seed);
+                fs::write(&name, page)?;
+                println!("difference: list, seed {}, page in the file {}", seed, name);
+                show_both(&own, &said);
+            }
+        }
+        self.progress();
+        Ok(())
+    }
+
+    fn figures(&self) -> String {
+        format!(
+            "cases {} calls {} cuts {} seconds {} differences {}",
+            self.cases,
+            self.calls,
+            self.cuts,
+            self.start.elapsed().as_secs(),
+            self.differences
+        )
+    }
+
+    fn progress(&mut self) {
+        if self.last_progress.elapsed() >= Duration::from_secs(5) {
+            self.last_progress = Instant::now();
+            eprintln!("{}", self.figures());
+        }
+    }
+}
+
+fn own_answers(script: &[u8]) -> Said {
+    Said {
+        text: bench::run(script).into_bytes(),
+        status: Some(0),
+    }
+}
+
+fn own_listing(page: &[u8]) -> Said {
+    let listing = list(page);
+    Said {
+        text: listing.text.into_bytes(),
+        status: Some(listing.status),
+    }
+}
+
+/// The first line in which two outputs differ, and both statuses.
+fn show_both(own: &Said, said: &Said) {
+    let own_lines: Vec<&[u8]> = own.text.split(|&byte| byte == b'\n').collect();
+    let said_lines: Vec<&[u8]> = said.text.split(|&byte| byte == b'\n').collect();
+    let equal = own_lines.iter().zip(&said_lines);
+    let place = equal.take_while(|(a, b)| a == b).count();
+    let line = |lines: &[&[u8]]| match lines.get(place) {
+        Some(line) => String::from_utf8_lossy(line).into_owned(),
+        None => String::from("(at its end)"),
+    };
+    println!("output line {}", place + 1);
+    println!("second:   {} (status {:?})", line(&own_lines), own.status);
+    println!("recorder: {} (status {:?})", line(&said_lines), said.status);
+}
+
+/// A seed from the time of day.
+fn time_seed() -> u64 {
+    let since = SystemTime::now().duration_since(UNIX_EPOCH);
+    since.map_or(1, |time| time.as_nanos() as u64)
+}

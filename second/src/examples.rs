@@ -1,0 +1,151 @@
+//! Document 01's bench examples, run on the bench.
+
+use crate::cases::pages_size::g1;
+use crate::rules::bench::run;
+use crate::rules::listing::list;
+
+const MAKE_A: &str = "element 1 1 20 3e8 0
+element 3 1 10 5dc 0
+element 10003 1 70 1f4 0
+element 20000 2 0 0 0
+make 2
+";
+const R1: &str = "command unlocked 7C 1 3 0 0\nstep\nstep\nstep\nstep\nstep\n";
+const DONE: &str = "0 0/00/00";
+const REFUSED: &str = "4 5/24/00";
+
+/// The answers of a fresh A to `script`, that of `make` left out.
+fn answers(script: &str) -> Vec<String> {
+    let text = run(format!("{}{}", MAKE_A, script).as_bytes());
+    let mut lines = text.lines().map(String::from);
+    assert_eq!(lines.next().as_deref(), Some(DONE));
+    lines.collect()
+}
+
+/// All calls of `script` are answered 0, and `cells` then says `expected`.
+fn leads_to(script: &str, expected: &str, element: &str) {
+    let all = answers(&format!("{}cells\n", script));
+    let calls = script.lines().count();
+    assert!(all[..calls].iter().all(|answer| answer == DONE));
+    assert_eq!(all[calls], expected);
+    assert!(all[calls + 1..].contains(&String::from(element)));
+}
+
+fn last_answer(script: &str) -> String {
+    answers(script).pop().unwrap_or_default()
+}
+
+const R5: &str = "command unlocked 7C 1 3 0 0\nstep\nstep\ncut\nstep\nstep\nstep\nstep\n";
+const R6: &str = "command unlocked 7C 1 3 0 0\nstep\nstep\nstep\ncut\nstep\nstep\nstep\nstep\n";
+
+#[test]
+fn r1() {
+    leads_to(
+        R1,
+        "limit 2 native 2499 accessible 2499 failed 0 note - position work1",
+        "00010003 01 FF 500 0",
+    );
+}
+
+#[test]
+fn r2_r3_r4() {
+    assert_eq!(last_answer("command unlocked 7C 0 0 0 0\n"), REFUSED);
+    assert_eq!(last_answer("command unlocked 7C 2 0 0 0\n"), REFUSED);
+    assert_eq!(last_answer("command unlocked 7C 1 3 9C3 0\n"), DONE);
+    assert_eq!(last_answer("command unlocked 7C 1 3 9C4 0\n"), REFUSED);
+}
+
+#[test]
+fn r5_r6_r7() {
+    leads_to(
+        R5,
+        "limit 2 native 2999 accessible 2999 failed 1 note - position work1",
+        "00010003 01 70 500 0",
+    );
+    leads_to(
+        R6,
+        "limit 2 native 2499 accessible 2499 failed 1 note - position work1",
+        "00010003 01 FF 500 0",
+    );
+    leads_to(
+        &format!("{}command unlocked 7C 1 3 FFFFFFFFFFFF 0\n", R6),
+        "limit 2 native 2499 accessible 2499 failed 0 note - position work1",
+        "00010003 01 FF 500 0",
+    );
+}
+
+#[test]
+fn r8() {
+    let element_1 = "command unlocked 7C 0 1 0 0\nstep\nstep\nstep\nstep\nstep\n";
+    let script = format!("{}{}", R1, element_1);
+    leads_to(
+        &script,
+        "limit 2 native 1499 accessible 1499 failed 0 note - position work1",
+        "00000001 01 FF 1000 0",
+    );
+    let then = format!("{}command unlocked 7C 0 3 0 0\n", script);
+    assert_eq!(last_answer(&then), REFUSED);
+}
+
+/// "limit 1, after R1 element 1 gives 4": the limit by itself.
+#[test]
+fn limit_by_itself() {
+    let limit_1 = MAKE_A.replace("make 2", "make 1");
+    let script = format!("{}{}command unlocked 7C 0 1 0 0\n", limit_1, R1);
+    assert_eq!(run(script.as_bytes()).lines().last(), Some(REFUSED));
+}
+
+#[test]
+fn g1_and_its_listing() {
+    let page = answers("command unlocked 12 4100 1 0 200\n");
+    let expected = [
+        DONE,
+        "0100000001000000000000000200000000000000000000000000000000000000",
+        "00000000030001000000000000000170F4010000000000000000000000000000",
+        "zeros 14",
+    ];
+    assert_eq!(page, expected);
+    assert_eq!(
+        list(&g1().bytes()).text,
+        "number 1 returned 1 busy 00000000 limit 2 removed 0\n00010003 01 70 500\n"
+    );
+}
+
+#[test]
+fn g2_g3_g4() {
+    let page = answers("command unlocked 12 4100 1 100000000 200\n");
+    let expected = [
+        DONE,
+        "0000000000000000000000000200000000000000000000000000000000000000",
+        "zeros 15",
+    ];
+    assert_eq!(page, expected);
+    assert_eq!(last_answer("command unlocked 12 4100 0 0 200\n"), REFUSED);
+    assert_eq!(last_answer("command unlocked 12 8000 1 0 200\n"), REFUSED);
+}
+
+/// "16 matching elements, one page: N = 16, returned 15."
+#[test]
+fn sixteen_in_one_page() {
+    let mut script = String::new();
+    for identifier in 1..=16 {
+        script += &format!("element {:x} 1 0 64 0\n", identifier);
+    }
+    script += "make 0\ncommand unlocked 12 0 1 0 200\nread 0 1 0\n";
+    let text = run(script.as_bytes());
+    let header = "number 16 returned 15 busy 00000000 limit 0 removed 0";
+    assert!(text.contains(header), "{}", text);
+}
+
+/// "After R1, 25h: LBA 2,499 COUNT 1: 0; COUNT 2: 5. After R5 or R6: 3."
+#[test]
+fn media_access() {
+    let after = |before: &str, count: u8| {
+        let script = format!("{}command unlocked 25 0 {} 9C3 0\n", before, count);
+        last_answer(&script)
+    };
+    assert_eq!(after(R1, 1), DONE);
+    assert_eq!(after(R1, 2), "5 5/21/00");
+    assert_eq!(after(R5, 1), "3 3/31/04");
+    assert_eq!(after(R6, 1), "3 3/31/04");
+}
