@@ -4,10 +4,10 @@ use mathlib.Core.List.{List, [], _∷_, _++_, append-nil}
 use mathlib.Core.Path.{_≡_, refl, sym, ap, _∙_}
 use native.Mathlib.Numerals.{add-one}
 use native.Mathlib.Omega.{arith}
-use lib.ListN.{length, set, replicate, length-append, take, drop, getD, drop-of-length-le}
-use lib.Seq.{take-append-seam, set-append-seam, drop-cons, append-snoc}
+use lib.ListN.{length, replicate, length-append, take, drop, getD, drop-of-length-le}
+use lib.Seq.{take-append-seam, drop-cons, append-snoc}
 use borrow.Author.Tests.{lt-ltb}
-use Rattle.words.proofs.Lists.{take-min}
+use Rattle.words.proofs.Lists.{take-min, padded, padded-more}
 use Rattle.text.specs.Digits.{glyph, digits, placesOf, decimalOf}
 use Rattle.text.specs.Text.{nothing, pushed, written, held}
 use Rattle.text.specs.declared.Text.{Text}
@@ -48,17 +48,12 @@ word-all t s i h = sym (ap (λ (l : List ℕ). written t l) (drop-of-length-le s
 
 -- the text that holds some bytes
 abbrev pub holding : List ℕ → Text
-holding l = record { bytes = l ++ replicate (160 - length l) 0; len = length l }
+holding l = record { bytes = padded 160 l; len = length l }
 
 holding-more : (l : List ℕ) (b : ℕ) → length l < 160 → pushed (holding l) b ≡ holding (l ++ (b ∷ []))
 holding-more l b h =
-    let m : ℕ = 159 - length l in
-    let room : 160 - length l ≡ suc m = omega arith in
-    let less : 160 - length (l ++ (b ∷ [])) ≡ m = simp length-append (omega arith) in
     let long : length l + 1 ≡ length (l ++ (b ∷ [])) = simp length-append in
-    let stored : set (l ++ replicate (160 - length l) 0) (length l) b ≡ (l ++ (b ∷ [])) ++ replicate (160 - length (l ++ (b ∷ []))) 0 =
-    rw (room, less) (set-append-seam l 0 (replicate m 0) b ∙ sym (append-snoc l b (replicate m 0))) in
-    rw (lt-ltb _ _ h) (λ i. record { bytes = stored i; len = long i })
+    rw (lt-ltb _ _ h) (λ i. record { bytes = padded-more 160 l b h i; len = long i })
 
 holding-all : (l m : List ℕ) → length l + length m ≤ 160 → written (holding l) m ≡ holding (l ++ m)
 unfolding written

@@ -7,8 +7,8 @@ use native.Mathlib.Nat.{zero-add, zero-min, min-zero, suc-min-suc, mul-zero, mul
 use native.Mathlib.Numerals.{add-one}
 use native.Mathlib.Omega.{arith}
 use lib.Dec.{leb}
-use lib.ListN.{length, getD, take, drop, set, length-append, length-take, length-drop, drop-of-length-le, take-append-drop}
-use lib.Seq.{take-suc, take-suc-set, drop-cons, getD-take, drop-append-add, drop-drop, take-at, drop-at, length-take-le, paste, take-all}
+use lib.ListN.{length, getD, take, drop, set, length-append, length-take, length-drop, drop-of-length-le, take-append-drop, replicate}
+use lib.Seq.{take-suc, take-suc-set, drop-cons, getD-take, drop-append-add, drop-drop, take-at, drop-at, length-take-le, paste, take-all, set-append-seam, append-snoc}
 use borrow.Author.Tests.{le-leb, lt-leb, leb-true, leb-false}
 use Rattle.words.specs.Lists.{keep, flat, fits, stored, sum}
 
@@ -149,6 +149,19 @@ stored-each {A} {B} f w each es d x y at k z room less is-x is-y =
     let more : at + w * (k + 1) ≡ at + (w * k + w) = rw (mul-add, mul-one) in
     let fits : at + length (F ++ f (getD es k z)) ≤ length d = rw (length-append F (f (getD es k z)), long, each (getD es k z), ← more) room in
     is-y ∙ rw (is-x, ← long, flat-more f es k z less) (stored-more d at F (f (getD es k z)) fits)
+
+-- ## Filled up from the front
+
+-- room for n: a list, then zeros
+abbrev pub padded : ℕ → List ℕ → List ℕ
+padded n l = l ++ replicate (n - length l) 0
+
+pub padded-more : (n : ℕ) (l : List ℕ) (b : ℕ) → length l < n → set (padded n l) (length l) b ≡ padded n (l ++ (b ∷ []))
+padded-more n l b h =
+    let m : ℕ = n - (length l + 1) in
+    let room : n - length l ≡ suc m = omega arith in
+    let less : n - length (l ++ (b ∷ [])) ≡ m = simp length-append (omega arith) in
+    rw (room, less) (set-append-seam l 0 (replicate m 0) b ∙ sym (append-snoc l b (replicate m 0)))
 
 -- ## Summed
 

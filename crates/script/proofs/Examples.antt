@@ -1,0 +1,36 @@
+-- Lines of the bench language and what they say, computed from the definitions.
+use Prim.Native.String.{String}
+use mathlib.Core.Bool.{false}
+use mathlib.Core.List.{_++_}
+use mathlib.Core.Path.{_≡_, refl}
+use lib.ListN.{replicate}
+use Rattle.paper.specs.declared.Security.the-variants.{Unlocked}
+use Rattle.text.specs.Text.{ascii}
+use Rattle.script.specs.Calls.{isState, stateOf, deviceOr, eventOr, pageOr, lineOf}
+use Rattle.script.specs.Numbers.{fieldOf}
+use Rattle.script.specs.Words.{wordAt, same}
+use Rattle.script.specs.declared.Line.the-variants.{Passed, NotACall, Element, Make, Command, Step, Grade, Length}
+use Rattle.script.specs.declared.Line.{Line}
+
+abbrev Says : String → Line → Type 0
+Says line call = lineOf (ascii line) ≡ call
+
+abbrev Examples : Type 0
+Examples =
+    (Says "element 10003 1 70 1f4 0" (Element (record { id = record { 0 = 0x1_0003 }; kind = 1; health = 0x70; unreported = false; blocks = 500 })))
+    × (Says "command unlocked 12 4100 1 0 200" (Command (record { security = Unlocked; code = 0x12; feature = 0x4100; count = 1; lba = record { 0 = 0 }; length = 512 })))
+    × (Says "   make    2  " (Make 2))
+    × (Says "grade aBcD CF" (Grade (record { id = record { 0 = 0xABCD }; health = 0xCF })))
+    × (Says "length 0000000000010000" (Length 0x1_0000))
+    × (Says "length 10001" NotACall)
+    × (Says "length 00000000000010000" NotACall)
+    × (Says "step 1" NotACall)
+    × (Says "grade 3" NotACall)
+    × (Says "   " Passed)
+    × (Says " #step" Passed)
+    × (lineOf (ascii "step" ++ replicate 196 32) ≡ Step)
+    × (lineOf (ascii "step" ++ replicate 197 32) ≡ NotACall)
+
+pub examples : Examples
+unfolding isState stateOf deviceOr eventOr pageOr lineOf fieldOf wordAt same
+examples = (refl, refl, refl, refl, refl, refl, refl, refl, refl, refl, refl, refl, refl)
