@@ -15,7 +15,7 @@ use Rattle.paper.specs.Told.{tells}
 use Rattle.reader.proofs.LayoutTheorem.{takes-exactly, with-header}
 use Rattle.reader.specs.Reading.{Values, header, place, readOf}
 use Rattle.words.specs.declared.Order.the-variants.{Little}
-use Rattle.listing.specs.Listing.{linesBelow, requestOf, inputOf, firstLine, lineCount, listingOf, Output, output, listed}
+use Rattle.listing.specs.Listing.{linesBelow, requestOf, judged, firstLine, lineCount, listingOf, Output, output, listed}
 use Rattle.listing.specs.Promises.{One-listing, Refusal-writes-nothing, Enough}
 use Rattle.listing.proofs.Listing.{length-first, length-lines}
 
@@ -45,7 +45,7 @@ few-read s short = by-values (readOf s (requestOf s) .state) refl
         let cut : headerIn Little s .returned ≡ returnedOf (headerIn Little s .number) (length s / 512) = takes-exactly s (requestOf s) .0 is-0 .1 .1 .0 in
         omega (arith, cut, ap (λ (g : Header). g .returned) is-h, min-le-right (headerIn Little s .number) (16 * (length s / 512) - 1))
 
-few : (s : List ℕ) → lineCount (inputOf s .state) ≤ 2047
+few : (s : List ℕ) → lineCount (judged s .state) ≤ 2047
 few s = by-test (ltb 65536 (length s)) refl
   where
     by-test : (t : Bool) → ltb 65536 (length s) ≡ t → lineCount (cond t (tells 9 (place 65536)) (readOf s (requestOf s)) .state) ≤ 2047
@@ -55,8 +55,8 @@ few s = by-test (ltb 65536 (length s)) refl
 length-listing : (s : List ℕ) → length (listingOf s) ≤ 80000
 unfolding listingOf
 length-listing s =
-    rw (length-append (firstLine (inputOf s .state)) (linesBelow s (lineCount (inputOf s .state))))
-    (omega (arith, few s, length-first (inputOf s .state), length-lines s (lineCount (inputOf s .state))))
+    rw (length-append (firstLine (judged s .state)) (linesBelow s (lineCount (judged s .state))))
+    (omega (arith, few s, length-first (judged s .state), length-lines s (lineCount (judged s .state))))
 
 pub enough : Enough
 enough s out h = rw (le-ltb (length out) (length (listingOf s)) (omega (arith, length-listing s)))

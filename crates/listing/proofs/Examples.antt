@@ -20,9 +20,9 @@ pub G1 : listingOf (page (0xF4 ∷ 0x01 ∷ zeros 6)) ≡ ascii "number 1 return
 unfolding listingOf refused takesHealth
 G1 = refl
 
-pub unknown-capacity : listingOf (page (replicate 8 0xFF)) ≡ ascii "number 1 returned 1 busy 00000000 limit 2 removed 0\n00010003 01 70 -\n"
+pub unreported : listingOf (page (replicate 8 0xFF)) ≡ ascii "number 1 returned 1 busy 00000000 limit 2 removed 0\n00010003 01 70 -\n"
 unfolding listingOf refused takesHealth
-unknown-capacity = refl
+unreported = refl
 
 pub empty-input : listingOf [] ≡ ascii "refused 9 at 0\n"
 unfolding listingOf refused takesHealth

@@ -27,13 +27,13 @@ use Rattle.text.specs.declared.Text.{Text}
 use Rattle.words.proofs.Lists.{stored-more, stored-two}
 use Rattle.words.specs.Lists.{stored}
 use Rattle.words.specs.declared.Order.the-variants.{Little}
-use Rattle.listing.specs.Listing.{capacityOf, descriptorLine, headerLine, refusedLine, linesBelow, requestOf, inputOf, firstLine, lineCount, listingOf, output, listed}
+use Rattle.listing.specs.Listing.{capacityOf, descriptorLine, headerLine, refusedLine, linesBelow, requestOf, judged, firstLine, lineCount, listingOf, output, listed}
 
 -- ## The lines
 
 module _ (t r : Text) (n : ℕ) where
-  pub capacity-unknown : n ≡ allOnes → r ≡ written t (ascii "-") → r ≡ written t (capacityOf n)
-  capacity-unknown e h = h ∙ sym (rw (eq-eqb n allOnes e))
+  pub capacity-unreported : n ≡ allOnes → r ≡ written t (ascii "-") → r ≡ written t (capacityOf n)
+  capacity-unreported e h = h ∙ sym (rw (eq-eqb n allOnes e))
 
   pub capacity-known : (n ≡ allOnes → ⊥) → r ≡ written t (decimalOf n) → r ≡ written t (capacityOf n)
   capacity-known e h = h ∙ sym (rw (ne-eqb n allOnes e))
@@ -52,10 +52,10 @@ line-read s u k d t is-u is-d is-t = is-t ∙ rw (is-d, is-u)
 -- ## The input
 
 module _ (s : List ℕ) where
-  pub input-long : 65536 < length s → tells 9 (place 65536) ≡ inputOf s
+  pub input-long : 65536 < length s → tells 9 (place 65536) ≡ judged s
   input-long h = sym (rw (lt-ltb _ _ h))
 
-  pub input-read : length s ≤ 65536 → (r : Reading) → heard r ≡ readOf s (requestOf s) → heard r ≡ inputOf s
+  pub input-read : length s ≤ 65536 → (r : Reading) → heard r ≡ readOf s (requestOf s) → heard r ≡ judged s
   input-read h r e = e ∙ sym (rw (le-ltb _ _ h))
 
 -- ## How long
@@ -134,7 +134,7 @@ module _ (s : List ℕ) (k : ℕ) (line : Text) (is-line : line ≡ written noth
 
 -- ## The whole listing
 
-module _ (s : List ℕ) (r : Reading) (is-r : heard r ≡ inputOf s) (t : Text) (is-t : t ≡ written nothing (firstLine (heard r .state)))
+module _ (s : List ℕ) (r : Reading) (is-r : heard r ≡ judged s) (t : Text) (is-t : t ≡ written nothing (firstLine (heard r .state)))
     (n : ℕ) (is-n : n ≡ lineCount (heard r .state)) (m : ℕ) (is-m : m ≡ length (linesBelow s n)) where
   first-len : t .len ≡ length (firstLine (heard r .state))
   first-len = ap (λ (x : Text). x .len) is-t ∙ len-written (firstLine (heard r .state)) (omega (arith, length-first (heard r .state)))

@@ -54,10 +54,9 @@ abbrev pub requestOf : List ℕ → Request
 requestOf s = record { feature = 0; count = record { 0 = length s / 512 }; lba = record { 0 = 0 } }
 
 -- "at most 65,536 bytes ..; longer input is refused at 65536"
-abbrev pub inputOf : List ℕ → Told Values
-inputOf s = cond (ltb 65536 (length s)) (tells 9 (place 65536)) (readOf s (requestOf s))
+abbrev pub judged : List ℕ → Told Values
+judged s = cond (ltb 65536 (length s)) (tells 9 (place 65536)) (readOf s (requestOf s))
 
--- "It prints one header and a line for each descriptor .. or `refused 9 at ` and the place."
 abbrev pub firstLine : Values → List ℕ
 firstLine (header h) = headerLine h
 firstLine (place p) = refusedLine p
@@ -66,8 +65,9 @@ abbrev pub lineCount : Values → ℕ
 lineCount (header h) = h .returned
 lineCount (place p) = 0
 
+-- "It prints one header and a line for each descriptor .. or `refused 9 at ` and the place."
 unfoldable pub listingOf : List ℕ → List ℕ
-listingOf s = firstLine (inputOf s .state) ++ linesBelow s (lineCount (inputOf s .state))
+listingOf s = firstLine (judged s .state) ++ linesBelow s (lineCount (judged s .state))
 
 -- ## The lent buffer
 
@@ -80,8 +80,7 @@ abbrev pub output : ℕ → List ℕ → Output
 output n out = record { count = n; buffer = out }
 
 -- a buffer that is too short gets 7 and stays untouched
-abbrev pub put : List ℕ → List ℕ → Told Output
-put text out = cond (ltb (length out) (length text)) (tells 7 (output 0 out)) (tells 0 (output (length text) (text ++ drop (length text) out)))
-
 abbrev pub listed : List ℕ → List ℕ → Told Output
-listed s out = put (listingOf s) out
+listed s out =
+    let text = listingOf s in
+    cond (ltb (length out) (length text)) (tells 7 (output 0 out)) (tells 0 (output (length text) (text ++ drop (length text) out)))

@@ -9,8 +9,7 @@ ghost use Rattle.reader.specs.Reading.{heard};
 ghost use Rattle.text.specs.Text.{nothing, written};
 ghost use Rattle.words.specs.Lists.{stored};
 ghost use Rattle.words.specs.declared.Order.the-variants.{Little};
-ghost use Rattle.listing.specs.Listing.{capacityOf, descriptorLine, headerLine, refusedLine, linesBelow, inputOf, firstLine, lineCount, output, listed};
-ghost use Rattle.listing.specs.Listing as paper;
+ghost use Rattle.listing.specs.Listing.{capacityOf, descriptorLine, headerLine, refusedLine, linesBelow, judged, firstLine, lineCount, output, listed};
 use layout::Descriptor;
 use layout::Header;
 use layout::Request;
@@ -75,9 +74,9 @@ fn refused_line(place: usize) -> Text
         .word(b"\n")
 }
 
-// What the reader says of the input.
+// The reader's answer; a longer input does not reach it.
 fn judge(input: &[u8]) -> Reading
-    ensures { λ r. ⌜ heard r ≡ inputOf (now (input .entry)) ⌝ }
+    ensures { λ r. ⌜ heard r ≡ judged (now (input .entry)) ⌝ }
 {
     if 65536 < input.len() {
         return Reading::Refused(65536);
@@ -100,7 +99,6 @@ fn first_line(answer: Reading) -> Text
     }
 }
 
-// How many descriptors it has a line for.
 fn line_count(answer: Reading) -> u32
     ensures { λ r. ⌜ r ≡ lineCount (heard answer .state) ⌝ }
 {
@@ -110,7 +108,6 @@ fn line_count(answer: Reading) -> u32
     }
 }
 
-// The line of descriptor k.
 fn line_at(input: &[u8], k: u32) -> Text
     ensures { λ r. ⌜ r ≡ written nothing (descriptorLine (descriptorAt Little (now (input .entry)) k)) ⌝ }
 {

@@ -6,13 +6,13 @@ use mathlib.Core.Path.{_≡_, refl, sym, ap, _∙_}
 use native.Mathlib.Nat.{add-zero}
 use native.Mathlib.Omega.{arith}
 use lib.Dec.{eqb, ltb}
-use lib.ListN.{length, replicate, length-append}
+use lib.ListN.{drop, length-drop, length, replicate, length-append}
 use lib.Seq.{take-append-seam, append-snoc}
 use borrow.Author.Tests.{lt-ltb, le-ltb, ltb-true, ltb-false}
 use Rattle.words.proofs.Lists.{padded, padded-more}
 use Rattle.script.specs.Calls.{lineOf}
 use Rattle.script.specs.Lines.{nothing, pushed, gathered, takenFrom, meaningOf}
-use Rattle.script.specs.Promises.{Cut-anywhere, noNewline, Ends-at-newline, Says-its-bytes}
+use Rattle.script.specs.Promises.{Cut-anywhere, noNewline, Ends-at-newline, Goes-on, Place-counts, Says-its-bytes}
 use Rattle.script.specs.declared.Gathered.{Gathered}
 use Rattle.script.specs.declared.Taken.{Taken}
 use Rattle.script.proofs.Says.{line-long}
@@ -52,6 +52,58 @@ ends-at-newline g (x ∷ l) rest at none = by-test (eqb x 10) none (ends-at-newl
     by-test false e h =
         let same : at + 1 + length l + 1 ≡ at + suc (length l) + 1 = omega arith in
         h e ∙ rw same
+
+pub goes-on : Goes-on
+unfolding takenFrom gathered
+goes-on g [] at none = rw (add-zero at)
+goes-on g (x ∷ l) at none = by-test (eqb x 10) none (goes-on (pushed g x) l (at + 1))
+  where
+    by-test : (t : Bool) → (not t && noNewline l) ≡ true
+        → (noNewline l ≡ true → takenFrom (pushed g x) l (at + 1) ≡ record { line = gathered (pushed g x) l; at = at + 1 + length l; whole = false })
+        → cond t (record { line = g; at = at + 1; whole = true }) (takenFrom (pushed g x) l (at + 1))
+        ≡ record { line = gathered (pushed g x) l; at = at + suc (length l); whole = false }
+    by-test true e h = absurd (false≢true e)
+    by-test false e h =
+        let same : at + 1 + length l ≡ at + suc (length l) = omega arith in
+        h e ∙ rw same
+
+later : ℕ → Taken → Taken
+later n t = record { line = t .line; at = n + t .at; whole = t .whole }
+
+moved : (g : Gathered) (l : List ℕ) (m n : ℕ) → takenFrom g l (n + m) ≡ later n (takenFrom g l m)
+unfolding takenFrom later
+moved g [] m n = refl
+moved g (x ∷ l) m n = by-test (eqb x 10) (moved (pushed g x) l (m + 1) n)
+  where
+    next : n + m + 1 ≡ n + (m + 1)
+    next = omega arith
+
+    by-test : (t : Bool) → takenFrom (pushed g x) l (n + (m + 1)) ≡ later n (takenFrom (pushed g x) l (m + 1))
+        → cond t (record { line = g; at = n + m + 1; whole = true }) (takenFrom (pushed g x) l (n + m + 1))
+        ≡ later n (cond t (record { line = g; at = m + 1; whole = true }) (takenFrom (pushed g x) l (m + 1)))
+    by-test true h = rw next
+    by-test false h = rw next h
+
+pub place-counts : Place-counts
+unfolding later
+place-counts g l at = ap (takenFrom g l) (sym (add-zero at)) ∙ moved g l 0 at
+
+not-back : (g : Gathered) (l : List ℕ) (at : ℕ) → at ≤ takenFrom g l at .at
+unfolding later
+not-back g l at = rw (ap (λ (t : Taken). t .at) (place-counts g l at)) (omega arith)
+
+goes-further : (g : Gathered) (l : List ℕ) (at : ℕ) → 0 < length l → at < takenFrom g l at .at
+unfolding takenFrom
+goes-further g [] at h = absurd (omega arith)
+goes-further g (x ∷ l) at h = by-test (eqb x 10)
+  where
+    by-test : (t : Bool) → at < cond t (record { line = g; at = at + 1; whole = true }) (takenFrom (pushed g x) l (at + 1)) .at
+    by-test true = omega arith
+    by-test false = omega (arith, not-back (pushed g x) l (at + 1))
+
+-- for a loop over a piece
+pub taken-further : (g : Gathered) (piece : List ℕ) (from : ℕ) (t : Taken) → t ≡ takenFrom g (drop from piece) from → from < length piece → from < t .at
+taken-further g piece from t e h = rw e (goes-further g (drop from piece) from (rw (length-drop from piece) (omega arith)))
 
 -- ## A gathered line
 

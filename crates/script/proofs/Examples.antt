@@ -6,7 +6,7 @@ use mathlib.Core.Path.{_≡_, refl}
 use lib.ListN.{replicate}
 use Rattle.paper.specs.declared.Security.the-variants.{Unlocked}
 use Rattle.text.specs.Text.{ascii}
-use Rattle.script.specs.Calls.{isState, stateOf, deviceOr, eventOr, pageOr, lineOf}
+use Rattle.script.specs.Calls.{isState, stateOf, deviceOr, bareOr, pageOr, lineOf}
 use Rattle.script.specs.Numbers.{fieldOf}
 use Rattle.script.specs.Words.{wordAt, same}
 use Rattle.script.specs.declared.Line.the-variants.{Passed, NotACall, Element, Make, Command, Step, Grade, Length}
@@ -32,5 +32,5 @@ Examples =
     × (lineOf (ascii "step" ++ replicate 197 32) ≡ NotACall)
 
 pub examples : Examples
-unfolding isState stateOf deviceOr eventOr pageOr lineOf fieldOf wordAt same
+unfolding isState stateOf deviceOr bareOr pageOr lineOf fieldOf wordAt same
 examples = (refl, refl, refl, refl, refl, refl, refl, refl, refl, refl, refl, refl, refl)

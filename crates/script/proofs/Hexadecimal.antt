@@ -10,8 +10,9 @@ use lib.Dec.{leb, lit<}
 use lib.ListN.{length, drop, getD, drop-of-length-le}
 use lib.Seq.{drop-cons}
 use borrow.Author.Tests.{le-leb, lt-leb, lt-ltb, leb-true}
+use Rattle.text.specs.Digits.{within, digitOf, valueAfter, valueOf}
 use Rattle.words.specs.Lists.{all}
-use Rattle.script.specs.Numbers.{within, digitOf, isDigit, valueAfter, valueOf, fits, noNumber, fieldOf}
+use Rattle.script.specs.Numbers.{isDigit, noNumber, fieldOf}
 use Rattle.script.specs.declared.Field.{Field}
 
 -- ## A digit
@@ -76,7 +77,7 @@ module _ (most : ℕ) (w : List ℕ) where
   -- the first i bytes are digits, and their number is `value`
   pub record Read (value i : ℕ) : Type 0 where
     pub digits : all isDigit (drop i w) ≡ all isDigit w
-    pub number : valueAfter value (drop i w) ≡ valueOf w
+    pub number : valueAfter 16 value (drop i w) ≡ valueOf 16 w
     pub small : value < 16 ^ i
     pub inside : i ≤ length w
 
@@ -112,8 +113,8 @@ module _ (most : ℕ) (w : List ℕ) where
           sym (rw (le-leb 1 (length w) (omega arith), le-leb (length w) 16 short, none))
 
     module _ (all-read : length w ≤ i) (some : length w ≡ 0 → ⊥) where
-      is-value : value ≡ valueOf w
-      is-value = ap (valueAfter value) (sym (drop-of-length-le w all-read)) ∙ so .number
+      is-value : value ≡ valueOf 16 w
+      is-value = ap (valueAfter 16 value) (sym (drop-of-length-le w all-read)) ∙ so .number
 
       are-digits : all isDigit w ≡ true
       are-digits = sym (so .digits) ∙ ap (all isDigit) (drop-of-length-le w all-read)

@@ -8,10 +8,11 @@ use lib.Dec.{eqb, leb}
 use lib.ListN.{length, getD}
 use borrow.Author.Tests.{lt-ltb, le-ltb, ne-eqb, leb-true}
 use Rattle.paper.specs.declared.Security.the-variants.{Locked, Unlocked, Frozen}
+use Rattle.text.specs.Digits.{within, valueOf}
 use Rattle.text.specs.Text.{ascii}
 use Rattle.words.specs.Lists.{all}
-use Rattle.script.specs.Calls.{named, fieldAt, isState, stateOf, deviceOr, eventOr, pageOr, isPassed, lineOf}
-use Rattle.script.specs.Numbers.{within, isDigit, valueOf, fits, noNumber, fieldOf}
+use Rattle.script.specs.Calls.{named, fieldAt, isState, stateOf, deviceOr, bareOr, pageOr, isPassed, lineOf}
+use Rattle.script.specs.Numbers.{isDigit, isNumber, noNumber, fieldOf}
 use Rattle.script.specs.Words.{wordAt, isEmpty, same}
 use Rattle.script.specs.declared.Field.{Field}
 use Rattle.script.specs.declared.Line.the-variants.{Passed, NotACall}
@@ -34,10 +35,10 @@ last-of false b c e = absurd (false≢true e)
 
 field-most : (most : ℕ) (w : List ℕ) → fieldOf most w .value ≤ most
 unfolding fieldOf
-field-most most w = by-test (fits most w) refl
+field-most most w = by-test (isNumber most w) refl
   where
-    by-test : (t : Bool) → fits most w ≡ t → cond t (record { fits = true; value = valueOf w }) noNumber .value ≤ most
-    by-test true e = leb-true (valueOf w) most (last-of (within 1 16 (length w)) (all isDigit w) (leb (valueOf w) most) e)
+    by-test : (t : Bool) → isNumber most w ≡ t → cond t (record { fits = true; value = valueOf 16 w }) noNumber .value ≤ most
+    by-test true e = leb-true (valueOf 16 w) most (last-of (within 1 16 (length w)) (all isDigit w) (leb (valueOf 16 w) most) e)
     by-test false e = omega arith
 
 pub field-at : (l w : List ℕ) (k most : ℕ) (r : Field) → w ≡ wordAt k l → r ≡ fieldOf most w → (r ≡ fieldAt l k most) × (r .value ≤ most)
@@ -90,6 +91,6 @@ module _ (l : List ℕ) where
     unfolding lineOf
     line-passed y = sym (rw (le-ltb 200 (length l) h, sym is-t ∙ y))
 
-    pub line-call : t ≡ false → (a b c : Line) → a ≡ pageOr l NotACall → b ≡ eventOr l a → c ≡ deviceOr l b → c ≡ lineOf l
+    pub line-call : t ≡ false → (a b c : Line) → a ≡ pageOr l NotACall → b ≡ bareOr l a → c ≡ deviceOr l b → c ≡ lineOf l
     unfolding lineOf
     line-call n a b c is-a is-b is-c = is-c ∙ rw (is-b, is-a) (sym (rw (le-ltb 200 (length l) h, sym is-t ∙ n)))

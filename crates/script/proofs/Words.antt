@@ -9,7 +9,7 @@ use lib.Dec.{eqb}
 use lib.ListN.{length, take, drop, getD, length-append, length-drop, drop-of-length-le}
 use lib.Seq.{drop-cons, take-append-seam}
 use borrow.Author.Tests.{eq-eqb, ne-eqb}
-use Rattle.script.specs.Words.{dropWhile, takeWhile, spaced, fromWord, wordAt, same}
+use Rattle.script.specs.Words.{isSpace, isOther, dropWhile, takeWhile, spaceOr, fromWord, wordAt, same}
 
 -- ## Skipped while a test holds
 
@@ -43,16 +43,16 @@ part-taken f l a e h so =
 
 -- where a word starts, and how far it goes
 module _ (l : List ℕ) where
-  pub first-word : (a : ℕ) → drop a l ≡ dropWhile (spaced true) (drop 0 l) → drop a l ≡ fromWord 0 l
+  pub first-word : (a : ℕ) → drop a l ≡ dropWhile isSpace (drop 0 l) → drop a l ≡ fromWord 0 l
   first-word a e = e
 
-  module _ (k a : ℕ) (so : drop a l ≡ fromWord k l) (m : ℕ) (past : drop m l ≡ dropWhile (spaced false) (drop a l)) where
-    pub next-word : (n : ℕ) → drop n l ≡ dropWhile (spaced true) (drop m l) → drop n l ≡ fromWord (k + 1) l
+  module _ (k a : ℕ) (so : drop a l ≡ fromWord k l) (m : ℕ) (past : drop m l ≡ dropWhile isOther (drop a l)) where
+    pub next-word : (n : ℕ) → drop n l ≡ dropWhile isSpace (drop m l) → drop n l ≡ fromWord (k + 1) l
     next-word n e = e ∙ rw (past, so, add-one k)
 
     pub this-word : m ≤ length l → take (m - a) (drop a l) ≡ wordAt k l
     unfolding wordAt
-    this-word h = part-taken (spaced false) l a m h past ∙ ap (takeWhile (spaced false)) so
+    this-word h = part-taken isOther l a m h past ∙ ap (takeWhile isOther) so
 
 -- ## Words compared
 
@@ -89,8 +89,8 @@ module _ (a b : List ℕ) where
 -- ## A byte
 
 module _ (space : Bool) (b : ℕ) where
-  pub spaced-yes : space ≡ true → eqb b 32 ≡ spaced space b
-  spaced-yes e = sym (rw e)
+  pub space-yes : space ≡ true → eqb b 32 ≡ spaceOr space b
+  space-yes e = sym (rw e)
 
-  pub spaced-no : space ≡ false → not (eqb b 32) ≡ spaced space b
-  spaced-no e = sym (rw e)
+  pub space-no : space ≡ false → not (eqb b 32) ≡ spaceOr space b
+  space-no e = sym (rw e)

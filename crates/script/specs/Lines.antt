@@ -1,4 +1,4 @@
--- "A line ends at a newline (the last one may lack it)": a line put together from pieces of input.
+-- docs/BENCH.md: "A line ends at a newline (the last one may lack it)": a line put together from pieces of input.
 use Prim.Native.Nat.{ℕ, _+_}
 use mathlib.Core.Bool.{true, false, cond}
 use mathlib.Core.List.{List, [], _∷_}
@@ -27,6 +27,5 @@ unfoldable pub takenFrom : Gathered → List ℕ → ℕ → Taken
 takenFrom g [] at = record { line = g; at = at; whole = false }
 takenFrom g (b ∷ l) at = cond (eqb b 10) (record { line = g; at = at + 1; whole = true }) (takenFrom (pushed g b) l (at + 1))
 
--- what a gathered line says
 abbrev pub meaningOf : Gathered → Line
 meaningOf g = cond (ltb 200 (g .len)) NotACall (lineOf (take (g .len) (g .bytes)))

@@ -26,6 +26,16 @@ Ends-at-newline =
     (g : Gathered) (l rest : List ℕ) (at : ℕ) → noNewline l ≡ true
     → takenFrom g (l ++ (10 ∷ rest)) at ≡ record { line = gathered g l; at = at + length l + 1; whole = true }
 
+-- a piece without a newline is added whole, and so is the last line
+abbrev pub Goes-on : Type 0
+Goes-on = (g : Gathered) (l : List ℕ) (at : ℕ) → noNewline l ≡ true → takenFrom g l at ≡ record { line = gathered g l; at = at + length l; whole = false }
+
+-- the place where a piece starts only counts
+abbrev pub Place-counts : Type 0
+Place-counts =
+    (g : Gathered) (l : List ℕ) (at : ℕ)
+    → takenFrom g l at ≡ record { line = takenFrom g l 0 .line; at = at + takenFrom g l 0 .at; whole = takenFrom g l 0 .whole }
+
 -- what was gathered of a line says what the line says, however long it is
 abbrev pub Says-its-bytes : Type 0
 Says-its-bytes = (l : List ℕ) → meaningOf (gathered nothing l) ≡ lineOf l

@@ -1,4 +1,4 @@
--- "Words are separated by one or more spaces (leading and trailing ones do not count; no other byte is a space)."
+-- docs/BENCH.md: "Words are separated by one or more spaces (leading and trailing ones do not count; no other byte is a space)."
 use Prim.Native.Nat.{ℕ, zero, suc}
 use mathlib.Core.Bool.{Bool, true, false, not, cond, _&&_}
 use mathlib.Core.List.{List, [], _∷_}
@@ -12,19 +12,24 @@ abbrev pub takeWhile : (ℕ → Bool) → List ℕ → List ℕ
 takeWhile f [] = []
 takeWhile f (b ∷ l) = cond (f b) (b ∷ takeWhile f l) []
 
--- whether a byte is a space; with `false`, whether it is none
-abbrev pub spaced : Bool → ℕ → Bool
-spaced true b = eqb b 32
-spaced false b = not (eqb b 32)
+abbrev pub isSpace : ℕ → Bool
+isSpace b = eqb b 32
+
+abbrev pub isOther : ℕ → Bool
+isOther b = not (isSpace b)
+
+abbrev pub spaceOr : Bool → ℕ → Bool
+spaceOr true = isSpace
+spaceOr false = isOther
 
 -- a line from its word k on, the first being word 0
 abbrev pub fromWord : ℕ → List ℕ → List ℕ
-fromWord zero l = dropWhile (spaced true) l
-fromWord (suc k) l = dropWhile (spaced true) (dropWhile (spaced false) (fromWord k l))
+fromWord zero l = dropWhile isSpace l
+fromWord (suc k) l = dropWhile isSpace (dropWhile isOther (fromWord k l))
 
 -- word k of a line; empty if it has no such word
 unfoldable pub wordAt : ℕ → List ℕ → List ℕ
-wordAt k l = takeWhile (spaced false) (fromWord k l)
+wordAt k l = takeWhile isOther (fromWord k l)
 
 abbrev pub isEmpty : List ℕ → Bool
 isEmpty [] = true

@@ -2,7 +2,7 @@
 ghost use mathlib.Core.Bool.{_&&_, cond};
 ghost use mathlib.Core.Path.{_≡_};
 ghost use Prim.Native.Nat.{_≤_};
-ghost use Rattle.script.specs.Calls as paper;
+ghost use Rattle.script.specs.Calls as spec;
 use crate::Command;
 use crate::Field;
 use crate::Grade;
@@ -24,7 +24,7 @@ fn both(a: bool, b: bool) -> bool
 }
 
 fn is_named(line: &[u8], name: &[u8], words: usize) -> bool
-    ensures { λ r. ⌜ r ≡ paper.named (now (name .entry)) words (now (line .entry)) ⌝ }
+    ensures { λ r. ⌜ r ≡ spec.named (now (name .entry)) words (now (line .entry)) ⌝ }
 {
     let more = parts::word_at(line, words);
     both(
@@ -35,7 +35,7 @@ fn is_named(line: &[u8], name: &[u8], words: usize) -> bool
 
 // Word k as a number of at most `most`.
 fn field(line: &[u8], k: usize, most: u64) -> Field
-    ensures { λ r. ⌜ (r ≡ paper.fieldAt (now (line .entry)) k most) × (r .value ≤ most) ⌝ }
+    ensures { λ r. ⌜ (r ≡ spec.fieldAt (now (line .entry)) k most) × (r .value ≤ most) ⌝ }
 {
     numbers::number(parts::word_at(line, k), most)
 }
@@ -47,7 +47,7 @@ fn choose(test: bool, call: Line, rest: Line) -> Line
 }
 
 fn element(line: &[u8], rest: Line) -> Line
-    ensures { λ r. ⌜ r ≡ paper.elementOr (now (line .entry)) rest ⌝ }
+    ensures { λ r. ⌜ r ≡ spec.elementOr (now (line .entry)) rest ⌝ }
 {
     let id = field(line, 1, 0xFFFF_FFFF);
     let kind = field(line, 2, 0xFF);
@@ -70,7 +70,7 @@ fn element(line: &[u8], rest: Line) -> Line
 }
 
 fn make(line: &[u8], rest: Line) -> Line
-    ensures { λ r. ⌜ r ≡ paper.makeOr (now (line .entry)) rest ⌝ }
+    ensures { λ r. ⌜ r ≡ spec.makeOr (now (line .entry)) rest ⌝ }
 {
     let limit = field(line, 1, 0xFFFF);
     let fits = both(is_named(line, b"make", 2), limit.fits);
@@ -78,7 +78,7 @@ fn make(line: &[u8], rest: Line) -> Line
 }
 
 fn is_state(w: &[u8]) -> bool
-    ensures { λ r. ⌜ r ≡ paper.isState (now (w .entry)) ⌝ }
+    ensures { λ r. ⌜ r ≡ spec.isState (now (w .entry)) ⌝ }
 {
     if parts::is_same(w, b"locked") {
         return true;
@@ -90,7 +90,7 @@ fn is_state(w: &[u8]) -> bool
 }
 
 fn state(w: &[u8]) -> Security
-    ensures { λ r. ⌜ r ≡ paper.stateOf (now (w .entry)) ⌝ }
+    ensures { λ r. ⌜ r ≡ spec.stateOf (now (w .entry)) ⌝ }
 {
     if parts::is_same(w, b"locked") {
         return Security::Locked;
@@ -102,7 +102,7 @@ fn state(w: &[u8]) -> Security
 }
 
 fn command(line: &[u8], rest: Line) -> Line
-    ensures { λ r. ⌜ r ≡ paper.commandOr (now (line .entry)) rest ⌝ }
+    ensures { λ r. ⌜ r ≡ spec.commandOr (now (line .entry)) rest ⌝ }
 {
     let word = parts::word_at(line, 1);
     let security = state(word);
@@ -128,7 +128,7 @@ fn command(line: &[u8], rest: Line) -> Line
 }
 
 fn grade(line: &[u8], rest: Line) -> Line
-    ensures { λ r. ⌜ r ≡ paper.gradeOr (now (line .entry)) rest ⌝ }
+    ensures { λ r. ⌜ r ≡ spec.gradeOr (now (line .entry)) rest ⌝ }
 {
     let id = field(line, 1, 0xFFFF_FFFF);
     let health = field(line, 2, 0xFF);
@@ -141,13 +141,13 @@ fn grade(line: &[u8], rest: Line) -> Line
 }
 
 fn word(line: &[u8], name: &[u8], call: Line, rest: Line) -> Line
-    ensures { λ r. ⌜ r ≡ paper.wordOr (now (line .entry)) (now (name .entry)) call rest ⌝ }
+    ensures { λ r. ⌜ r ≡ spec.wordOr (now (line .entry)) (now (name .entry)) call rest ⌝ }
 {
     choose(is_named(line, name, 1), call, rest)
 }
 
 fn length(line: &[u8], rest: Line) -> Line
-    ensures { λ r. ⌜ r ≡ paper.lengthOr (now (line .entry)) rest ⌝ }
+    ensures { λ r. ⌜ r ≡ spec.lengthOr (now (line .entry)) rest ⌝ }
 {
     let given = field(line, 1, 0x1_0000);
     let fits = both(is_named(line, b"length", 2), given.fits);
@@ -155,7 +155,7 @@ fn length(line: &[u8], rest: Line) -> Line
 }
 
 fn poke(line: &[u8], rest: Line) -> Line
-    ensures { λ r. ⌜ r ≡ paper.pokeOr (now (line .entry)) rest ⌝ }
+    ensures { λ r. ⌜ r ≡ spec.pokeOr (now (line .entry)) rest ⌝ }
 {
     let place = field(line, 1, 0x1_0000);
     let byte = field(line, 2, 0xFF);
@@ -168,7 +168,7 @@ fn poke(line: &[u8], rest: Line) -> Line
 }
 
 fn read(line: &[u8], rest: Line) -> Line
-    ensures { λ r. ⌜ r ≡ paper.readOr (now (line .entry)) rest ⌝ }
+    ensures { λ r. ⌜ r ≡ spec.readOr (now (line .entry)) rest ⌝ }
 {
     let feature = field(line, 1, 0xFFFF);
     let count = field(line, 2, 0xFFFF);
@@ -184,13 +184,13 @@ fn read(line: &[u8], rest: Line) -> Line
 }
 
 fn device_call(line: &[u8], rest: Line) -> Line
-    ensures { λ r. ⌜ r ≡ paper.deviceOr (now (line .entry)) rest ⌝ }
+    ensures { λ r. ⌜ r ≡ spec.deviceOr (now (line .entry)) rest ⌝ }
 {
     element(line, make(line, command(line, grade(line, rest))))
 }
 
-fn event(line: &[u8], rest: Line) -> Line
-    ensures { λ r. ⌜ r ≡ paper.eventOr (now (line .entry)) rest ⌝ }
+fn bare_call(line: &[u8], rest: Line) -> Line
+    ensures { λ r. ⌜ r ≡ spec.bareOr (now (line .entry)) rest ⌝ }
 {
     let cells = word(line, b"cells", Line::Cells, rest);
     let soft = word(line, b"softreset", Line::Softreset, cells);
@@ -202,13 +202,13 @@ fn event(line: &[u8], rest: Line) -> Line
 }
 
 fn page_call(line: &[u8], rest: Line) -> Line
-    ensures { λ r. ⌜ r ≡ paper.pageOr (now (line .entry)) rest ⌝ }
+    ensures { λ r. ⌜ r ≡ spec.pageOr (now (line .entry)) rest ⌝ }
 {
     length(line, poke(line, read(line, rest)))
 }
 
 fn is_passed(line: &[u8]) -> bool
-    ensures { λ r. ⌜ r ≡ paper.isPassed (now (line .entry)) ⌝ }
+    ensures { λ r. ⌜ r ≡ spec.isPassed (now (line .entry)) ⌝ }
 {
     let first = parts::word_at(line, 0);
     if first.len() == 0 {
@@ -217,9 +217,9 @@ fn is_passed(line: &[u8]) -> bool
     first[0] == b'#'
 }
 
-// What a line says, its newline not counted.
+// Of a line without its newline.
 pub fn meaning(line: &[u8]) -> Line
-    ensures { λ r. ⌜ r ≡ paper.lineOf (now (line .entry)) ⌝ }
+    ensures { λ r. ⌜ r ≡ spec.lineOf (now (line .entry)) ⌝ }
 {
     if 200 < line.len() {
         return Line::NotACall;
@@ -227,5 +227,5 @@ pub fn meaning(line: &[u8]) -> Line
     if is_passed(line) {
         return Line::Passed;
     }
-    device_call(line, event(line, page_call(line, Line::NotACall)))
+    device_call(line, bare_call(line, page_call(line, Line::NotACall)))
 }

@@ -57,7 +57,7 @@ pub enum Line {
     Read(Request),
 }
 
-// A line as far as it was read: its first `len` bytes; 201 if it is longer than a line may be.
+// A line as far as it was read: its first `len` bytes; 201 if there are more than 200.
 pub struct Gathered {
     pub bytes: [u8; 200],
     pub len: usize,

@@ -2,11 +2,12 @@
 ghost use mathlib.Core.Bool.{false};
 ghost use mathlib.Core.Path.{_≡_};
 ghost use Prim.Native.Nat.{_≤_};
-ghost use Rattle.script.specs.Numbers as paper;
+ghost use Rattle.script.specs.Numbers.{noNumber, fieldOf};
+ghost use Rattle.text.specs.Digits.{within, digitOf};
 use crate::Field;
 
 fn is_within(low: u8, high: u8, c: u8) -> bool
-    ensures { λ r. ⌜ r ≡ paper.within low high c ⌝ }
+    ensures { λ r. ⌜ r ≡ within low high c ⌝ }
 {
     if c < low {
         return false;
@@ -16,7 +17,7 @@ fn is_within(low: u8, high: u8, c: u8) -> bool
 
 // A digit's value; 16 for any other byte.
 fn digit(c: u8) -> u64
-    ensures { λ r. ⌜ r ≡ paper.digitOf c ⌝ }
+    ensures { λ r. ⌜ r ≡ digitOf c ⌝ }
 {
     if is_within(48, 57, c) {
         return (c - 48) as u64;
@@ -31,7 +32,7 @@ fn digit(c: u8) -> u64
 }
 
 fn no_number() -> Field
-    ensures { λ r. ⌜ r ≡ paper.noNumber ⌝ }
+    ensures { λ r. ⌜ r ≡ noNumber ⌝ }
 {
     Field {
         fits: false,
@@ -41,7 +42,7 @@ fn no_number() -> Field
 
 // The number that a word is, if it is at most `most`.
 pub fn number(w: &[u8], most: u64) -> Field
-    ensures { λ r. ⌜ r ≡ paper.fieldOf most (now (w .entry)) ⌝ }
+    ensures { λ r. ⌜ r ≡ fieldOf most (now (w .entry)) ⌝ }
 {
     if w.len() == 0 {
         return no_number();

@@ -2,10 +2,10 @@
 ghost use mathlib.Core.Path.{_≡_};
 ghost use Prim.Native.Nat.{_≤_};
 ghost use lib.ListN.{length, drop};
-ghost use Rattle.script.specs.Words.{dropWhile, spaced, fromWord, wordAt, same};
+ghost use Rattle.script.specs.Words.{dropWhile, spaceOr, fromWord, wordAt, same};
 
 fn is_spaced(b: u8, space: bool) -> bool
-    ensures { λ r. ⌜ r ≡ spaced space b ⌝ }
+    ensures { λ r. ⌜ r ≡ spaceOr space b ⌝ }
 {
     if space { b == 32 } else { b != 32 }
 }
@@ -13,7 +13,7 @@ fn is_spaced(b: u8, space: bool) -> bool
 // The first place from `from` on whose byte is no space; with `space` false, whose byte is one.
 fn skip(line: &[u8], from: usize, space: bool) -> usize
     requires { ⌜ from ≤ length (now line) ⌝ }
-    ensures { λ r. ⌜ (drop r (now (line .entry)) ≡ dropWhile (spaced space) (drop from (now (line .entry)))) × (from ≤ r) × (r ≤ length (now (line .entry))) ⌝ }
+    ensures { λ r. ⌜ (drop r (now (line .entry)) ≡ dropWhile (spaceOr space) (drop from (now (line .entry)))) × (from ≤ r) × (r ≤ length (now (line .entry))) ⌝ }
 {
     let mut at = from;
     while at < line.len() {

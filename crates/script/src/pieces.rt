@@ -55,7 +55,6 @@ impl Gathered {
         }
     }
 
-    // What the line says.
     pub fn meaning(self) -> Line
         ensures { λ r. ⌜ r ≡ lines.meaningOf self ⌝ }
     {

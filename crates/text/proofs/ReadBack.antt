@@ -6,8 +6,8 @@ use mathlib.Core.Path.{_≡_, refl, sym, _∙_}
 use native.Mathlib.Nat.{pow-zero, pow-suc, div-add-mod', mod-lt, le-div-iff-mul-le}
 use native.Mathlib.Omega.{arith}
 use lib.Dec.{ltb, lit<, lit≤}
-use borrow.Author.Tests.{lt-ltb, le-ltb, ltb-true, ltb-false}
-use Rattle.text.specs.Digits.{glyph, digits, placesWithin, placesOf, digitOf, readAfter}
+use borrow.Author.Tests.{le-leb, lt-leb, ltb-true, ltb-false}
+use Rattle.text.specs.Digits.{glyph, digits, placesWithin, placesOf, digitOf, valueAfter}
 use Rattle.text.specs.Promises.{Digits-back, Decimal-back, No-zero-in-front}
 use Rattle.text.proofs.Digits.{glyph-low, glyph-high, places-one, places-suc, div-fits}
 
@@ -15,10 +15,15 @@ digitOf-glyph : (d : ℕ) → d < 16 → digitOf (glyph d) ≡ d
 digitOf-glyph d h = by-test (ltb d 10) refl
   where
     by-test : (t : Bool) → ltb d 10 ≡ t → digitOf (glyph d) ≡ d
-    by-test true e = rw (sym (glyph-low d (ltb-true d 10 e)), lt-ltb (48 + d) 65 (omega (arith, ltb-true d 10 e))) (omega arith)
-    by-test false e = rw (sym (glyph-high d (ltb-false d 10 e)), le-ltb (55 + d) 65 (omega (arith, ltb-false d 10 e))) (omega arith)
+    by-test true e =
+        let low : d < 10 = ltb-true d 10 e in
+        rw (sym (glyph-low d low), le-leb 48 (48 + d) (omega arith), le-leb (48 + d) 57 (omega arith)) (omega arith)
+    by-test false e =
+        let high : 10 ≤ d = ltb-false d 10 e in
+        rw (sym (glyph-high d high), le-leb 48 (55 + d) (omega arith), lt-leb (55 + d) 57 (omega arith), le-leb 65 (55 + d) (omega arith), le-leb (55 + d) 70 (omega arith))
+        (omega arith)
 
-read-snoc : (b n : ℕ) (cs : List ℕ) (c : ℕ) → readAfter b n (cs ++ (c ∷ [])) ≡ readAfter b n cs * b + digitOf c
+read-snoc : (b n : ℕ) (cs : List ℕ) (c : ℕ) → valueAfter b n (cs ++ (c ∷ [])) ≡ valueAfter b n cs * b + digitOf c
 read-snoc b n [] c = refl
 read-snoc b n (x ∷ cs) c = read-snoc b (n * b + digitOf x) cs c
 

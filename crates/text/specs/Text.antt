@@ -19,11 +19,9 @@ nothing = record { bytes = replicate 160 0; len = 0 }
 abbrev pub pushed : Text → ℕ → Text
 pushed t b = cond (ltb (t .len) 160) (record { bytes = set (t .bytes) (t .len) b; len = t .len + 1 }) t
 
--- several bytes more
 unfoldable pub written : Text → List ℕ → Text
 written t [] = t
 written t (b ∷ bs) = written (pushed t b) bs
 
--- what a text holds
 abbrev pub held : Text → List ℕ
 held t = take (t .len) (t .bytes)

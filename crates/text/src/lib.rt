@@ -5,7 +5,7 @@ ghost use Rattle.text.specs.Digits.{glyph, digits, placesOf, decimalOf};
 ghost use Rattle.text.specs.Text.{nothing, pushed, written, held};
 ghost use Rattle.words.specs.Lists.{stored};
 
-// The first `len` bytes; the rest is 0. What does not fit is left out.
+// The first `len` bytes. What does not fit is left out.
 pub struct Text {
     pub bytes: [u8; 160],
     pub len: usize,
@@ -24,7 +24,6 @@ fn digit(d: u64) -> u8
     if d < 10 { 48 + d as u8 } else { 55 + d as u8 }
 }
 
-// How many decimal digits a number has.
 fn places(n: u64) -> u32
     ensures { λ r. ⌜ r ≡ placesOf n ⌝ }
 {
@@ -80,6 +79,13 @@ impl Text {
             i += 1;
         }
         text
+    }
+
+    // One upper hexadecimal digit, the lowest.
+    pub fn hex1(self, x: u8) -> Text
+        ensures { λ r. ⌜ r ≡ written self (digits 16 1 x) ⌝ }
+    {
+        spell(self, x as u64, 16, 1)
     }
 
     // Two upper hexadecimal digits.

@@ -1,6 +1,6 @@
 -- `listing::write_capacity`.
 use borrow.Author.Needs.{needs}
-use Rattle.listing.proofs.Listing.{capacity-unknown, capacity-known}
+use Rattle.listing.proofs.Listing.{capacity-unreported, capacity-known}
 use Rattle.listing.proofs.write_capacity.Statement.{statement}
 use Rattle.listing.proofs.write_capacity.Tie as tie
 
@@ -10,6 +10,6 @@ write-capacity-spec =
     (tie.spec
     (λ c. search needs)
     (λ c κs. search needs)
-    (λ c. search (capacity-unknown))
+    (λ c. search (capacity-unreported))
     (λ c κs. search needs)
     (λ c. search (capacity-known)))

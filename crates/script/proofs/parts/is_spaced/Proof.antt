@@ -1,5 +1,5 @@
 -- `script::parts::is_spaced`.
-use Rattle.script.proofs.Words.{spaced-yes, spaced-no}
+use Rattle.script.proofs.Words.{space-yes, space-no}
 use Rattle.script.proofs.parts.is_spaced.Statement.{statement}
 use Rattle.script.proofs.parts.is_spaced.Tie as tie
 
@@ -7,5 +7,5 @@ pub is-spaced-spec : {M : Type 1} → statement M
 is-spaced-spec =
     tie.close
     (tie.spec
-    (λ c. search (spaced-yes))
-    (λ c. search (spaced-no)))
+    (λ c. search (space-yes))
+    (λ c. search (space-no)))

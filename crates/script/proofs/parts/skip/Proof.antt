@@ -5,13 +5,13 @@ use native.Mathlib.Omega.{arith}
 use lib.ListN.{length, drop}
 use borrow.Author.Needs.{needs}
 use borrow.Author.Tests.{not-true, not-false}
-use Rattle.script.specs.Words.{dropWhile, spaced}
+use Rattle.script.specs.Words.{dropWhile, spaceOr}
 use Rattle.script.proofs.Words.{skip-next, skip-stop, skip-end}
 use Rattle.script.proofs.parts.skip.Statement.{statement}
 use Rattle.script.proofs.parts.skip.Tie as tie
 
 abbrev Inv-loop : tie.InvT-loop
-Inv-loop line from space at₀ at = (dropWhile (spaced space) (drop at line) ≡ dropWhile (spaced space) (drop from line)) × (from ≤ at) × (at ≤ length line)
+Inv-loop line from space at₀ at = (dropWhile (spaceOr space) (drop at line) ≡ dropWhile (spaceOr space) (drop from line)) × (from ≤ at) × (at ≤ length line)
 
 abbrev μ-loop : tie.MeasureT-loop
 μ-loop line from space at₀ at = length line - at
@@ -27,12 +27,12 @@ skip-spec =
     (λ c κs. search needs)
     (λ c. let l = c .before .before .before .before .loop in
     let s = c .before .before .before .before .before .before .args in
-    (skip-stop (spaced (s .space)) (s .line .now) (l .at) (omega arith) (sym (c .before .is-spaced .ensures) ∙ not-true _ (c .if1 .taken)) ∙ l .inv .0, l .inv .1, l .inv .2))
+    (skip-stop (spaceOr (s .space)) (s .line .now) (l .at) (omega arith) (sym (c .before .is-spaced .ensures) ∙ not-true _ (c .if1 .taken)) ∙ l .inv .0, l .inv .1, l .inv .2))
     (λ c. search needs)
     (λ c. search needs)
     (λ c. let l = c .before .before .before .before .loop in
     let s = c .before .before .before .before .before .before .args in
-    (skip-next (spaced (s .space)) (s .line .now) (l .at) (omega arith) (sym (c .before .is-spaced .ensures) ∙ not-false _ (c .if1 .left)) ∙ l .inv .0, omega arith, omega arith))
+    (skip-next (spaceOr (s .space)) (s .line .now) (l .at) (omega arith) (sym (c .before .is-spaced .ensures) ∙ not-false _ (c .if1 .left)) ∙ l .inv .0, omega arith, omega arith))
     (λ c. let l = c .before .loop in
     let s = c .before .before .before .args in
-    (skip-end (spaced (s .space)) (s .line .now) (l .at) (omega arith) ∙ l .inv .0, l .inv .1, l .inv .2)))
+    (skip-end (spaceOr (s .space)) (s .line .now) (l .at) (omega arith) ∙ l .inv .0, l .inv .1, l .inv .2)))

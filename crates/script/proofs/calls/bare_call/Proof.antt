@@ -1,11 +1,11 @@
--- `script::calls::event`.
+-- `script::calls::bare_call`.
 use borrow.Author.Needs.{needs}
-use Rattle.script.specs.Calls.{eventOr}
-use Rattle.script.proofs.calls.event.Statement.{statement}
-use Rattle.script.proofs.calls.event.Tie as tie
+use Rattle.script.specs.Calls.{bareOr}
+use Rattle.script.proofs.calls.bare_call.Statement.{statement}
+use Rattle.script.proofs.calls.bare_call.Tie as tie
 
 returns : tie.Need-returns
-unfolding eventOr
+unfolding bareOr
 returns c =
     simp (
       c .word7 .ensures,
@@ -17,8 +17,8 @@ returns c =
       c .before .before .before .before .before .before .before .before .before .before .before .before .word .ensures,
     )
 
-pub event-spec : {M : Type 1} → statement M
-event-spec =
+pub bare-call-spec : {M : Type 1} → statement M
+bare-call-spec =
     tie.close
     (tie.spec
     (λ c. search needs)
