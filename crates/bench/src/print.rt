@@ -186,26 +186,7 @@ pub fn print_touched(lent: &[u8], from: usize) {
 // ---- The reader's answer
 
 fn print_header(h: Header) {
-    print(
-        Text::nothing()
-            .word(b"number ")
-            .decimal(h.number as u64)
-            .word(b" returned ")
-            .decimal(h.returned as u64)
-            .word(b" busy ")
-            .hex8(h.busy.0)
-            .word(b" limit ")
-            .decimal(h.limit as u64)
-            .word(b" removed ")
-            .decimal(h.removed as u64),
-    );
-}
-
-fn write_capacity(text: Text, capacity: u64) -> Text {
-    if capacity == 0xFFFF_FFFF_FFFF_FFFF {
-        return text.word(b"-");
-    }
-    text.decimal(capacity)
+    print(listing::write_header(Text::nothing(), h));
 }
 
 fn print_descriptor(d: Descriptor) {
@@ -218,7 +199,7 @@ fn print_descriptor(d: Descriptor) {
         .word(b" ")
         .hex2(d.health)
         .word(b" ");
-    print(write_capacity(text, d.capacity));
+    print(listing::write_capacity(text, d.capacity));
 }
 
 fn print_slot(slot: Slot) {

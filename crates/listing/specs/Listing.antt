@@ -30,13 +30,16 @@ descriptorLine d =
     ++ capacityOf (d .capacity) ++ ascii "\n"
 
 -- "number 1 returned 1 busy 00000000 limit 2 removed 0"
-abbrev pub headerLine : Header → List ℕ
-headerLine h =
+abbrev pub headerOf : Header → List ℕ
+headerOf h =
     ascii "number " ++ decimalOf (h .number)
     ++ ascii " returned " ++ decimalOf (h .returned)
     ++ ascii " busy " ++ digits 16 8 (h .busy .0)
     ++ ascii " limit " ++ decimalOf (h .limit)
-    ++ ascii " removed " ++ decimalOf (h .removed) ++ ascii "\n"
+    ++ ascii " removed " ++ decimalOf (h .removed)
+
+abbrev pub headerLine : Header → List ℕ
+headerLine h = headerOf h ++ ascii "\n"
 
 -- "or `refused 9 at ` and the place"
 abbrev pub refusedLine : ℕ → List ℕ

@@ -9,7 +9,7 @@ ghost use Rattle.reader.specs.Reading.{heard};
 ghost use Rattle.text.specs.Text.{nothing, written};
 ghost use Rattle.words.specs.Lists.{stored};
 ghost use Rattle.words.specs.declared.Order.the-variants.{Little};
-ghost use Rattle.listing.specs.Listing.{capacityOf, descriptorLine, headerLine, refusedLine, linesBelow, judged, firstLine, lineCount, output, listed};
+ghost use Rattle.listing.specs.Listing.{capacityOf, descriptorLine, headerOf, headerLine, refusedLine, linesBelow, judged, firstLine, lineCount, output, listed};
 use layout::Descriptor;
 use layout::Header;
 use layout::Request;
@@ -26,7 +26,8 @@ pub struct Listed {
     pub count: usize,
 }
 
-fn write_capacity(t: Text, capacity: u64) -> Text
+// A capacity after a text.
+pub fn write_capacity(t: Text, capacity: u64) -> Text
     ensures { λ r. ⌜ r ≡ written t (capacityOf capacity) ⌝ }
 {
     if capacity == 0xFFFF_FFFF_FFFF_FFFF {
@@ -48,11 +49,11 @@ fn descriptor_line(d: Descriptor) -> Text
     write_capacity(t, d.capacity).word(b"\n")
 }
 
-fn header_line(h: Header) -> Text
-    ensures { λ r. ⌜ r ≡ written nothing (headerLine h) ⌝ }
+// The header's numbers after a text.
+pub fn write_header(t: Text, h: Header) -> Text
+    ensures { λ r. ⌜ r ≡ written t (headerOf h) ⌝ }
 {
-    Text::nothing()
-        .word(b"number ")
+    t.word(b"number ")
         .decimal(h.number as u64)
         .word(b" returned ")
         .decimal(h.returned as u64)
@@ -62,7 +63,12 @@ fn header_line(h: Header) -> Text
         .decimal(h.limit as u64)
         .word(b" removed ")
         .decimal(h.removed as u64)
-        .word(b"\n")
+}
+
+fn header_line(h: Header) -> Text
+    ensures { λ r. ⌜ r ≡ written nothing (headerLine h) ⌝ }
+{
+    write_header(Text::nothing(), h).word(b"\n")
 }
 
 fn refused_line(place: usize) -> Text
