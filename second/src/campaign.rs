@@ -18,7 +18,8 @@ use crate::rules::script::{meaning, Call, Line};
 const LINES: usize = 2000;
 /// Placements in one script.
 const BATCH: usize = 60;
-/// Gaps that can hold an event: two events end a removal before the last.
+/// Gaps that can hold an event. After one event a removal has ended by gap 9;
+/// an event from there on meets a device at rest.
 const LAST_GAP: usize = 11;
 /// Differences shown in full; more are only counted.
 const SHOWN: u64 = 5;
@@ -170,9 +171,12 @@ impl Campaign {
             self.differences += 1;
             if self.differences <= SHOWN {
                 let name = format!("difference-page-{}", seed);
-                fs::write(&name, page)?;
-                println!("difference: list, seed {}, page in the file {}", seed, name);
+                println!("difference: list, seed {}", seed);
                 show_both(&own, &said);
+                match fs::write(&name, page) {
+                    Ok(()) => println!("the page is in the file {}", name),
+                    Err(error) => println!("the page was not written: {}", error),
+                }
             }
         }
         self.progress();

@@ -32,8 +32,8 @@ use script::Taken;
 use table::Element;
 use table::Table;
 
-// What a script has on its bench: the line as far as it was read, the offered list, the device and whether one was made, and how much of
-// the lent page is kept.
+// What a script has on its bench: the line as far as it was read, the offered list, the device and whether one was made, and how many
+// bytes of `page` are kept.
 struct Bench {
     line: Gathered,
     offered: Table,

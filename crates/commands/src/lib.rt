@@ -152,7 +152,7 @@ fn media_answer(d: Device, count: u16, lba: Lba) -> Answer
 }
 
 // The judgement of a code that has no rules of its own.
-fn other_answer(d: Device, code: u8, feature: u16, count: u16, lba: Lba) -> Answer
+pub fn other_answer(d: Device, code: u8, feature: u16, count: u16, lba: Lba) -> Answer
     ensures { λ r. ⌜ numberOf r ≡ otherNumber d code feature count lba ⌝ }
 {
     if is_shut(d, code, feature, lba.0) {

@@ -42,7 +42,7 @@ impl Registers {
 /// A request for status pages that does not get 4.
 #[derive(Clone, Copy, Debug, PartialEq, Eq)]
 pub struct Request {
-    slow_only: bool,
+    filtered: bool,
     storage_only: bool,
     pages: u16,
     start: u64,
@@ -63,7 +63,7 @@ impl Request {
             return None;
         }
         Some(Request {
-            slow_only: filter == 1,
+            filtered: filter == 1,
             storage_only: report_type == 1,
             pages: registers.count,
             start: registers.lba(),
@@ -92,6 +92,6 @@ impl Request {
 
     /// "with filter 01b only health 65h to CFh, or FFh".
     pub fn takes_health(&self, health: u8) -> bool {
-        !self.slow_only || (0x65..=0xCF).contains(&health) || health == REMOVED
+        !self.filtered || (0x65..=0xCF).contains(&health) || health == REMOVED
     }
 }

@@ -1,0 +1,31 @@
+-- No second answer fits a lent call, and the judgement is the front call's (specs/Promises).
+use mathlib.Core.Path.{_≡_, sym, _∙_}
+use lib.ListN.{length}
+use borrow.Author.Tests.{ne-eqb}
+use Rattle.device.proofs.EveryCall.{one-answer}
+use Rattle.device.specs.Machine.{command, told}
+use Rattle.paper.proofs.Once.{number-injective, told-once}
+use Rattle.status.proofs.EveryPage.{one-page}
+use Rattle.table.proofs.Check.{verdict-injective}
+use Rattle.calls.specs.Offered.{madeFrom}
+use Rattle.calls.specs.Promises.{One-command, One-fits, Judged-alike}
+
+one-command : One-command
+one-command d s code feature count lba buf a b x y u v p q =
+    let same : (a ≡ b) × (x ≡ y) = told-once (told d (command s code feature count lba (length buf))) a b x y (p .0) (q .0) in
+    (same .0, same .1, p .1 ∙ sym (q .1))
+
+pub one-fits : One-fits
+one-fits =
+    record {
+      changing = one-answer;
+      command = one-command;
+      judging = λ d code feature count lba a b p q. number-injective a b (p ∙ sym q);
+      showing = one-page;
+      checking = λ es limit a b p q. verdict-injective a b (p ∙ sym q);
+      finding = λ es id a b p q. p ∙ sym q;
+      making = λ d es limit. told-once (madeFrom d es limit);
+    }
+
+pub judged-alike : Judged-alike
+judged-alike d s code feature count lba room n m = rw (ne-eqb code 0x7C n, ne-eqb code 0x12 m)

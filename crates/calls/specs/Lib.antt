@@ -1,0 +1,3 @@
+-- The lent list, and what holds of the lent calls.
+pub mod Offered
+pub mod Promises

@@ -1,0 +1,82 @@
+-- What holds of the lent calls. Each is a statement; proofs/ has the proof under the same name in lower case.
+use Prim.Native.Nat.{ℕ, _<_}
+use mathlib.Core.Bool.{true}
+use mathlib.Core.List.{List, []}
+use mathlib.Core.Path.{_≡_}
+use lib.ListN.{length}
+use Rattle.commands.specs.Lent.{lent}
+use Rattle.device.specs.Commands.{otherNumber}
+use Rattle.device.specs.Machine.{command, told}
+use Rattle.device.specs.Promises.{One-answer, Leaves}
+use Rattle.device.specs.declared.Device.{Device}
+use Rattle.paper.specs.Answers.{numberOf}
+use Rattle.paper.specs.Told.{tells, said}
+use Rattle.paper.specs.declared.Answer.{Answer}
+use Rattle.paper.specs.declared.Lba.{Lba}
+use Rattle.paper.specs.declared.Security.{Security}
+use Rattle.status.specs.Promises.{One-page}
+use Rattle.table.specs.Check.{verdict, good}
+use Rattle.table.specs.Elements.{live}
+use Rattle.table.specs.declared.Checked.{Checked}
+use Rattle.table.specs.declared.Element.{Element}
+use Rattle.table.specs.declared.Found.the-variants.{Missing}
+use Rattle.table.specs.declared.Found.{Found}
+use Rattle.calls.specs.Offered.{checkList, findList, madeFrom}
+
+-- ## No second answer fits, no second device and no second buffer
+
+abbrev pub One-command : Type 0
+One-command =
+    (d : Device) (s : Security) (code feature count : ℕ) (lba : Lba) (buf : List ℕ) (a b : Answer) (x y : Device) (u v : List ℕ)
+    → (said a x ≡ told d (command s code feature count lba (length buf))) × (u ≡ lent d s code feature count lba buf)
+    → (said b y ≡ told d (command s code feature count lba (length buf))) × (v ≡ lent d s code feature count lba buf)
+    → (a ≡ b) × (x ≡ y) × (u ≡ v)
+
+abbrev pub One-judgement : Type 0
+One-judgement =
+    (d : Device) (code feature count : ℕ) (lba : Lba) (a b : Answer)
+    → numberOf a ≡ otherNumber d code feature count lba → numberOf b ≡ otherNumber d code feature count lba → a ≡ b
+
+abbrev pub One-check : Type 0
+One-check = (es : List Element) (limit : ℕ) (a b : Checked) → verdict a ≡ checkList es limit → verdict b ≡ checkList es limit → a ≡ b
+
+abbrev pub One-find : Type 0
+One-find = (es : List Element) (id : ℕ) (a b : Found) → a ≡ findList id es → b ≡ findList id es → a ≡ b
+
+abbrev pub One-making : Type 0
+One-making =
+    (d : Device) (es : List Element) (limit : ℕ) (a b : Answer) (x y : Device)
+    → said a x ≡ madeFrom d es limit → said b y ≡ madeFrom d es limit → (a ≡ b) × (x ≡ y)
+
+-- of every lent call
+pub record One-fits : Type 0 where
+  pub changing : One-answer
+  pub command : One-command
+  pub judging : One-judgement
+  pub showing : One-page
+  pub checking : One-check
+  pub finding : One-find
+  pub making : One-making
+
+-- ## The judgement is the front call's, of every code but 7Ch and 12h, which have rules of their own
+
+abbrev pub Judged-alike : Type 0
+Judged-alike =
+    (d : Device) (s : Security) (code feature count : ℕ) (lba : Lba) (room : ℕ) → (code ≡ 0x7C → ⊥) → (code ≡ 0x12 → ⊥)
+    → told d (command s code feature count lba room) ≡ tells (otherNumber d code feature count lba) d
+
+-- ## A list
+
+-- more than 128 records are no table
+abbrev pub Long-list-refused : Type 0
+Long-list-refused =
+    (d : Device) (es : List Element) (limit id : ℕ) → 128 < length es
+    → (checkList es limit ≡ tells 8 []) × (findList id es ≡ Missing) × (madeFrom d es limit ≡ tells 8 d)
+
+-- "Every number but 0 leaves the device .. untouched."
+abbrev pub Refused-list-leaves : Type 0
+Refused-list-leaves = (d : Device) (es : List Element) (limit : ℕ) → Leaves d (madeFrom d es limit)
+
+-- "then copied into the device": the elements of a new device are the records of its list
+abbrev pub Copied-whole : Type 0
+Copied-whole = (d : Device) (es : List Element) (limit : ℕ) → good (length es) es limit ≡ true → live (madeFrom d es limit .state .table) ≡ es
