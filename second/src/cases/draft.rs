@@ -8,6 +8,15 @@ pub struct Case {
     pub data: Vec<u8>,
 }
 
+impl Case {
+    pub fn new(name: &str, data: Vec<u8>) -> Case {
+        Case {
+            name: String::from(name),
+            data,
+        }
+    }
+}
+
 /// A page being laid out; each method changes one field.
 #[derive(Clone)]
 pub struct Draft {
@@ -108,9 +117,6 @@ impl Draft {
     }
 
     pub fn named(self, name: &str) -> Case {
-        Case {
-            name: String::from(name),
-            data: self.bytes,
-        }
+        Case::new(name, self.bytes)
     }
 }

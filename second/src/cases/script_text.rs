@@ -148,10 +148,7 @@ impl Text {
     }
 
     pub fn named(self, name: &str) -> Case {
-        Case {
-            name: String::from(name),
-            data: self.bytes,
-        }
+        Case::new(name, self.bytes)
     }
 }
 
