@@ -6,11 +6,13 @@ use std::time::{Duration, Instant, SystemTime, UNIX_EPOCH};
 
 use crate::cases::placements::{double, single, Placement};
 use crate::cases::random_page::random_page;
+use crate::cases::random_pair::random_pair;
 use crate::cases::random_script::random_script;
 use crate::cases::rng::Rng;
 use crate::cases::script_text::Text;
 use crate::recorder::{Recorder, Said};
 use crate::rules::bench;
+use crate::rules::compare::compare;
 use crate::rules::listing::list;
 use crate::rules::script::{meaning, Call, Line};
 
@@ -37,7 +39,7 @@ struct Campaign {
 
 /// The whole campaign; 1 if there is a difference, 2 if RECORDER cannot be run.
 pub fn run(path: &str, seconds: u64) -> i32 {
-    match Recorder::at(path).and_then(|recorder| compare(recorder, seconds)) {
+    match Recorder::at(path).and_then(|recorder| side_by_side(recorder, seconds)) {
         Ok(0) => 0,
         Ok(_) => 1,
         Err(error) => {
@@ -47,7 +49,7 @@ pub fn run(path: &str, seconds: u64) -> i32 {
     }
 }
 
-fn compare(recorder: Recorder, seconds: u64) -> io::Result<u64> {
+fn side_by_side(recorder: Recorder, seconds: u64) -> io::Result<u64> {
     let now = Instant::now();
     let mut campaign = Campaign {
         recorder,
@@ -74,6 +76,13 @@ pub fn seeded_page(seed: u64) -> Vec<u8> {
     let mut rng = Rng::new(seed);
     let most = rng.pick(&[1, 1, 2, 3, 3, 10, 128]);
     random_page(&mut rng, most)
+}
+
+/// The pair that a seed stands for, the older page first.
+pub fn seeded_pair(seed: u64) -> (Vec<u8>, Vec<u8>) {
+    let mut rng = Rng::new(seed);
+    let most = rng.pick(&[1, 1, 2, 3, 3, 10, 128]);
+    random_pair(&mut rng, most)
 }
 
 impl Campaign {
@@ -103,13 +112,15 @@ impl Campaign {
         Ok(())
     }
 
-    /// Script after script and page after page.
+    /// Script after script, page after page and pair after pair.
     fn fresh_seeds(&mut self, duration: Duration) -> io::Result<()> {
         let mut seed = time_seed();
         println!("first seed {}", seed);
         while self.start.elapsed() < duration {
             self.script(&format!("seed {}", seed), &seeded_script(seed), 1)?;
             self.page(seed, &seeded_page(seed))?;
+            let (older, newer) = seeded_pair(seed);
+            self.pair(seed, &older, &newer)?;
             seed = seed.wrapping_add(1);
         }
         Ok(())
@@ -170,13 +181,26 @@ impl Campaign {
         if said != own {
             self.differences += 1;
             if self.differences <= SHOWN {
-                let name = format!("difference-page-{}", seed);
                 println!("difference: list, seed {}", seed);
                 show_both(&own, &said);
-                match fs::write(&name, page) {
-                    Ok(()) => println!("the page is in the file {}", name),
-                    Err(error) => println!("the page was not written: {}", error),
-                }
+                keep_page("page", seed, page);
+            }
+        }
+        self.progress();
+        Ok(())
+    }
+
+    fn pair(&mut self, seed: u64, older: &[u8], newer: &[u8]) -> io::Result<()> {
+        self.cases += 1;
+        let said = self.recorder.compare(older, newer)?;
+        let own = own_comparison(older, newer);
+        if said != own {
+            self.differences += 1;
+            if self.differences <= SHOWN {
+                println!("difference: compare, seed {}", seed);
+                show_both(&own, &said);
+                keep_page("older", seed, older);
+                keep_page("newer", seed, newer);
             }
         }
         self.progress();
@@ -214,6 +238,23 @@ fn own_listing(page: &[u8]) -> Said {
     Said {
         text: listing.text.into_bytes(),
         status: Some(listing.status),
+    }
+}
+
+fn own_comparison(older: &[u8], newer: &[u8]) -> Said {
+    let comparison = compare(older, newer);
+    Said {
+        text: comparison.text.into_bytes(),
+        status: Some(comparison.status),
+    }
+}
+
+/// Writes a page that shows a difference to a file.
+fn keep_page(what: &str, seed: u64, page: &[u8]) {
+    let name = format!("difference-{}-{}", what, seed);
+    match fs::write(&name, page) {
+        Ok(()) => println!("the page is in the file {}", name),
+        Err(error) => println!("the page was not written: {}", error),
     }
 }
 

@@ -7,22 +7,25 @@ mod campaign;
 mod cases;
 #[cfg(test)]
 mod examples;
+mod folder;
 mod recorder;
 mod rules;
 mod vectors;
 
 use std::env;
+use std::fs::File;
 use std::io::{self, Read, Write};
 use std::path::Path;
 use std::process::exit;
 
-use rules::{bench, listing};
+use rules::{bench, compare, listing};
 
 const USAGE: &str = "usage: second list < PAGE
        second bench < SCRIPT
+       second compare OLDER NEWER
        second vectors DIR
        second campaign RECORDER [SECONDS]
-       second seeded script|page SEED";
+       second seeded script|page|older|newer SEED";
 
 /// How long a campaign lasts if nothing else is said.
 const SECONDS: u64 = 600;
@@ -33,6 +36,7 @@ fn main() {
     let outcome = match words.as_slice() {
         ["list"] => list_input(),
         ["bench"] => bench_input(),
+        ["compare", older, newer] => compare_files(older, newer),
         ["vectors", dir] => vectors::write_vectors(Path::new(dir)).map(|()| 0),
         ["campaign", recorder] => Ok(campaign::run(recorder, SECONDS)),
         ["campaign", recorder, seconds] => match seconds.parse() {
@@ -59,11 +63,13 @@ fn usage() -> io::Result<i32> {
     Ok(2)
 }
 
-/// The script or page of a campaign's seed.
+/// The script, the page or a page of the pair of a campaign's seed.
 fn seeded(what: &str, seed: u64) -> io::Result<i32> {
     let bytes = match what {
         "script" => campaign::seeded_script(seed),
         "page" => campaign::seeded_page(seed),
+        "older" => campaign::seeded_pair(seed).0,
+        "newer" => campaign::seeded_pair(seed).1,
         _ => return usage(),
     };
     io::stdout().write_all(&bytes)?;
@@ -72,12 +78,30 @@ fn seeded(what: &str, seed: u64) -> io::Result<i32> {
 
 /// The listing program.
 fn list_input() -> io::Result<i32> {
-    let mut input = Vec::new();
-    let most = listing::MOST as u64 + 1;
-    io::stdin().take(most).read_to_end(&mut input)?;
-    let listing = listing::list(&input);
+    let listing = listing::list(&read_page(io::stdin())?);
     io::stdout().write_all(listing.text.as_bytes())?;
     Ok(listing.status)
+}
+
+/// All of a page, and enough of what is too long for one.
+fn read_page(input: impl Read) -> io::Result<Vec<u8>> {
+    let mut page = Vec::new();
+    let most = listing::MOST as u64 + 1;
+    input.take(most).read_to_end(&mut page)?;
+    Ok(page)
+}
+
+/// The comparison of the pages in two files.
+fn compare_files(older: &str, newer: &str) -> io::Result<i32> {
+    let comparison = compare::compare(&page_in(older)?, &page_in(newer)?);
+    io::stdout().write_all(comparison.text.as_bytes())?;
+    Ok(comparison.status)
+}
+
+/// The page in a file; what goes wrong is said with the file's name.
+fn page_in(path: &str) -> io::Result<Vec<u8>> {
+    let page = File::open(path).and_then(read_page);
+    page.map_err(|error| io::Error::new(error.kind(), format!("{}: {}", path, error)))
 }
 
 /// Runs the script to the end of the input.

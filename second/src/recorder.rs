@@ -1,12 +1,16 @@
 //! The proved programs, run beside this one.
 
+use std::ffi::OsStr;
 use std::io::{self, Write};
 use std::process::{Child, Command, Stdio};
 use std::thread;
 
-/// The path of the front that starts them.
+use crate::folder::Folder;
+
+/// The path of the front that starts them, and a folder for their pages.
 pub struct Recorder {
     path: String,
+    folder: Folder,
 }
 
 /// What a program said: its standard output and its exit status.
@@ -22,6 +26,7 @@ impl Recorder {
     pub fn at(path: &str) -> io::Result<Recorder> {
         let recorder = Recorder {
             path: String::from(path),
+            folder: Folder::new()?,
         };
         let said = recorder.run("bench", b"")?;
         if said.status != Some(0) || !said.text.is_empty() {
@@ -33,8 +38,20 @@ impl Recorder {
 
     /// Runs `RECORDER word` on an input.
     pub fn run(&self, word: &str, input: &[u8]) -> io::Result<Said> {
+        self.run_with(word, &[], input)
+    }
+
+    /// Runs `RECORDER compare` on two pages, each in a file.
+    pub fn compare(&self, older: &[u8], newer: &[u8]) -> io::Result<Said> {
+        let older = self.folder.write("older", older)?;
+        let newer = self.folder.write("newer", newer)?;
+        self.run_with("compare", &[older.as_os_str(), newer.as_os_str()], b"")
+    }
+
+    fn run_with(&self, word: &str, files: &[&OsStr], input: &[u8]) -> io::Result<Said> {
         let child = Command::new(&self.path)
             .arg(word)
+            .args(files)
             .stdin(Stdio::piped())
             .stdout(Stdio::piped())
             .stderr(Stdio::null())

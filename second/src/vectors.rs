@@ -1,5 +1,6 @@
 //! The committed vectors: inputs in `data`, their names in `args`, and what is
-//! expected of them, in that order, in `stdout`.
+//! expected of them, in that order, in `stdout`. The names of pairs come in
+//! twos, the older page first.
 
 use std::fs;
 use std::io;
@@ -7,14 +8,18 @@ use std::path::Path;
 
 use crate::cases::draft::Case;
 use crate::cases::gen_pages::page_cases;
+use crate::cases::gen_pairs::pair_cases;
 use crate::cases::gen_scripts::script_cases;
+use crate::cases::pairs::Pairs;
 use crate::rules::bench::run;
+use crate::rules::compare::compare;
 use crate::rules::listing::list;
 
 /// Writes all vectors under `dir`; the same bytes each time.
 pub fn write_vectors(dir: &Path) -> io::Result<()> {
     write_group(&dir.join("pages"), &page_cases(), page_text)?;
-    write_group(&dir.join("scripts"), &script_cases(), script_text)
+    write_group(&dir.join("scripts"), &script_cases(), script_text)?;
+    write_pairs(&dir.join("pairs"), &pair_cases())
 }
 
 /// The name on a line, then the listing exactly.
@@ -27,16 +32,38 @@ fn script_text(case: &Case) -> String {
     format!("script {}\n{}", case.name, run(&case.data))
 }
 
+/// Both names on a line, then the comparison exactly.
+fn pair_text(older: &Case, newer: &Case) -> String {
+    let comparison = compare(&older.data, &newer.data);
+    format!("{} {}\n{}", older.name, newer.name, comparison.text)
+}
+
 fn write_group(dir: &Path, cases: &[Case], expected: fn(&Case) -> String) -> io::Result<()> {
-    let data = dir.join("data");
-    fs::create_dir_all(&data)?;
-    remove_files(&data)?;
     let mut names = String::new();
     let mut stdout = String::new();
     for case in cases {
-        fs::write(data.join(&case.name), &case.data)?;
         names += &format!("{}\n", case.name);
         stdout += &expected(case);
+    }
+    write_files(dir, cases, &names, &stdout)
+}
+
+fn write_pairs(dir: &Path, cases: &Pairs) -> io::Result<()> {
+    let mut names = String::new();
+    let mut stdout = String::new();
+    for (older, newer) in cases.pairs() {
+        names += &format!("{}\n{}\n", older.name, newer.name);
+        stdout += &pair_text(older, newer);
+    }
+    write_files(dir, cases.pages(), &names, &stdout)
+}
+
+fn write_files(dir: &Path, inputs: &[Case], names: &str, stdout: &str) -> io::Result<()> {
+    let data = dir.join("data");
+    fs::create_dir_all(&data)?;
+    remove_files(&data)?;
+    for input in inputs {
+        fs::write(data.join(&input.name), &input.data)?;
     }
     fs::write(dir.join("args"), names)?;
     fs::write(dir.join("stdout"), stdout)
@@ -72,6 +99,7 @@ mod tests {
     fn names_are_plain_and_differ() {
         check_names(&page_cases());
         check_names(&script_cases());
+        check_names(pair_cases().pages());
     }
 
     #[test]
@@ -80,6 +108,28 @@ mod tests {
         let bytes: usize = cases.iter().map(|case| case.data.len()).sum();
         assert!(cases.len() >= 250, "{}", cases.len());
         assert!(bytes <= 1_500_000, "{}", bytes);
+    }
+
+    #[test]
+    fn pairs_are_many_and_small() {
+        let cases = pair_cases();
+        let bytes: usize = cases.pages().iter().map(|page| page.data.len()).sum();
+        let number = cases.pairs().count();
+        assert!(number >= 60, "{}", number);
+        assert!(bytes <= 700_000, "{}", bytes);
+    }
+
+    #[test]
+    fn pairs_differ_and_leave_out_no_page() {
+        let cases = pair_cases();
+        let mut pairs = HashSet::new();
+        let mut pages = HashSet::new();
+        for (older, newer) in cases.pairs() {
+            let names = (older.name.as_str(), newer.name.as_str());
+            assert!(pairs.insert(names), "{:?}", names);
+            pages.extend([names.0, names.1]);
+        }
+        assert_eq!(pages.len(), cases.pages().len());
     }
 
     #[test]

@@ -194,12 +194,8 @@ fn print_descriptor(d: Descriptor) {
         .hex8(d.id.0)
         .word(b" ")
         .decimal(bit(d.restorable))
-        .word(b" ")
-        .hex2(d.kind)
-        .word(b" ")
-        .hex2(d.health)
         .word(b" ");
-    print(listing::write_capacity(text, d.capacity));
+    print(listing::write_values(text, d));
 }
 
 fn print_slot(slot: Slot) {

@@ -1,37 +1,22 @@
--- No second listing fits; a refusal writes nothing; 80,000 bytes are enough (specs/Promises).
-use Prim.Native.Nat.{ℕ, _+_, _-_, _*_, _/_, _≤_}
+-- 80,000 bytes are enough for every listing (specs/Promises).
+use Prim.Native.Nat.{ℕ, _-_, _*_, _/_, _≤_}
 use mathlib.Core.Bool.{Bool, true, false, cond}
-use mathlib.Core.List.{List, _++_}
+use mathlib.Core.List.{List}
 use mathlib.Core.Path.{_≡_, refl, ap}
 use native.Mathlib.Nat.{min-le-right}
 use native.Mathlib.Omega.{arith}
 use lib.Dec.{ltb}
-use lib.ListN.{length, drop, length-append}
+use lib.ListN.{length, length-append}
 use borrow.Author.Tests.{le-ltb, ltb-false}
 use Rattle.layout.specs.Bytes.{headerIn, returnedOf}
 use Rattle.layout.specs.declared.Header.{Header}
-use Rattle.paper.proofs.Once.{told-once}
 use Rattle.paper.specs.Told.{tells}
 use Rattle.reader.proofs.LayoutTheorem.{takes-exactly, with-header}
 use Rattle.reader.specs.Reading.{Values, header, place, readOf}
 use Rattle.words.specs.declared.Order.the-variants.{Little}
-use Rattle.listing.specs.Listing.{linesBelow, requestOf, judged, firstLine, lineCount, listingOf, Output, output, listed}
-use Rattle.listing.specs.Promises.{One-listing, Refusal-writes-nothing, Enough}
+use Rattle.listing.specs.Listing.{linesBelow, requestOf, judged, firstLine, lineCount, listingOf}
+use Rattle.listing.specs.Promises.{Enough}
 use Rattle.listing.proofs.Listing.{length-first, length-lines}
-
-pub one-listing : One-listing
-one-listing s out a b m n x y is-a is-b =
-    let both : (a ≡ b) × (output m x ≡ output n y) = told-once (listed s out) a b (output m x) (output n y) is-a is-b in
-    (both .0, ap (λ (o : Output). o .count) (both .1), ap (λ (o : Output). o .buffer) (both .1))
-
-pub refusal-writes-nothing : Refusal-writes-nothing
-refusal-writes-nothing s out = by-test (ltb (length out) (length (listingOf s)))
-  where
-    by-test : (t : Bool)
-        → (cond t (tells 7 (output 0 out)) (tells 0 (output (length (listingOf s)) (listingOf s ++ drop (length (listingOf s)) out))) .number ≡ 0 → ⊥)
-        → cond t (tells 7 (output 0 out)) (tells 0 (output (length (listingOf s)) (listingOf s ++ drop (length (listingOf s)) out))) .state ≡ output 0 out
-    by-test true h = refl
-    by-test false h = absurd (h refl)
 
 -- ## How many lines: 128 pages have room for 2,047
 

@@ -7,7 +7,6 @@ use native.Mathlib.Numerals.{add-one}
 use native.Mathlib.Omega.{arith}
 use lib.Dec.{eqb, leb}
 use lib.ListN.{length, drop, length-append}
-use lib.Seq.{length-take-le}
 use borrow.Author.Tests.{leb-true, leb-false, lt-ltb, le-ltb, eq-eqb, ne-eqb}
 use Rattle.io.specs.Counts.{Counts}
 use Rattle.layout.specs.Bytes.{allOnes, descriptorIn}
@@ -27,7 +26,8 @@ use Rattle.text.specs.declared.Text.{Text}
 use Rattle.words.proofs.Lists.{stored-more, stored-two}
 use Rattle.words.specs.Lists.{stored}
 use Rattle.words.specs.declared.Order.the-variants.{Little}
-use Rattle.listing.specs.Listing.{capacityOf, descriptorLine, headerLine, refusedLine, linesBelow, requestOf, judged, firstLine, lineCount, listingOf, output, listed}
+use Rattle.listing.specs.Listing.{capacityOf, valuesOf, descriptorLine, headerLine, refusedLine, linesBelow, requestOf, judged, firstLine, lineCount, listingOf, output, listed}
+use Rattle.listing.proofs.Printing.{printed-small, printed-done, printed-counts}
 
 -- ## The lines
 
@@ -67,9 +67,11 @@ length-capacity n = by-test (eqb n allOnes)
     by-test true = omega arith
     by-test false = length-decimal n
 
+pub length-values : (d : Descriptor) → length (valuesOf d) ≤ 26
+length-values d = simp length-append (omega (arith, length-capacity (d .capacity)))
+
 pub length-line : (d : Descriptor) → length (descriptorLine d) ≤ 36
-length-line d =
-    simp length-append (omega (arith, length-capacity (d .capacity)))
+length-line d = simp length-append (omega (arith, length-capacity (d .capacity)))
 
 pub length-header : (h : Header) → length (headerLine h) ≤ 128
 length-header h =
@@ -153,7 +155,7 @@ module _ (s : List ℕ) (r : Reading) (is-r : heard r ≡ judged s) (t : Text) (
   size-fits small = omega (arith, first-len, length-first (heard r .state), length-lines s n)
 
   pub listed-small : (out : List ℕ) → length out < t .len + m → said SmallBuffer (output 0 out) ≡ listed s out
-  listed-small out h = sym (rw (lt-ltb (length out) (length (listingOf s)) (omega (arith, long))))
+  listed-small out = printed-small (listingOf s) out (t .len + m) long
 
   module _ (out b₁ b₂ : List ℕ) (room : t .len + m ≤ length out) (is-b₁ : b₁ ≡ stored out 0 (held t)) (is-b₂ : b₂ ≡ stored b₁ (t .len) (linesBelow s n)) where
     filled : b₂ ≡ listingOf s ++ drop (length (listingOf s)) out
@@ -162,9 +164,7 @@ module _ (s : List ℕ) (r : Reading) (is-r : heard r ≡ judged s) (t : Text) (
         (stored-two out (firstLine (heard r .state)) (linesBelow s n) b₁ b₂ (t .len) (omega (arith, long, ap length whole)) first-len (rw first-held at is-b₁) is-b₂)
 
     pub listed-done : said Done (output (t .len + m) b₂) ≡ listed s out
-    listed-done = rw (long, filled) (sym (rw (le-ltb (length out) (length (listingOf s)) (omega (arith, long)))))
+    listed-done = printed-done (listingOf s) out (t .len + m) long room b₂ filled
 
     pub listed-counts : Counts (t .len + m) b₂
-    listed-counts =
-        let enough : t .len + m ≤ length b₂ = rw filled (simp length-append (omega (arith, long))) in
-        (enough, sym (length-take-le (t .len + m) b₂ enough))
+    listed-counts = printed-counts (listingOf s) out (t .len + m) long room b₂ filled

@@ -21,13 +21,13 @@ use Rattle.words.specs.declared.Order.the-variants.{Little}
 abbrev pub capacityOf : ℕ → List ℕ
 capacityOf n = cond (eqb n allOnes) (ascii "-") (decimalOf n)
 
+-- type and health in upper hexadecimal, and the capacity
+abbrev pub valuesOf : Descriptor → List ℕ
+valuesOf d = digits 16 2 (d .kind) ++ ascii " " ++ digits 16 2 (d .health) ++ ascii " " ++ capacityOf (d .capacity)
+
 -- "a line for each descriptor (identifier, type, health in upper hex, then capacity ..)"
 abbrev pub descriptorLine : Descriptor → List ℕ
-descriptorLine d =
-    digits 16 8 (d .id .0) ++ ascii " "
-    ++ digits 16 2 (d .kind) ++ ascii " "
-    ++ digits 16 2 (d .health) ++ ascii " "
-    ++ capacityOf (d .capacity) ++ ascii "\n"
+descriptorLine d = digits 16 8 (d .id .0) ++ ascii " " ++ valuesOf d ++ ascii "\n"
 
 -- "number 1 returned 1 busy 00000000 limit 2 removed 0"
 abbrev pub headerOf : Header → List ℕ
@@ -82,8 +82,10 @@ pub record Output : Type 0 where
 abbrev pub output : ℕ → List ℕ → Output
 output n out = record { count = n; buffer = out }
 
--- a buffer that is too short gets 7 and stays untouched
-abbrev pub listed : List ℕ → List ℕ → Told Output
-listed s out =
-    let text = listingOf s in
+-- a text in it; a buffer that is too short gets 7 and stays untouched
+abbrev pub printed : List ℕ → List ℕ → Told Output
+printed text out =
     cond (ltb (length out) (length text)) (tells 7 (output 0 out)) (tells 0 (output (length text) (text ++ drop (length text) out)))
+
+abbrev pub listed : List ℕ → List ℕ → Told Output
+listed s out = printed (listingOf s) out

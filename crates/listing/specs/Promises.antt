@@ -1,21 +1,21 @@
--- What holds of every listing. Each is a statement; proofs/ has the proof under the same name in lower case.
+-- What holds of every text in a lent buffer, and of every listing. Each is a statement; proofs/ has the proof under the same name in lower case.
 use Prim.Native.Nat.{ℕ, _≤_}
 use mathlib.Core.List.{List}
 use mathlib.Core.Path.{_≡_}
 use lib.ListN.{length}
 use Rattle.paper.specs.Told.{said}
 use Rattle.paper.specs.declared.Answer.{Answer}
-use Rattle.listing.specs.Listing.{output, listed}
+use Rattle.listing.specs.Listing.{output, printed, listed}
 
--- no second answer fits, no second number of bytes and no second buffer
-abbrev pub One-listing : Type 0
-One-listing =
-    (s out : List ℕ) (a b : Answer) (m n : ℕ) (x y : List ℕ)
-    → said a (output m x) ≡ listed s out → said b (output n y) ≡ listed s out → (a ≡ b) × (m ≡ n) × (x ≡ y)
+-- no second answer fits a text, no second number of bytes and no second buffer
+abbrev pub One-printing : Type 0
+One-printing =
+    (text out : List ℕ) (a b : Answer) (m n : ℕ) (x y : List ℕ)
+    → said a (output m x) ≡ printed text out → said b (output n y) ≡ printed text out → (a ≡ b) × (m ≡ n) × (x ≡ y)
 
 -- a refusal writes nothing
 abbrev pub Refusal-writes-nothing : Type 0
-Refusal-writes-nothing = (s out : List ℕ) → (listed s out .number ≡ 0 → ⊥) → listed s out .state ≡ output 0 out
+Refusal-writes-nothing = (text out : List ℕ) → (printed text out .number ≡ 0 → ⊥) → printed text out .state ≡ output 0 out
 
 -- room for every listing
 abbrev pub Enough : Type 0

@@ -9,7 +9,7 @@ ghost use Rattle.reader.specs.Reading.{heard};
 ghost use Rattle.text.specs.Text.{nothing, written};
 ghost use Rattle.words.specs.Lists.{stored};
 ghost use Rattle.words.specs.declared.Order.the-variants.{Little};
-ghost use Rattle.listing.specs.Listing.{capacityOf, descriptorLine, headerOf, headerLine, refusedLine, linesBelow, judged, firstLine, lineCount, output, listed};
+ghost use Rattle.listing.specs.Listing.{capacityOf, valuesOf, descriptorLine, headerOf, headerLine, refusedLine, linesBelow, judged, firstLine, lineCount, output, listed};
 use layout::Descriptor;
 use layout::Header;
 use layout::Request;
@@ -21,13 +21,13 @@ use text::Text;
 use words::Order;
 
 // 7, or 0 and how many bytes were written.
-pub struct Listed {
+pub struct Printed {
     pub answer: Answer,
     pub count: usize,
 }
 
 // A capacity after a text.
-pub fn write_capacity(t: Text, capacity: u64) -> Text
+fn write_capacity(t: Text, capacity: u64) -> Text
     ensures { λ r. ⌜ r ≡ written t (capacityOf capacity) ⌝ }
 {
     if capacity == 0xFFFF_FFFF_FFFF_FFFF {
@@ -36,17 +36,19 @@ pub fn write_capacity(t: Text, capacity: u64) -> Text
     t.decimal(capacity)
 }
 
+// An element's type, health and capacity after a text.
+pub fn write_values(t: Text, d: Descriptor) -> Text
+    ensures { λ r. ⌜ r ≡ written t (valuesOf d) ⌝ }
+{
+    let begun = t.hex2(d.kind).word(b" ").hex2(d.health).word(b" ");
+    write_capacity(begun, d.capacity)
+}
+
 fn descriptor_line(d: Descriptor) -> Text
     ensures { λ r. ⌜ r ≡ written nothing (descriptorLine d) ⌝ }
 {
-    let t = Text::nothing()
-        .hex8(d.id.0)
-        .word(b" ")
-        .hex2(d.kind)
-        .word(b" ")
-        .hex2(d.health)
-        .word(b" ");
-    write_capacity(t, d.capacity).word(b"\n")
+    let t = Text::nothing().hex8(d.id.0).word(b" ");
+    write_values(t, d).word(b"\n")
 }
 
 // The header's numbers after a text.
@@ -151,7 +153,7 @@ fn put_lines(input: &[u8], count: u32, out: &mut [u8], from: usize)
 }
 
 // The whole listing, or nothing where it does not fit.
-pub fn list(input: &[u8], out: &mut [u8]) -> Listed
+pub fn list(input: &[u8], out: &mut [u8]) -> Printed
     ensures { λ r. ⌜ said (r .answer) (output (r .count) (now (out .exit))) ≡ listed (now (input .entry)) (now (out .entry)) ⌝ }
     ensures { λ r. ⌜ Counts (r .count) (now (out .exit)) ⌝ }
 {
@@ -160,14 +162,14 @@ pub fn list(input: &[u8], out: &mut [u8]) -> Listed
     let count = line_count(reading);
     let size = first.len + measure(input, count);
     if out.len() < size {
-        return Listed {
+        return Printed {
             answer: Answer::SmallBuffer,
             count: 0,
         };
     }
     first.put(out, 0);
     put_lines(input, count, out, first.len);
-    Listed {
+    Printed {
         answer: Answer::Done,
         count: size,
     }

@@ -19,8 +19,13 @@ fn list_file(i: usize) {
         return;
     }
     let mut buf = [0u8; 65537];
-    let n = io::read_full(fd, &mut buf);
+    let page = input::read_whole(fd, &mut buf);
     libc::close(fd);
+    if page.failed {
+        os::fail(&path[..length]);
+        return;
+    }
+    let n = page.count;
     list(&buf[..n]);
 }
 

@@ -1,6 +1,6 @@
 //! A page under construction, and a named case for the committed vectors.
 
-use crate::rules::layout::{self, descriptor, put};
+use crate::rules::layout::{self, descriptor, put, ROW};
 
 /// A named input: a page or a script.
 pub struct Case {
@@ -95,6 +95,11 @@ impl Draft {
 
     pub fn capacity(self, k: usize, value: u64) -> Draft {
         self.field(descriptor(k) + layout::CAPACITY, &value.to_le_bytes())
+    }
+
+    /// Descriptor `k` whole.
+    pub fn row(self, k: usize, row: &[u8; ROW]) -> Draft {
+        self.field(descriptor(k), row)
     }
 
     pub fn byte(self, place: usize, value: u8) -> Draft {

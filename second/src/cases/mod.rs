@@ -1,13 +1,22 @@
-//! Pages and scripts: those of the committed vectors, and those from seeds.
+//! Pages, scripts and pairs of pages: those of the committed vectors, and those from seeds.
 
 pub mod draft;
 pub mod gen_pages;
+pub mod gen_pairs;
 pub mod gen_scripts;
 mod pages_accepted;
 pub mod pages_size;
 mod pages_wrong;
+pub mod pairs;
+mod pairs_cut;
+mod pairs_field;
+mod pairs_only;
+mod pairs_refused;
+mod pairs_session;
+mod pairs_size;
 pub mod placements;
 pub mod random_page;
+pub mod random_pair;
 pub mod random_script;
 mod random_table;
 pub mod rng;

@@ -33,7 +33,7 @@ fn random_number(rng: &mut Rng, room: u32) -> u32 {
 }
 
 /// A good page with random values in every field, reserved ones included.
-fn random_list(rng: &mut Rng, pages: usize, number: u32) -> Draft {
+pub fn random_list(rng: &mut Rng, pages: usize, number: u32) -> Draft {
     let mut draft = Draft::list(pages, number)
         .busy(rng.next() as u32)
         .limit(rng.next() as u16)
@@ -80,7 +80,7 @@ pub fn random_health(rng: &mut Rng) -> u8 {
 }
 
 /// One change somewhere; it need not offend.
-fn change(rng: &mut Rng, draft: Draft, pages: usize, returned: usize) -> Draft {
+pub fn change(rng: &mut Rng, draft: Draft, pages: usize, returned: usize) -> Draft {
     let k = rng.place(returned.max(1));
     let padding = descriptor(returned);
     let free = 512 * pages - padding;

@@ -11,7 +11,7 @@ use crate::rules::layout::descriptor;
 use crate::rules::script::MOST_LENGTH;
 use crate::rules::table::Element;
 
-struct Walk {
+pub struct Walk {
     rng: Rng,
     bench: Bench,
     script: Vec<u8>,
@@ -22,13 +22,7 @@ struct Walk {
 
 /// A script of about `lines` lines.
 pub fn random_script(seed: u64, lines: usize) -> Vec<u8> {
-    let mut walk = Walk {
-        rng: Rng::new(seed),
-        bench: Bench::new(),
-        script: Vec::new(),
-        lines: 0,
-        asked: (0, 1, 0),
-    };
+    let mut walk = Walk::new(seed);
     while walk.lines < lines {
         walk.turn();
     }
@@ -58,6 +52,29 @@ const NOISE: [&str; 14] = [
 ];
 
 impl Walk {
+    pub fn new(seed: u64) -> Walk {
+        Walk {
+            rng: Rng::new(seed),
+            bench: Bench::new(),
+            script: Vec::new(),
+            lines: 0,
+            asked: (0, 1, 0),
+        }
+    }
+
+    /// Elements of the device, if there is one.
+    pub fn elements(&self) -> usize {
+        let device = self.bench.device.as_ref();
+        device.map_or(0, |device| device.elements.len())
+    }
+
+    /// The whole list, in so many pages.
+    pub fn list_pages(&mut self, pages: u16) -> Vec<u8> {
+        let length = 512 * usize::from(pages);
+        self.say(&command_line("unlocked", 0x12, 0, pages, 0, length));
+        self.bench.page.clone()
+    }
+
     fn say(&mut self, line: &str) {
         self.say_bytes(line.as_bytes());
     }
@@ -69,7 +86,8 @@ impl Walk {
         self.lines += 1;
     }
 
-    fn turn(&mut self) {
+    /// The next lines.
+    pub fn turn(&mut self) {
         let device = match &self.bench.device {
             Some(device) => device.clone(),
             None => return self.make(),
@@ -110,7 +128,8 @@ impl Walk {
         }
     }
 
-    fn make(&mut self) {
+    /// A table offered for a new device, which need not be a good one.
+    pub fn make(&mut self) {
         let table = random_table(&mut self.rng);
         for one in &table {
             self.say(&element_line(one));

@@ -24,11 +24,16 @@ pub struct Bench {
 
 /// The answers to a whole script, from an empty bench.
 pub fn run(script: &[u8]) -> String {
+    after(script).text
+}
+
+/// The bench after a whole script, empty before it.
+pub fn after(script: &[u8]) -> Bench {
     let mut bench = Bench::new();
     for line in script.split(|&byte| byte == b'\n') {
         bench.line(line);
     }
-    bench.text
+    bench
 }
 
 impl Bench {

@@ -3,7 +3,7 @@
 
 use super::answer::Answer;
 use super::layout::UNREPORTED;
-use super::reader::{read, Header, Reading};
+use super::reader::{read, Descriptor, Header, Reading};
 use super::request::Registers;
 
 /// "at most 65,536 bytes".
@@ -42,13 +42,7 @@ fn judge(input: &[u8]) -> Result<Reading, usize> {
 fn text_of(reading: &Reading) -> String {
     let mut text = header_line(&reading.header);
     for one in &reading.descriptors {
-        text += &format!(
-            "{:08X} {:02X} {:02X} {}\n",
-            one.identifier,
-            one.element_type,
-            one.health,
-            capacity_text(one.capacity)
-        );
+        text += &format!("{}\n", descriptor_text(one));
     }
     text
 }
@@ -59,6 +53,17 @@ pub fn header_line(header: &Header) -> String {
         "number {} returned {} busy {:08X} limit {} removed {}\n",
         header.number, header.returned, header.busy, header.limit, header.removed
     )
+}
+
+/// A descriptor's line, of a listing and of a comparison alike.
+pub fn descriptor_text(one: &Descriptor) -> String {
+    format!("{:08X} {}", one.identifier, values_text(one))
+}
+
+/// "type, health in upper hex, then capacity".
+pub fn values_text(one: &Descriptor) -> String {
+    let capacity = capacity_text(one.capacity);
+    format!("{:02X} {:02X} {}", one.element_type, one.health, capacity)
 }
 
 /// "capacity, `-` for all ones".

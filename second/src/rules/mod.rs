@@ -1,8 +1,10 @@
-//! The rules of document 01, and the bench language over them.
+//! The rules of document 01 and of request 2026-01, and the bench language over
+//! them.
 
 pub mod answer;
 pub mod bench;
 pub mod commands;
+pub mod compare;
 pub mod device;
 pub mod layout;
 pub mod listing;

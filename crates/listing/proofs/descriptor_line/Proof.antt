@@ -1,28 +1,8 @@
--- `listing::descriptor_line`.
+-- `listing::descriptor_line`: one call's words after another's.
 use borrow.Author.Needs.{needs}
 use Rattle.text.proofs.Written.{written-append}
 use Rattle.listing.proofs.descriptor_line.Statement.{statement}
 use Rattle.listing.proofs.descriptor_line.Tie as tie
-
--- one call's words after another's
-returns : tie.Need-returns
-returns c =
-    let capacity = c .before .before in
-    let health = capacity .before .before .before in
-    let kind = health .before .before .before in
-    let id = kind .before .before .before in
-    simp (
-      written-append,
-      c .word4 .ensures,
-      capacity .write-capacity .ensures,
-      capacity .before .word3 .ensures,
-      health .hex22 .ensures,
-      health .before .word2 .ensures,
-      kind .hex2 .ensures,
-      kind .before .word .ensures,
-      id .hex8 .ensures,
-      id .before .nothing .ensures,
-    )
 
 pub descriptor-line-spec : {M : Type 1} → statement M
 descriptor-line-spec =
@@ -35,10 +15,12 @@ descriptor-line-spec =
     (λ c κs. search needs)
     (λ c. search needs)
     (λ c κs. search needs)
-    (λ c κs. search needs)
-    (λ c. search needs)
-    (λ c κs. search needs)
-    (λ c κs. search needs)
-    (λ c. search needs)
-    (λ c κs. search needs)
-    returns)
+    (λ c. let values = c .before .before in
+    simp (
+      written-append,
+      c .word2 .ensures,
+      values .write-values .ensures,
+      values .before .word .ensures,
+      values .before .before .before .hex8 .ensures,
+      values .before .before .before .before .nothing .ensures,
+    )))

@@ -1,0 +1,90 @@
+-- Both pages judged, and how far they are compared: a law for each way out.
+use Prim.Native.Nat.{ℕ, zero, suc, _+_, _-_, _*_, _≤_, _<_}
+use mathlib.Core.Bool.{Bool, true, false, cond}
+use mathlib.Core.List.{List}
+use mathlib.Core.Path.{_≡_, refl, sym, ap, _∙_}
+use native.Mathlib.Omega.{arith}
+use lib.Dec.{ltb}
+use lib.ListN.{drop}
+use borrow.Author.Tests.{lt-ltb, le-ltb}
+use Rattle.layout.specs.Bytes.{headerIn, descriptorIn}
+use Rattle.layout.specs.declared.Descriptor.{Descriptor}
+use Rattle.layout.specs.declared.Header.{Header}
+use Rattle.layout.specs.declared.Request.{Request}
+use Rattle.paper.specs.Told.{tells}
+use Rattle.paper.specs.declared.ElementId.{ElementId}
+use Rattle.reader.specs.Checks.{lastBefore}
+use Rattle.reader.specs.Reading as reading
+use Rattle.reader.specs.declared.Reading.the-variants as says
+use Rattle.reader.specs.declared.Reading.{Reading}
+use Rattle.words.specs.declared.Order.the-variants.{Little}
+use Rattle.compare.specs.Opening.{openOf, accepted, bound, turn}
+use Rattle.compare.specs.Pages.{countOf, elementAt, reachOf, smallest, boundOf}
+use Rattle.compare.specs.declared.Bound.the-variants.{Whole, UpTo}
+use Rattle.compare.specs.declared.Bound.{Bound}
+use Rattle.compare.specs.declared.Turn.the-variants.{Older, Newer}
+
+-- ## A page judged
+
+module _ (s : List ℕ) (q : Request) (r : Reading) (is-r : reading.heard r ≡ reading.readOf s q) where
+  pub accepted-yes : (h : Header) → r ≡ says.Accepted h → true ≡ accepted s q
+  unfolding accepted
+  accepted-yes h e = sym (rw (← is-r, e))
+
+  pub accepted-no : (p : ℕ) → r ≡ says.Refused p → false ≡ accepted s q
+  unfolding accepted
+  accepted-no p e = sym (rw (← is-r, e))
+
+module _ (s t : List ℕ) (q : Request) (a : Bool) (is-a : a ≡ accepted s q) where
+  pub open-older : a ≡ false → tells 9 (turn Older) ≡ openOf s t q
+  open-older n = sym (rw (sym is-a ∙ n))
+
+  module _ (y : a ≡ true) (b : Bool) (is-b : b ≡ accepted t q) where
+    pub open-newer : b ≡ false → tells 9 (turn Newer) ≡ openOf s t q
+    open-newer n = sym (rw (sym is-a ∙ y, sym is-b ∙ n))
+
+    pub open-both : b ≡ true → (m : Bound) → m ≡ boundOf s t → tells 0 (bound m) ≡ openOf s t q
+    open-both z m is-m = sym (rw (sym is-a ∙ y, sym is-b ∙ z, ← is-m))
+
+-- ## How far
+
+pub element-read : (s u : List ℕ) (k : ℕ) → u ≡ drop (32 + 32 * k) s → (d : Descriptor) → d ≡ descriptorIn Little u → d ≡ elementAt s k
+unfolding elementAt
+element-read s u k is-u d is-d = is-d ∙ rw is-u
+
+pub before-some : (s : List ℕ) (k : ℕ) (some : k ≡ 0 → ⊥) (d : Descriptor) → d ≡ elementAt s (k - 1) → d .id .0 ≡ lastBefore Little s k
+unfolding elementAt
+before-some s zero some d is-d = absurd (some refl)
+before-some s (suc k) some d is-d =
+    let back : suc k - 1 ≡ k = omega arith in
+    ap (λ (x : Descriptor). x .id .0) is-d ∙ ap (λ (j : ℕ). elementAt s j .id .0) back
+
+module _ (s : List ℕ) (h : Header) (is-h : h ≡ headerIn Little s) where
+  pub count-read : h .returned ≡ countOf s
+  unfolding countOf
+  count-read = ap (λ (x : Header). x .returned) is-h
+
+  reach-read : cond (ltb (h .returned) (h .number)) (UpTo (record { 0 = lastBefore Little s (h .returned) })) Whole ≡ reachOf s
+  unfolding reachOf
+  reach-read = ap (λ (x : Header). cond (ltb (x .returned) (x .number)) (UpTo (record { 0 = lastBefore Little s (x .returned) })) Whole) is-h
+
+  pub reach-whole : h .number ≤ h .returned → Whole ≡ reachOf s
+  reach-whole l = sym (rw (le-ltb (h .returned) (h .number) l)) ∙ reach-read
+
+  pub reach-cut : h .returned < h .number → (id : ElementId) → id .0 ≡ lastBefore Little s (h .returned) → UpTo id ≡ reachOf s
+  reach-cut l id is-id = sym (rw (lt-ltb (h .returned) (h .number) l, ← is-id)) ∙ reach-read
+
+module _ (a b : Bound) (x : ElementId) (is-a : a ≡ UpTo x) where
+  pub smallest-first : b ≡ Whole → UpTo x ≡ smallest a b
+  smallest-first is-b = sym (rw (is-a, is-b))
+
+  module _ (y : ElementId) (is-b : b ≡ UpTo y) where
+    pub smallest-older : x .0 < y .0 → UpTo x ≡ smallest a b
+    smallest-older l = sym (rw (is-a, is-b, lt-ltb (x .0) (y .0) l))
+
+    pub smallest-newer : y .0 ≤ x .0 → UpTo y ≡ smallest a b
+    smallest-newer l = sym (rw (is-a, is-b, le-ltb (x .0) (y .0) l))
+
+pub bound-joined : (s t : List ℕ) (a b r : Bound) → a ≡ reachOf s → b ≡ reachOf t → r ≡ smallest a b → r ≡ boundOf s t
+unfolding boundOf
+bound-joined s t a b r is-a is-b is-r = is-r ∙ rw (is-a, is-b)

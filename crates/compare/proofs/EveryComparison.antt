@@ -1,0 +1,189 @@
+-- What holds of every comparison (specs/Promises), but for the walk.
+use Prim.Native.Nat.{ℕ, zero, suc, _+_, _-_, _*_, _≤_, _<_}
+use mathlib.Core.Bool.{Bool, true, false, cond}
+use mathlib.Core.List.{List, [], _∷_, _++_, map}
+use mathlib.Core.Path.{_≡_, refl, sym, ap, subst, _∙_}
+use native.Mathlib.Nat.{min-le-right}
+use native.Mathlib.Omega.{arith}
+use lib.Dec.{eqb}
+use lib.ListN.{length, take, drop, getD, length-drop}
+use lib.Seq.{length-take-le, getD-take, getD-drop, drop-drop}
+use borrow.Author.Tests.{eqb-true, eqb-false, lt-ltb, le-leb}
+use Rattle.layout.specs.Bytes.{headerIn, descriptorIn, returnedOf}
+use Rattle.layout.specs.Requests.{pagesOf}
+use Rattle.layout.specs.declared.Descriptor.{Descriptor}
+use Rattle.layout.specs.declared.Request.{Request}
+use Rattle.paper.specs.Told.{Told}
+use Rattle.reader.specs.Checks.{baseOf}
+use Rattle.words.specs.Bytes.{number, front, numberAt}
+use Rattle.words.specs.declared.Order.the-variants.{Little}
+use Rattle.words.specs.declared.Order.{Order}
+use Rattle.compare.specs.Differences.{alike, Standing, absent, stands, standingIn, standing, difference, differenceAt, differencesIn, differencesOf}
+use Rattle.compare.specs.Opening.{accepted, Values, bound, turn, heard}
+use Rattle.compare.specs.Pages.{countOf, elementAt, boundOf, endOf}
+use Rattle.compare.specs.Parts.{descriptorPart, partOf}
+use Rattle.compare.specs.Promises.{One-opening, Stands-for, idOf, Ascending, Each-once, Hands-out, Each, Hands-out-each}
+use Rattle.compare.specs.declared.Line.the-variants.{OnlyOlder, OnlyNewer, Changed}
+use Rattle.compare.specs.declared.Line.{Line}
+use Rattle.compare.specs.declared.Opening.the-variants.{Accepted, Refused}
+use Rattle.compare.specs.declared.Opening.{Opening}
+use Rattle.compare.proofs.Ascending.{idAt, rules}
+
+-- ## What was heard gives the answer back
+
+abbrev of : Values → Opening
+of (bound b) = Accepted b
+of (turn t) = Refused t
+
+abbrev answer : Told Values → Opening
+answer u = of (u .state)
+
+back : (a : Opening) → answer (heard a) ≡ a
+back (Accepted b) = refl
+back (Refused t) = refl
+
+pub one-opening : One-opening
+one-opening s t q a b is-a is-b = sym (back a) ∙ ap answer (is-a ∙ sym is-b) ∙ back b
+
+-- ## Standings
+
+-- what a standing says of an identifier, among the first n descriptors
+Says : List ℕ → ℕ → ℕ → Standing → Type 0
+Says s n id absent = (k : ℕ) → k < n → idAt s k ≡ id → ⊥
+Says s n id (stands k) = (k < n) × (idAt s k ≡ id)
+
+says : (s : List ℕ) (n id : ℕ) → Says s n id (standingIn s n id)
+unfolding Says
+says s zero id = λ k l e. omega arith
+says s (suc n) id = by-test (eqb (idAt s n) id) refl (standingIn s n id) (says s n id)
+  where
+    by-test : (b : Bool) → eqb (idAt s n) id ≡ b → (x : Standing) → Says s n id x → Says s (suc n) id (cond b (stands n) x)
+    by-test true p x h = (omega arith, eqb-true _ _ p)
+    by-test false p (stands k) (l, e) = (omega arith, e)
+    by-test false p absent h = λ k l e. other k l e (eqb k n) refl
+      where
+        other : (k : ℕ) → k < suc n → idAt s k ≡ id → (b : Bool) → eqb k n ≡ b → ⊥
+        other k l e true r = eqb-false _ _ p (ap (idAt s) (sym (eqb-true k n r)) ∙ e)
+        other k l e false r = h k (omega (arith, eqb-false k n r)) e
+
+pub stands-for : Stands-for
+unfolding standing Says
+stands-for s id k = (
+  λ e. subst (Says s (countOf s) id) e (says s (countOf s) id),
+  λ e. subst (Says s (countOf s) id) e (says s (countOf s) id) k,
+)
+
+-- ## Each once
+
+ascending-lower : (a b : ℕ) (xs : List ℕ) → a ≤ b → Ascending b xs → Ascending a xs
+ascending-lower a b [] l r = tt
+ascending-lower a b (x ∷ xs) l (m, r) = (omega arith, r)
+
+module _ (s t : List ℕ) where
+  ascending-after : (id : ℕ) (rest : List Line) → Ascending (suc id) (map (idOf s t) rest) → Ascending id (map (idOf s t) (differenceAt s t (suc id) ++ rest))
+  unfolding differenceAt
+  ascending-after id rest r =
+      by-standings (standing s (suc id)) (standing t (suc id)) (λ k e. stands-for s (suc id) k .0 e .1) (λ k e. stands-for t (suc id) k .0 e .1)
+    where
+      first : (l : Line) → idOf s t l ≡ suc id → Ascending id (map (idOf s t) (l ∷ rest))
+      first l e = (omega (arith, e), ascending-lower (idOf s t l) (suc id) (map (idOf s t) rest) (omega (arith, e)) r)
+
+      none : Ascending id (map (idOf s t) rest)
+      none = ascending-lower id (suc id) (map (idOf s t) rest) (omega arith) r
+
+      by-alike : (b : Bool) (l : Line) → idOf s t l ≡ suc id → Ascending id (map (idOf s t) (cond b [] (l ∷ []) ++ rest))
+      by-alike true l e = none
+      by-alike false l e = first l e
+
+      by-standings : (x y : Standing) → ((k : ℕ) → x ≡ stands k → idAt s k ≡ suc id) → ((k : ℕ) → y ≡ stands k → idAt t k ≡ suc id)
+          → Ascending id (map (idOf s t) (difference s t x y ++ rest))
+      by-standings absent absent p q = none
+      by-standings (stands i) absent p q = first (OnlyOlder i) (p i refl)
+      by-standings absent (stands j) p q = first (OnlyNewer j) (q j refl)
+      by-standings (stands i) (stands j) p q =
+          by-alike (alike (elementAt s i) (elementAt t j)) (Changed (record { older = i; newer = j })) (q j refl)
+
+  ascending-in : (n id : ℕ) → Ascending id (map (idOf s t) (differencesIn s t (suc id) n))
+  unfolding differencesIn
+  ascending-in zero id = tt
+  ascending-in (suc n) id = ascending-after id (differencesIn s t (suc (suc id)) n) (ascending-in n (suc id))
+
+pub each-once : Each-once
+unfolding differencesOf
+each-once s t = ascending-in s t (endOf (boundOf s t)) 0
+
+-- ## Parts
+
+module _ (n : ℕ) (l : List ℕ) where
+  byte-part : (at : ℕ) → at < n → getD (take n l) at 0 ≡ getD l at 0
+  byte-part at h = getD-take n l at 0 h
+
+  front-part : (w at : ℕ) → at + w ≤ n → front w (drop at (take n l)) ≡ front w (drop at l)
+  front-part zero at h = refl
+  front-part (suc w) at h =
+      let first : getD (drop at (take n l)) 0 0 ≡ getD (drop at l) 0 0 =
+      getD-drop at (take n l) 0 0 ∙ byte-part (at + 0) (omega (arith, h)) ∙ sym (getD-drop at l 0 0) in
+      rw (first, drop-drop 1 at (take n l), drop-drop 1 at l, front-part w (at + 1) (omega (arith, h)))
+
+  number-part : (o : Order) (w at : ℕ) → at + w ≤ n → numberAt o w (take n l) at ≡ numberAt o w l at
+  number-part o w at h = ap (number o) (front-part w at h)
+
+descriptor-part : (o : Order) (l : List ℕ) → descriptorIn o (take 32 l) ≡ descriptorIn o l
+descriptor-part o l =
+    rw (
+      number-part 32 l o 4 4 (omega arith),
+      byte-part 32 l 13 (omega arith),
+      byte-part 32 l 14 (omega arith),
+      byte-part 32 l 15 (omega arith),
+      number-part 32 l o 8 16 (omega arith),
+    )
+
+pub hands-out : Hands-out
+unfolding descriptorPart elementAt countOf
+hands-out s q k is-accepted l =
+    let long : length s ≡ 512 * pagesOf q = rules s q is-accepted .1 .0 in
+    let cut : headerIn Little s .returned ≡ returnedOf (headerIn Little s .number) (pagesOf q) = rules s q is-accepted .1 .1 .0 in
+    let room : baseOf k + 32 ≤ length s = omega (arith, l, long, cut, min-le-right (headerIn Little s .number) (16 * pagesOf q - 1)) in
+    let whole : descriptorPart s k ≡ take 32 (drop (baseOf k) s) = rw (lt-ltb k (headerIn Little s .returned) l, le-leb (baseOf k + 32) (length s) room) in (
+      ap length whole ∙ length-take-le 32 (drop (baseOf k) s) (omega (arith, room, length-drop (baseOf k) s)),
+      ap (descriptorIn Little) whole ∙ descriptor-part Little (drop (baseOf k) s),
+    )
+
+module _ (s t : List ℕ) (q : Request) (of-s : accepted s q ≡ true) (of-t : accepted t q ≡ true) where
+  -- what is promised of a line
+  abbrev Handed : Line → Type 0
+  Handed l = (length (partOf s t l) ≡ 32) × (descriptorIn Little (partOf s t l) .id .0 ≡ idOf s t l)
+
+  of-older : (id i : ℕ) → standing s id ≡ stands i → Handed (OnlyOlder i)
+  of-older id i e = let (long, same) = hands-out s q i of-s (stands-for s id i .0 e .0) in (long, ap (λ (d : Descriptor). d .id .0) same)
+
+  of-newer : (id j : ℕ) → standing t id ≡ stands j → Handed (OnlyNewer j)
+  of-newer id j e = let (long, same) = hands-out t q j of-t (stands-for t id j .0 e .0) in (long, ap (λ (d : Descriptor). d .id .0) same)
+
+  each-both : (ls ms : List Line) → Each Handed ls → Each Handed ms → Each Handed (ls ++ ms)
+  each-both [] ms p q = q
+  each-both (l ∷ ls) ms (h, p) q = (h, each-both ls ms p q)
+
+  handed-at : (id : ℕ) → Each Handed (differenceAt s t id)
+  unfolding differenceAt
+  handed-at id = by-standings (standing s id) (standing t id) (of-older id) (of-newer id)
+    where
+      by-alike : (b : Bool) (l : Line) → Handed l → Each Handed (cond b [] (l ∷ []))
+      by-alike true l h = tt
+      by-alike false l h = (h, tt)
+
+      by-standings : (x y : Standing) → ((i : ℕ) → x ≡ stands i → Handed (OnlyOlder i)) → ((j : ℕ) → y ≡ stands j → Handed (OnlyNewer j))
+          → Each Handed (difference s t x y)
+      by-standings absent absent p q = tt
+      by-standings (stands i) absent p q = (p i refl, tt)
+      by-standings absent (stands j) p q = (q j refl, tt)
+      by-standings (stands i) (stands j) p q = by-alike (alike (elementAt s i) (elementAt t j)) (Changed (record { older = i; newer = j })) (q j refl)
+
+  handed-in : (n id : ℕ) → Each Handed (differencesIn s t id n)
+  unfolding differencesIn
+  handed-in zero id = tt
+  handed-in (suc n) id = each-both (differenceAt s t id) (differencesIn s t (suc id) n) (handed-at id) (handed-in n (suc id))
+
+pub hands-out-each : Hands-out-each
+unfolding differencesOf
+hands-out-each s t q of-s of-t = handed-in s t q of-s of-t (endOf (boundOf s t)) 1

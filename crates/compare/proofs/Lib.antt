@@ -1,0 +1,10 @@
+-- What is proved of `compare`'s definitions, and of its functions.
+pub mod Ascending
+pub mod Bounds
+pub mod EveryComparison
+pub mod Examples
+pub mod Merging
+pub mod Portions
+pub mod Standings
+pub mod Steps
+pub mod Walking

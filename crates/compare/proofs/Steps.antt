@@ -1,0 +1,138 @@
+-- What stands at a cursor, and the next difference: a law for each way out, and one for each turn of the loop.
+use Prim.Native.Nat.{ℕ, zero, suc, _+_, _-_, _≤_, _<_, min}
+use mathlib.Core.Bool.{Bool, true, false, Bool·beq, cond, _&&_}
+use mathlib.Core.List.{List}
+use mathlib.Core.Path.{_≡_, refl, sym, ap, _∙_}
+use native.Mathlib.Nat.{min-eq-left, min-eq-right}
+use native.Mathlib.Omega.{arith}
+use lib.Dec.{eqb, leb, ltb}
+use borrow.Author.Tests.{eq-eqb, ne-eqb, le-leb, lt-leb, lt-ltb, le-ltb, leb-true, ltb-true, eqb-true}
+use Rattle.layout.specs.Bytes.{headerIn}
+use Rattle.layout.specs.declared.Descriptor.{Descriptor}
+use Rattle.layout.specs.declared.Header.{Header}
+use Rattle.reader.proofs.LayoutTheorem.{and-both}
+use Rattle.words.specs.declared.Order.the-variants.{Little}
+use Rattle.compare.specs.Differences.{alike}
+use Rattle.compare.specs.Pages.{countOf, elementAt, boundOf, endOf}
+use Rattle.compare.specs.Walk.{cursor, idWithin, agreeAt, found, stepAt, past, nextTo, nextOf}
+use Rattle.compare.specs.declared.Bound.{Bound}
+use Rattle.compare.specs.declared.Cursor.{Cursor}
+use Rattle.compare.specs.declared.Line.the-variants.{OnlyOlder, OnlyNewer, Changed}
+use Rattle.compare.specs.declared.Step.the-variants.{Done}
+use Rattle.compare.specs.declared.Step.{Step}
+use Rattle.compare.proofs.Bounds.{count-read}
+
+-- ## An identifier
+
+module _ (s : List ℕ) (k end : ℕ) (h : Header) (is-h : h ≡ headerIn Little s) where
+  pub id-none : h .returned ≤ k → end + 1 ≡ idWithin s k end
+  unfolding idWithin
+  id-none l = sym (rw (le-ltb k (countOf s) (omega (arith, count-read s h is-h))))
+
+  pub id-there : k < h .returned → (d : Descriptor) → d ≡ elementAt s k → d .id .0 ≡ idWithin s k end
+  unfolding idWithin
+  id-there l d is-d = sym (rw (lt-ltb k (countOf s) (omega (arith, count-read s h is-h)), ← is-d))
+
+pub inside : (s : List ℕ) (k end : ℕ) → idWithin s k end ≤ end → k < countOf s
+unfolding idWithin
+inside s k end = by-test (ltb k (countOf s)) refl
+  where
+    by-test : (b : Bool) → ltb k (countOf s) ≡ b → cond b (elementAt s k .id .0) (end + 1) ≤ end → k < countOf s
+    by-test true e l = ltb-true _ _ e
+    by-test false e l = absurd (omega arith)
+
+module _ (a b m end : ℕ) (is-m : m ≡ min a b) (low : m ≤ end) where
+  pub least-first : a ≤ b → a ≤ end
+  least-first l = omega (arith, is-m, min-eq-left l)
+
+  pub least-second : b ≤ a → b ≤ end
+  least-second l = omega (arith, is-m, min-eq-right l)
+
+-- ## Alike
+
+module _ (d e : Descriptor) where
+  pub alike-kind : (d .kind ≡ e .kind → ⊥) → false ≡ alike d e
+  alike-kind n = sym (rw (ne-eqb _ _ n))
+
+  module _ (k : d .kind ≡ e .kind) where
+    pub alike-health : (d .health ≡ e .health → ⊥) → false ≡ alike d e
+    alike-health n = sym (rw (eq-eqb _ _ k, ne-eqb _ _ n))
+
+    module _ (h : d .health ≡ e .health) where
+      pub alike-flag : Bool·beq (d .restorable) (e .restorable) ≡ false → false ≡ alike d e
+      alike-flag n = sym (rw (eq-eqb _ _ k, eq-eqb _ _ h, n))
+
+      pub alike-rest : Bool·beq (d .restorable) (e .restorable) ≡ true → eqb (d .capacity) (e .capacity) ≡ alike d e
+      alike-rest y = sym (rw (eq-eqb _ _ k, eq-eqb _ _ h, y))
+
+-- ## At a cursor
+
+module _ (s t : List ℕ) (end : ℕ) (c : Cursor) (a b : ℕ) (is-a : a ≡ idWithin s (c .older) end) (is-b : b ≡ idWithin t (c .newer) end) where
+  pub agree-other : (a ≡ b → ⊥) → false ≡ agreeAt s t end c
+  unfolding agreeAt
+  agree-other n = sym (rw (← is-a, ← is-b, ne-eqb _ _ n))
+
+  pub agree-beyond : a ≡ b → end < a → false ≡ agreeAt s t end c
+  unfolding agreeAt
+  agree-beyond e l = sym (rw (← is-a, ← is-b, eq-eqb _ _ e, lt-leb _ _ l))
+
+  pub agree-alike : a ≡ b → a ≤ end → (d e : Descriptor) → d ≡ elementAt s (c .older) → e ≡ elementAt t (c .newer) → (r : Bool) → r ≡ alike d e → r ≡ agreeAt s t end c
+  unfolding agreeAt
+  agree-alike i l d e is-d is-e r is-r = is-r ∙ sym (rw (← is-a, ← is-b, eq-eqb _ _ i, le-leb _ _ l, ← is-d, ← is-e))
+
+  pub step-done : (m : ℕ) → m ≡ min a b → end < m → Done ≡ stepAt s t end c
+  unfolding stepAt
+  step-done m is-m l = sym (rw (← is-a, ← is-b, ← is-m, lt-ltb _ _ l))
+
+  module _ (m : ℕ) (is-m : m ≡ min a b) (within : m ≤ end) where
+    pub step-older : a < b → (x : Step) → x ≡ found (OnlyOlder (c .older)) (c .older + 1) (c .newer) → x ≡ stepAt s t end c
+    unfolding stepAt
+    step-older l x is-x = is-x ∙ sym (rw (← is-a, ← is-b, ← is-m, le-ltb _ _ within, lt-ltb _ _ l))
+
+    pub step-newer : b < a → (x : Step) → x ≡ found (OnlyNewer (c .newer)) (c .older) (c .newer + 1) → x ≡ stepAt s t end c
+    unfolding stepAt
+    step-newer l x is-x = is-x ∙ sym (rw (← is-a, ← is-b, ← is-m, le-ltb _ _ within, le-ltb a b (omega arith), lt-ltb _ _ l))
+
+    pub step-changed : b ≤ a → a ≤ b → (x : Step) → x ≡ found (Changed c) (c .older + 1) (c .newer + 1) → x ≡ stepAt s t end c
+    unfolding stepAt
+    step-changed l g x is-x = is-x ∙ sym (rw (← is-a, ← is-b, ← is-m, le-ltb _ _ within, le-ltb _ _ l, le-ltb _ _ g))
+
+-- ## Past what agrees
+
+module _ (s t : List ℕ) (end : ℕ) where
+  pub agree-inside : (c : Cursor) → agreeAt s t end c ≡ true → (c .older < countOf s) × (c .newer < countOf t)
+  unfolding agreeAt
+  agree-inside c e =
+      let a : ℕ = idWithin s (c .older) end in
+      let b : ℕ = idWithin t (c .newer) end in
+      let same = and-both (eqb a b) (leb a end && alike (elementAt s (c .older)) (elementAt t (c .newer))) e in
+      let within = and-both (leb a end) (alike (elementAt s (c .older)) (elementAt t (c .newer))) (same .1) in
+      let low : a ≤ end = leb-true _ _ (within .0) in
+      (inside s (c .older) end low, inside t (c .newer) end (omega (arith, low, eqb-true a b (same .0))))
+
+  pub next-on : (c : Cursor) (r : Bool) → r ≡ agreeAt s t end c → r ≡ true → nextTo s t end c ≡ nextTo s t end (cursor (c .older + 1) (c .newer + 1))
+  unfolding nextTo past
+  next-on c r is-r y =
+      let left : countOf s - c .older ≡ suc (countOf s - (c .older + 1)) = omega (arith, agree-inside c (sym is-r ∙ y) .0) in
+      rw (left, sym is-r ∙ y)
+
+  module _ (c : Cursor) (r : Bool) (is-r : r ≡ agreeAt s t end c) (yes-r : r ≡ true) where
+    pub turn-less : countOf s - (c .older + 1) < countOf s - c .older
+    turn-less = omega (arith, agree-inside c (sym is-r ∙ yes-r) .0)
+
+    pub turn-again : (c₀ : Cursor) → nextTo s t end c₀ ≡ nextTo s t end c → nextTo s t end c₀ ≡ nextTo s t end (cursor (c .older + 1) (c .newer + 1))
+    turn-again c₀ inv = inv ∙ next-on c r is-r yes-r
+
+  stays : (c : Cursor) (n : ℕ) → agreeAt s t end c ≡ false → past s t end n c ≡ c
+  unfolding past
+  stays c zero off = refl
+  stays c (suc n) off = rw off
+
+  pub next-here : (c : Cursor) (r : Bool) → r ≡ agreeAt s t end c → r ≡ false → (x : Step) → x ≡ stepAt s t end c → x ≡ nextTo s t end c
+  unfolding nextTo
+  next-here c r is-r off x is-x = is-x ∙ ap (stepAt s t end) (sym (stays c (countOf s - c .older) (sym is-r ∙ off)))
+
+  pub next-whole : (b : Bound) → b ≡ boundOf s t → end ≡ endOf b → (c at : Cursor) → nextTo s t end c ≡ nextTo s t end at
+      → (x : Step) → x ≡ nextTo s t end at → x ≡ nextOf s t c
+  unfolding nextOf
+  next-whole b is-b is-end c at inv x is-x = is-x ∙ sym inv ∙ ap (λ (e : ℕ). nextTo s t e c) (is-end ∙ ap endOf is-b)

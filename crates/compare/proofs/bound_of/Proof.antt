@@ -1,0 +1,14 @@
+-- `compare::bound_of`.
+use borrow.Author.Needs.{needs}
+use Rattle.compare.proofs.Bounds.{bound-joined}
+use Rattle.compare.proofs.bound_of.Statement.{statement}
+use Rattle.compare.proofs.bound_of.Tie as tie
+
+pub bound-of-spec : {M : Type 1} → statement M
+bound-of-spec =
+    tie.close
+    (tie.spec
+    (λ c κs. search needs)
+    (λ c κs. search needs)
+    (λ c κs. search needs)
+    (λ c. search (bound-joined)))

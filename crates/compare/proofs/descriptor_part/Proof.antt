@@ -1,0 +1,22 @@
+-- `compare::descriptor_part`.
+use borrow.Author.Needs.{needs}
+use Rattle.compare.proofs.Portions.{part-none, part-whole, part-short}
+use Rattle.compare.proofs.descriptor_part.Statement.{statement}
+use Rattle.compare.proofs.descriptor_part.Tie as tie
+
+pub descriptor-part-spec : {M : Type 1} → statement M
+descriptor-part-spec =
+    tie.close
+    (tie.spec
+    (λ c κs. search needs)
+    (λ c. search needs)
+    (λ c. search (part-none))
+    (λ c. search needs)
+    (λ c. search needs)
+    (λ c. search needs)
+    (λ c. search needs)
+    (λ c. search (part-short))
+    (λ c. search needs)
+    (λ c. search needs)
+    (λ c. search needs)
+    (λ c. search (part-whole)))

@@ -1,0 +1,74 @@
+-- What holds of every comparison. Each is a statement; proofs/ has the proof under the same name in lower case.
+use Prim.Native.Nat.{ℕ, _<_}
+use mathlib.Core.Bool.{true}
+use mathlib.Core.List.{List, [], _∷_, map}
+use mathlib.Core.Path.{_≡_}
+use lib.ListN.{length}
+use Rattle.layout.specs.Bytes.{descriptorIn}
+use Rattle.layout.specs.declared.Request.{Request}
+use Rattle.words.specs.declared.Order.the-variants.{Little}
+use Rattle.compare.specs.Differences.{absent, stands, standing, differencesOf}
+use Rattle.compare.specs.Opening.{heard, openOf, accepted}
+use Rattle.compare.specs.Pages.{countOf, elementAt}
+use Rattle.compare.specs.Parts.{descriptorPart, partOf}
+use Rattle.compare.specs.Walk.{first, nextOf, after, walkFrom}
+use Rattle.compare.specs.declared.Cursor.{Cursor}
+use Rattle.compare.specs.declared.Line.the-variants.{OnlyOlder, OnlyNewer, Changed}
+use Rattle.compare.specs.declared.Line.{Line}
+use Rattle.compare.specs.declared.Opening.{Opening}
+
+-- no second answer fits
+abbrev pub One-opening : Type 0
+One-opening = (s t : List ℕ) (q : Request) (a b : Opening) → heard a ≡ openOf s t q → heard b ≡ openOf s t q → a ≡ b
+
+-- ## The differences
+
+-- a descriptor that stands for an identifier has it; of one that is absent there is none
+abbrev pub Stands-for : Type 0
+Stands-for =
+    (s : List ℕ) (id k : ℕ)
+    → (standing s id ≡ stands k → (k < countOf s) × (elementAt s k .id .0 ≡ id))
+    × (standing s id ≡ absent → k < countOf s → elementAt s k .id .0 ≡ id → ⊥)
+
+-- the identifier that a line speaks of
+abbrev pub idOf : List ℕ → List ℕ → Line → ℕ
+idOf s t (OnlyOlder k) = elementAt s k .id .0
+idOf s t (OnlyNewer k) = elementAt t k .id .0
+idOf s t (Changed c) = elementAt t (c .newer) .id .0
+
+-- the first is above `low`, and each above the one before
+abbrev pub Ascending : ℕ → List ℕ → Type 0
+Ascending low [] = Unit {0}
+Ascending low (x ∷ xs) = (low < x) × Ascending x xs
+
+-- "Each difference appears once", "by ascending identifier"
+abbrev pub Each-once : Type 0
+Each-once = (s t : List ℕ) → Ascending 0 (map (idOf s t) (differencesOf s t))
+
+-- ## The walk
+
+-- it is what comes next, and the walk from there: it ends where nothing is next, and not because its lines are counted
+abbrev pub Walk-ends : Type 0
+Walk-ends = (s t : List ℕ) (c : Cursor) → walkFrom s t c ≡ after (nextOf s t c) (walkFrom s t)
+
+-- over two accepted pages it gives exactly the differences
+abbrev pub Walk-gives : Type 0
+Walk-gives = (s t : List ℕ) (q : Request) → accepted s q ≡ true → accepted t q ≡ true → walkFrom s t first ≡ differencesOf s t
+
+-- ## The parts
+
+-- of an accepted page, each descriptor is handed out whole, and reads as what stands there
+abbrev pub Hands-out : Type 0
+Hands-out =
+    (s : List ℕ) (q : Request) (k : ℕ) → accepted s q ≡ true → k < countOf s
+    → (length (descriptorPart s k) ≡ 32) × (descriptorIn Little (descriptorPart s k) ≡ elementAt s k)
+
+abbrev pub Each : {A : Type 0} → (A → Type 0) → List A → Type 0
+Each P [] = Unit {0}
+Each P (x ∷ xs) = P x × Each P xs
+
+-- "For each line the tool hands out the descriptor itself": 32 bytes with the line's identifier
+abbrev pub Hands-out-each : Type 0
+Hands-out-each =
+    (s t : List ℕ) (q : Request) → accepted s q ≡ true → accepted t q ≡ true
+    → Each (λ l. (length (partOf s t l) ≡ 32) × (descriptorIn Little (partOf s t l) .id .0 ≡ idOf s t l)) (differencesOf s t)

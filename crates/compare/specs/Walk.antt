@@ -1,0 +1,77 @@
+-- The walk from a cursor: both pages side by side, past what agrees to the next difference. The older page is s, the newer t.
+use Prim.Native.Nat.{ℕ, zero, suc, _+_, _-_, min}
+use mathlib.Core.Bool.{Bool, cond, _&&_}
+use mathlib.Core.List.{List, [], _∷_}
+use lib.Dec.{eqb, leb, ltb}
+use Rattle.compare.specs.Differences.{alike}
+use Rattle.compare.specs.Pages.{countOf, elementAt, boundOf, endOf}
+use Rattle.compare.specs.declared.Cursor.{Cursor}
+use Rattle.compare.specs.declared.Line.the-variants.{OnlyOlder, OnlyNewer, Changed}
+use Rattle.compare.specs.declared.Line.{Line}
+use Rattle.compare.specs.declared.Step.the-variants.{Done, Found}
+use Rattle.compare.specs.declared.Step.{Step}
+
+abbrev pub cursor : ℕ → ℕ → Cursor
+cursor i j = record { older = i; newer = j }
+
+abbrev pub first : Cursor
+first = cursor 0 0
+
+-- ## At a cursor
+
+-- the identifier at a place; where the page has none, one above the end
+unfoldable pub idWithin : List ℕ → ℕ → ℕ → ℕ
+idWithin s k end = cond (ltb k (countOf s)) (elementAt s k .id .0) (end + 1)
+
+-- one element stands there in both pages, not above the end, and unchanged
+unfoldable pub agreeAt : List ℕ → List ℕ → ℕ → Cursor → Bool
+agreeAt s t end c =
+    let a = idWithin s (c .older) end in
+    eqb a (idWithin t (c .newer) end) && (leb a end && alike (elementAt s (c .older)) (elementAt t (c .newer)))
+
+abbrev pub found : Line → ℕ → ℕ → Step
+found l i j = Found (record { line = l; next = cursor i j })
+
+-- what stands there, where they do not agree
+unfoldable pub stepAt : List ℕ → List ℕ → ℕ → Cursor → Step
+stepAt s t end c =
+    let i = c .older in
+    let j = c .newer in
+    let a = idWithin s i end in
+    let b = idWithin t j end in
+    cond (ltb end (min a b)) Done
+    (cond (ltb a b) (found (OnlyOlder i) (i + 1) j)
+    (cond (ltb b a) (found (OnlyNewer j) i (j + 1))
+    (found (Changed c) (i + 1) (j + 1))))
+
+-- ## From a cursor on
+
+-- past what agrees, at most n elements
+unfoldable pub past : List ℕ → List ℕ → ℕ → ℕ → Cursor → Cursor
+past s t end zero c = c
+past s t end (suc n) c = cond (agreeAt s t end c) (past s t end n (cursor (c .older + 1) (c .newer + 1))) c
+
+-- with the last identifier that is compared
+unfoldable pub nextTo : List ℕ → List ℕ → ℕ → Cursor → Step
+nextTo s t end c = stepAt s t end (past s t end (countOf s - c .older) c)
+
+unfoldable pub nextOf : List ℕ → List ℕ → Cursor → Step
+nextOf s t c = nextTo s t (endOf (boundOf s t)) c
+
+-- ## The whole walk
+
+-- how many descriptors lie ahead
+abbrev pub ahead : List ℕ → List ℕ → Cursor → ℕ
+ahead s t c = (countOf s - c .older) + (countOf t - c .newer)
+
+abbrev pub after : Step → (Cursor → List Line) → List Line
+after Done rest = []
+after (Found d) rest = d .line ∷ rest (d .next)
+
+-- at most n lines; as many as lie ahead are enough (Promises, `Walk-ends`)
+unfoldable pub walk : List ℕ → List ℕ → ℕ → Cursor → List Line
+walk s t zero c = []
+walk s t (suc n) c = after (nextOf s t c) (walk s t n)
+
+unfoldable pub walkFrom : List ℕ → List ℕ → Cursor → List Line
+walkFrom s t c = walk s t (ahead s t c) c

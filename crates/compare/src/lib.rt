@@ -1,0 +1,274 @@
+// Two status pages compared: by ascending identifier what is only in the older, only in the newer, or in both and changed.
+ghost use mathlib.Core.Path.{_≡_};
+ghost use mathlib.Core.Bool.{true};
+ghost use Prim.Native.Nat.{_+_, _^_, _≤_, _<_, min};
+ghost use Rattle.compare.specs.Differences.{alike};
+ghost use Rattle.compare.specs.Opening.{heard, openOf, accepted};
+ghost use Rattle.compare.specs.Pages.{elementAt, reachOf, smallest, boundOf, endOf};
+ghost use Rattle.compare.specs.Parts.{descriptorPart, partOf};
+ghost use Rattle.compare.specs.Walk.{first, idWithin, agreeAt, stepAt, nextOf};
+ghost use Rattle.compare.specs.Walk as paper;
+ghost use Rattle.reader.specs.Checks.{lastBefore};
+ghost use Rattle.words.specs.declared.Order.the-variants.{Little};
+use layout::Descriptor;
+use layout::Header;
+use layout::Request;
+use paper::ElementId;
+use reader::Reading;
+use words::Order;
+
+// Which of the two pages is meant.
+pub enum Turn {
+    Older,
+    Newer,
+}
+
+// How far two pages are compared: whole, or up to an identifier, itself included.
+pub enum Bound {
+    Whole,
+    UpTo(ElementId),
+}
+
+// How far they are compared, or the first page that the reader refuses.
+pub enum Opening {
+    Accepted(Bound),
+    Refused(Turn),
+}
+
+// A place in each page: how many of its descriptors lie before.
+pub struct Cursor {
+    pub older: u32,
+    pub newer: u32,
+}
+
+// A difference: the number of the descriptor in the page that has it, or in both.
+pub enum Line {
+    OnlyOlder(u32),
+    OnlyNewer(u32),
+    Changed(Cursor),
+}
+
+// What the walk hits: a difference, and where it goes on.
+pub struct Hit {
+    pub line: Line,
+    pub next: Cursor,
+}
+
+// What is next from a cursor on.
+pub enum Step {
+    Done,
+    Found(Hit),
+}
+
+// ---- Both pages
+
+fn is_accepted(page: &[u8], request: Request) -> bool
+    ensures { λ r. ⌜ r ≡ accepted (now (page .entry)) request ⌝ }
+{
+    let reading = reader::read(page, request);
+    match reading {
+        Reading::Accepted(_) => true,
+        Reading::Refused(_) => false,
+    }
+}
+
+fn element_at(page: &[u8], k: u32) -> Descriptor
+    ensures { λ r. ⌜ r ≡ elementAt (now (page .entry)) k ⌝ }
+{
+    let base = 32 + 32 * (k as usize);
+    Descriptor::read(words::tail(page, base), Order::Little)
+}
+
+// The identifier before descriptor k, 0 before the first.
+fn id_before(page: &[u8], k: u32) -> ElementId
+    ensures { λ r. ⌜ r .0 ≡ lastBefore Little (now (page .entry)) k ⌝ }
+{
+    if k == 0 {
+        return ElementId(0);
+    }
+    let last = element_at(page, k - 1);
+    last.id
+}
+
+// How far one page reaches: to its last identifier if it was cut short.
+fn reach(page: &[u8]) -> Bound
+    ensures { λ r. ⌜ r ≡ reachOf (now (page .entry)) ⌝ }
+{
+    let h = Header::read(page, Order::Little);
+    if h.number <= h.returned {
+        return Bound::Whole;
+    }
+    Bound::UpTo(id_before(page, h.returned))
+}
+
+fn smallest_of(a: Bound, b: Bound) -> Bound
+    ensures { λ r. ⌜ r ≡ smallest a b ⌝ }
+{
+    let Bound::UpTo(x) = a else {
+        return b;
+    };
+    let Bound::UpTo(y) = b else {
+        return a;
+    };
+    if x.0 < y.0 { a } else { b }
+}
+
+fn bound_of(older: &[u8], newer: &[u8]) -> Bound
+    ensures { λ r. ⌜ r ≡ boundOf (now (older .entry)) (now (newer .entry)) ⌝ }
+{
+    smallest_of(reach(older), reach(newer))
+}
+
+// Whether two pages can be compared as answers to one request, and how far.
+pub fn open(older: &[u8], newer: &[u8], request: Request) -> Opening
+    ensures { λ r. ⌜ heard r ≡ openOf (now (older .entry)) (now (newer .entry)) request ⌝ }
+{
+    if !is_accepted(older, request) {
+        return Opening::Refused(Turn::Older);
+    }
+    if !is_accepted(newer, request) {
+        return Opening::Refused(Turn::Newer);
+    }
+    Opening::Accepted(bound_of(older, newer))
+}
+
+// ---- The walk
+
+impl Cursor {
+    pub fn first() -> Cursor
+        ensures { λ r. ⌜ r ≡ first ⌝ }
+    {
+        Cursor { older: 0, newer: 0 }
+    }
+}
+
+fn end_of(b: Bound) -> u32
+    ensures { λ r. ⌜ r ≡ endOf b ⌝ }
+{
+    match b {
+        Bound::Whole => 0xFFFF_FFFF,
+        Bound::UpTo(id) => id.0,
+    }
+}
+
+// The identifier at a place; where the page has none, one above the end. After an identifier up to the end there is a place.
+fn id_within(page: &[u8], k: u32, end: u32) -> u64
+    ensures { λ r. ⌜ (r ≡ idWithin (now (page .entry)) k end) × (r ≤ end → k + 1 < 2 ^ 32) ⌝ }
+{
+    let h = Header::read(page, Order::Little);
+    if h.returned <= k {
+        return end as u64 + 1;
+    }
+    let d = element_at(page, k);
+    let id = d.id;
+    id.0 as u64
+}
+
+fn is_alike(d: Descriptor, e: Descriptor) -> bool
+    ensures { λ r. ⌜ r ≡ alike d e ⌝ }
+{
+    if d.kind != e.kind {
+        return false;
+    }
+    if d.health != e.health {
+        return false;
+    }
+    if d.restorable != e.restorable {
+        return false;
+    }
+    d.capacity == e.capacity
+}
+
+// Whether one element stands at the cursor in both pages, not above the end, and unchanged. After it there is a place.
+fn do_agree(older: &[u8], newer: &[u8], end: u32, at: Cursor) -> bool
+    ensures { λ r. ⌜ (r ≡ agreeAt (now (older .entry)) (now (newer .entry)) end at) × (r ≡ true → (at .older + 1 < 2 ^ 32) × (at .newer + 1 < 2 ^ 32)) ⌝ }
+{
+    let a = id_within(older, at.older, end);
+    let b = id_within(newer, at.newer, end);
+    if a != b {
+        return false;
+    }
+    if (end as u64) < a {
+        return false;
+    }
+    is_alike(element_at(older, at.older), element_at(newer, at.newer))
+}
+
+fn smaller(a: u64, b: u64) -> u64
+    ensures { λ r. ⌜ r ≡ min a b ⌝ }
+{
+    if a < b { a } else { b }
+}
+
+fn found(line: Line, older: u32, newer: u32) -> Step
+    ensures { λ r. ⌜ r ≡ paper.found line older newer ⌝ }
+{
+    Step::Found(Hit {
+        line,
+        next: Cursor { older, newer },
+    })
+}
+
+// What stands at the cursor, where the pages do not agree.
+fn step_at(older: &[u8], newer: &[u8], end: u32, at: Cursor) -> Step
+    ensures { λ r. ⌜ r ≡ stepAt (now (older .entry)) (now (newer .entry)) end at ⌝ }
+{
+    let i = at.older;
+    let j = at.newer;
+    let a = id_within(older, i, end);
+    let b = id_within(newer, j, end);
+    if (end as u64) < smaller(a, b) {
+        return Step::Done;
+    }
+    if a < b {
+        return found(Line::OnlyOlder(i), i + 1, j);
+    }
+    if b < a {
+        return found(Line::OnlyNewer(j), i, j + 1);
+    }
+    found(Line::Changed(at), i + 1, j + 1)
+}
+
+// The next difference from a cursor on; what lies before the cursor counts as not there.
+pub fn next(older: &[u8], newer: &[u8], from: Cursor) -> Step
+    ensures { λ r. ⌜ r ≡ nextOf (now (older .entry)) (now (newer .entry)) from ⌝ }
+{
+    let end = end_of(bound_of(older, newer));
+    let mut at = from;
+    while do_agree(older, newer, end, at) {
+        at = Cursor {
+            older: at.older + 1,
+            newer: at.newer + 1,
+        };
+    }
+    step_at(older, newer, end, at)
+}
+
+// ---- The descriptor itself
+
+// The 32 bytes of descriptor k; none where the page has no such descriptor.
+fn descriptor_part(page: &[u8], k: u32) -> &[u8]
+    ensures { λ r. ⌜ now r ≡ descriptorPart (now (page .entry)) k ⌝ }
+{
+    let h = Header::read(page, Order::Little);
+    if h.returned <= k {
+        return &page[..0];
+    }
+    let from = 32 + 32 * (k as usize);
+    let to = from + 32;
+    if page.len() < to {
+        return &page[..0];
+    }
+    &page[from..to]
+}
+
+// The descriptor that a line speaks of, as part of the page that it came from, the newer if it is in both.
+pub fn part<'a>(older: &'a [u8], newer: &'a [u8], line: Line) -> &'a [u8]
+    ensures { λ r. ⌜ now r ≡ partOf (now (older .entry)) (now (newer .entry)) line ⌝ }
+{
+    match line {
+        Line::OnlyOlder(k) => descriptor_part(older, k),
+        Line::OnlyNewer(k) => descriptor_part(newer, k),
+        Line::Changed(at) => descriptor_part(newer, at.newer),
+    }
+}

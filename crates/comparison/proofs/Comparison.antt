@@ -1,0 +1,226 @@
+-- Laws of a comparison's text: one for each way out of a function, and one for each turn of a loop.
+use Prim.Native.Nat.{ℕ, _+_, _^_, _≤_, _<_}
+use mathlib.Core.Bool.{Bool, true, false}
+use mathlib.Core.List.{List, [], _++_, append-nil}
+use mathlib.Core.Path.{_≡_, refl, sym, ap, _∙_}
+use native.Mathlib.Omega.{arith}
+use lib.ListN.{length, take, drop, length-append, length-drop, take-append-drop}
+use lib.Seq.{take-add, drop-drop, take-at, drop-at, length-take-le}
+use borrow.Author.Tests.{lt-ltb, le-ltb}
+use Rattle.compare.proofs.Walking.{walk-done, walk-found, found-leaves}
+use Rattle.compare.specs.Opening.{turn, heard, openOf}
+use Rattle.compare.specs.Parts.{partOf}
+use Rattle.compare.specs.Walk.{first, nextOf, ahead}
+use Rattle.compare.specs.declared.Bound.the-variants.{Whole, UpTo}
+use Rattle.compare.specs.declared.Bound.{Bound}
+use Rattle.compare.specs.declared.Cursor.{Cursor}
+use Rattle.compare.specs.declared.Hit.{Hit}
+use Rattle.compare.specs.declared.Line.the-variants.{OnlyOlder, OnlyNewer, Changed}
+use Rattle.compare.specs.declared.Line.{Line}
+use Rattle.compare.specs.declared.Opening.the-variants.{Accepted, Refused}
+use Rattle.compare.specs.declared.Opening.{Opening}
+use Rattle.compare.specs.declared.Step.the-variants.{Done, Found}
+use Rattle.compare.specs.declared.Step.{Step}
+use Rattle.compare.specs.declared.Turn.the-variants.{Older, Newer}
+use Rattle.compare.specs.declared.Turn.{Turn}
+use Rattle.io.specs.Counts.{Counts}
+use Rattle.layout.specs.Bytes.{descriptorIn}
+use Rattle.layout.specs.declared.Descriptor.{Descriptor}
+use Rattle.listing.proofs.Printing.{printed-small, printed-done, printed-counts}
+use Rattle.listing.specs.Listing.{requestOf, output, printed}
+use Rattle.paper.specs.Told.{tells, said}
+use Rattle.paper.specs.declared.Answer.the-variants as answer
+use Rattle.paper.specs.declared.ElementId.{ElementId}
+use Rattle.text.proofs.Written.{written-append, len-written, held-written}
+use Rattle.text.specs.Text.{ascii, nothing, written, held}
+use Rattle.text.specs.declared.Text.{Text}
+use Rattle.words.proofs.Lists.{stored-more, stored-two}
+use Rattle.words.specs.Lists.{stored}
+use Rattle.words.specs.declared.Order.the-variants.{Little}
+use Rattle.comparison.specs.Comparison.{handed, olderOf, signed, changed, bodyOf, lineOf, linesOf, boundLine, reachLine, refusedLine, lastLine, judged, comparisonOf, isAccepted, stepOf, linesFrom}
+use Rattle.comparison.proofs.Accepted.{by-walk}
+use Rattle.comparison.proofs.Lengths.{length-line, length-lines, length-last}
+
+-- ## A difference's line
+
+pub handed-read : (s t : List ℕ) (l : Line) (u : List ℕ) → u ≡ partOf s t l → (d : Descriptor) → d ≡ descriptorIn Little u → d ≡ handed s t l
+unfolding handed
+handed-read s t l u is-u d is-d = is-d ∙ rw is-u
+
+older-is : (s t : List ℕ) (c : Cursor) → handed s t (OnlyOlder (c .older)) ≡ olderOf s c
+unfolding handed olderOf
+older-is s t c = refl
+
+module _ (s t : List ℕ) (l : Line) (d : Descriptor) (is-d : d ≡ handed s t l) (r : Text) where
+  pub said-older : (k : ℕ) → l ≡ OnlyOlder k → r ≡ written nothing (signed (ascii "- ") d) → r ≡ written nothing (bodyOf s t l)
+  said-older k e so = so ∙ rw (is-d, e)
+
+  pub said-newer : (k : ℕ) → l ≡ OnlyNewer k → r ≡ written nothing (signed (ascii "+ ") d) → r ≡ written nothing (bodyOf s t l)
+  said-newer k e so = so ∙ rw (is-d, e)
+
+  pub said-changed : (c : Cursor) → l ≡ Changed c → (old : Descriptor) → old ≡ handed s t (OnlyOlder (c .older))
+      → r ≡ written nothing (changed d old) → r ≡ written nothing (bodyOf s t l)
+  said-changed c e old is-old so = so ∙ rw (is-d, is-old ∙ older-is s t c, e)
+
+pub line-ended : (s t : List ℕ) (l : Line) (u : Text) → u ≡ written nothing (bodyOf s t l) → (r : Text) → r ≡ written u (ascii "\n") → r ≡ written nothing (lineOf s t l)
+unfolding lineOf
+line-ended s t l u is-u r is-r = is-r ∙ rw is-u (sym (written-append nothing (bodyOf s t l) (ascii "\n")))
+
+-- ## The last line
+
+module _ (w : Turn) (t n : Text) (is-n : n ≡ nothing) where
+  pub refused-older : w ≡ Older → t ≡ written n (ascii "refused 9 older\n") → t ≡ written nothing (refusedLine w)
+  refused-older e so = so ∙ rw (e, is-n)
+
+  pub refused-newer : w ≡ Newer → t ≡ written n (ascii "refused 9 newer\n") → t ≡ written nothing (refusedLine w)
+  refused-newer e so = so ∙ rw (e, is-n)
+
+module _ (b : Bound) (t : Text) where
+  pub reach-whole : b ≡ Whole → t ≡ nothing → t ≡ written nothing (reachLine b)
+  unfolding written
+  reach-whole e so = so ∙ rw e
+
+  pub reach-cut : (id : ElementId) → b ≡ UpTo id → t ≡ written nothing (boundLine (id .0)) → t ≡ written nothing (reachLine b)
+  reach-cut id e so = so ∙ rw e
+
+module _ (opening : Opening) (t : Text) where
+  pub last-accepted : (b : Bound) → opening ≡ Accepted b → t ≡ written nothing (reachLine b) → t ≡ written nothing (lastLine (heard opening .state))
+  last-accepted b e so = so ∙ rw e
+
+  pub last-refused : (w : Turn) → opening ≡ Refused w → t ≡ written nothing (refusedLine w) → t ≡ written nothing (lastLine (heard opening .state))
+  last-refused w e so = so ∙ rw e
+
+-- ## Both pages
+
+module _ (s t : List ℕ) where
+  pub older-long : 65536 < length s → tells 9 (turn Older) ≡ judged s t
+  unfolding judged
+  older-long h = sym (rw (lt-ltb _ _ h))
+
+  pub both-read : length s ≤ 65536 → (r : Opening) → heard r ≡ openOf s t (requestOf s) → heard r ≡ judged s t
+  unfolding judged
+  both-read h r e = e ∙ sym (rw (le-ltb _ _ h))
+
+pub step-accepted : (s t : List ℕ) (a : Bool) (c : Cursor) → a ≡ true → (x : Step) → x ≡ nextOf s t c → x ≡ stepOf a s t c
+step-accepted s t a c y x is-x = is-x ∙ rw y
+
+-- ## A turn of a loop
+
+tag : Step → ℕ
+tag Done = 0
+tag (Found d) = 1
+
+not-found : {A : Type 0} (d : Hit) → Done ≡ Found d → A
+unfolding tag
+not-found d e = absurd (let away : _≡_ {A = ℕ} 0 1 = ap tag e in omega arith)
+
+module _ (s t : List ℕ) (c : Cursor) where
+  pub lines-first : (a : Bool) → c ≡ first → linesFrom a s t first ≡ linesFrom a s t c
+  lines-first a e = ap (linesFrom a s t) (sym e)
+
+  pub measure-first : (a : Bool) → c ≡ first → 0 + length (linesFrom a s t c) ≡ length (linesFrom a s t first)
+  measure-first a e = omega (arith, ap length (lines-first a e))
+
+  lines-done : (a : Bool) (x : Step) → x ≡ stepOf a s t c → x ≡ Done → linesFrom a s t c ≡ []
+  unfolding linesFrom
+  lines-done true x is-x e = ap (linesOf s t) (walk-done s t c (sym e ∙ is-x))
+  lines-done false x is-x e = refl
+
+  lines-found : (a : Bool) (x : Step) → x ≡ stepOf a s t c → (d : Hit) → x ≡ Found d → linesFrom a s t c ≡ lineOf s t (d .line) ++ linesFrom a s t (d .next)
+  unfolding linesFrom
+  lines-found true x is-x d e = ap (linesOf s t) (walk-found s t c d (sym e ∙ is-x))
+  lines-found false x is-x d e = not-found d (sym is-x ∙ e)
+
+  pub found-less : (a : Bool) (x : Step) → x ≡ stepOf a s t c → (d : Hit) → x ≡ Found d → ahead s t (d .next) < ahead s t c
+  found-less true x is-x d e = found-leaves s t c d (sym e ∙ is-x)
+  found-less false x is-x d e = not-found d (sym is-x ∙ e)
+
+module _ (s t : List ℕ) (a : Bool) (c : Cursor) (x : Step) (is-x : x ≡ stepOf a s t c) where
+  pub measure-end : (n m : ℕ) → n + length (linesFrom a s t c) ≡ m → x ≡ Done → n ≡ m
+  measure-end n m so e = omega (arith, ap length (lines-done s t c a x is-x e))
+
+  pub put-end : (b out T : List ℕ) (n : ℕ) → out ≡ stored b 0 (take n T) → drop n T ≡ linesFrom a s t c → x ≡ Done → out ≡ stored b 0 T
+  put-end b out T n so rest e =
+      let all : take n T ≡ T = sym (append-nil (take n T)) ∙ ap (λ (l : List ℕ). take n T ++ l) (sym (rest ∙ lines-done s t c a x is-x e)) ∙ take-append-drop n T in
+      so ∙ ap (stored b 0) all
+
+  module _ (d : Hit) (is-d : x ≡ Found d) (line : Text) (is-line : line ≡ written nothing (lineOf s t (d .line))) where
+    len : line .len ≡ length (lineOf s t (d .line))
+    len = ap (λ (u : Text). u .len) is-line ∙ len-written (lineOf s t (d .line)) (omega (arith, length-line s t (d .line)))
+
+    line-held : held line ≡ lineOf s t (d .line)
+    line-held = ap held is-line ∙ held-written (lineOf s t (d .line)) (omega (arith, length-line s t (d .line)))
+
+    more : linesFrom a s t c ≡ lineOf s t (d .line) ++ linesFrom a s t (d .next)
+    more = lines-found s t c a x is-x d is-d
+
+    longer : length (linesFrom a s t c) ≡ line .len + length (linesFrom a s t (d .next))
+    longer = omega (arith, len, ap length more, length-append (lineOf s t (d .line)) (linesFrom a s t (d .next)))
+
+    module _ (n m : ℕ) (so : n + length (linesFrom a s t c) ≡ m) where
+      pub measure-next : n + line .len + length (linesFrom a s t (d .next)) ≡ m
+      measure-next = omega (arith, longer)
+
+      pub measure-room : m < 2 ^ 64 → n + line .len < 2 ^ 64
+      measure-room small = omega (arith, longer)
+
+    module _ (T : List ℕ) (n : ℕ) (rest : drop n T ≡ linesFrom a s t c) (inside : n ≤ length T) where
+      pub put-inside : n + line .len ≤ length T
+      put-inside = omega (arith, longer, ap length rest, length-drop n T)
+
+      pub put-room : (b : List ℕ) → length T ≤ length b → length b < 2 ^ 64 → n + line .len < 2 ^ 64
+      put-room b room small = omega (arith, put-inside)
+
+      pub put-rest : drop (n + line .len) T ≡ linesFrom a s t (d .next)
+      put-rest = sym (drop-drop (line .len) n T) ∙ rw (rest, more) (drop-at (lineOf s t (d .line)) (linesFrom a s t (d .next)) (line .len) (sym len))
+
+      pub put-next : (b out next : List ℕ) → length T ≤ length b → out ≡ stored b 0 (take n T) → next ≡ stored out n (held line) → next ≡ stored b 0 (take (n + line .len) T)
+      put-next b out next room so e =
+          let front : List ℕ = take n T in
+          let begun : length front ≡ n = length-take-le n T inside in
+          let both : take (n + line .len) T ≡ front ++ lineOf s t (d .line) =
+          take-add n (line .len) T ∙ rw (rest, more, take-at (lineOf s t (d .line)) (linesFrom a s t (d .next)) (line .len) (sym len)) in
+          let fits : 0 + length (front ++ lineOf s t (d .line)) ≤ length b = omega (arith, put-inside, len, length-append front (lineOf s t (d .line)), begun) in
+          let at : n ≡ 0 + length front = omega (arith, begun) in
+          e ∙ rw (so, line-held, both) (ap (λ (k : ℕ). stored (stored b 0 front) k (lineOf s t (d .line))) at ∙ stored-more b 0 front (lineOf s t (d .line)) fits)
+
+-- ## The whole text
+
+module _ (s t : List ℕ) (r : Opening) (is-r : heard r ≡ judged s t) (a : Bool) (is-a : a ≡ isAccepted (heard r .state)) where
+  as-judged : linesFrom a s t first ≡ linesFrom (isAccepted (judged s t .state)) s t first
+  as-judged = rw (is-a, is-r)
+
+  pub lines-fit : length (linesFrom a s t first) < 2 ^ 64
+  lines-fit = omega (arith, ap length as-judged, length-lines s t)
+
+  module _ (u : Text) (is-u : u ≡ written nothing (lastLine (heard r .state))) where
+    last-len : u .len ≡ length (lastLine (heard r .state))
+    last-len = ap (λ (x : Text). x .len) is-u ∙ len-written (lastLine (heard r .state)) (omega (arith, length-last (heard r .state)))
+
+    last-held : held u ≡ lastLine (heard r .state)
+    last-held = ap held is-u ∙ held-written (lastLine (heard r .state)) (omega (arith, length-last (heard r .state)))
+
+    module _ (m : ℕ) (is-m : m ≡ length (linesFrom a s t first)) where
+      pub size-fits : m + u .len < 2 ^ 64
+      size-fits = omega (arith, ap length as-judged, length-lines s t, last-len, length-last (heard r .state))
+
+      whole : comparisonOf s t ≡ linesFrom a s t first ++ lastLine (heard r .state)
+      whole = by-walk s t ∙ sym (rw (as-judged, is-r))
+
+      long : m + u .len ≡ length (comparisonOf s t)
+      long = omega (arith, last-len, ap length whole, length-append (linesFrom a s t first) (lastLine (heard r .state)))
+
+      pub compared-small : (out : List ℕ) → length out < m + u .len → said answer.SmallBuffer (output 0 out) ≡ printed (comparisonOf s t) out
+      compared-small out = printed-small (comparisonOf s t) out (m + u .len) long
+
+      module _ (out b₁ b₂ : List ℕ) (room : m + u .len ≤ length out) (is-b₁ : b₁ ≡ stored out 0 (linesFrom a s t first)) (is-b₂ : b₂ ≡ stored b₁ m (held u)) where
+        filled : b₂ ≡ comparisonOf s t ++ drop (length (comparisonOf s t)) out
+        filled =
+            rw whole
+            (stored-two out (linesFrom a s t first) (lastLine (heard r .state)) b₁ b₂ m (omega (arith, long, ap length whole)) is-m is-b₁ (rw last-held at is-b₂))
+
+        pub compared-done : said answer.Done (output (m + u .len) b₂) ≡ printed (comparisonOf s t) out
+        compared-done = printed-done (comparisonOf s t) out (m + u .len) long room b₂ filled
+
+        pub compared-counts : Counts (m + u .len) b₂
+        compared-counts = printed-counts (comparisonOf s t) out (m + u .len) long room b₂ filled

@@ -1,0 +1,6 @@
+-- What is proved of `differences`'s definitions, and of its functions.
+pub mod Accepted
+pub mod Comparison
+pub mod EveryComparison
+pub mod Examples
+pub mod Lengths

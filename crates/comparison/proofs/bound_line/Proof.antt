@@ -1,0 +1,17 @@
+-- `comparison::bound_line`.
+use borrow.Author.Needs.{needs}
+use Rattle.text.proofs.Written.{written-append}
+use Rattle.comparison.proofs.bound_line.Statement.{statement}
+use Rattle.comparison.proofs.bound_line.Tie as tie
+
+pub bound-line-spec : {M : Type 1} → statement M
+bound-line-spec =
+    tie.close
+    (tie.spec
+    (λ c κs. search needs)
+    (λ c. search needs)
+    (λ c κs. search needs)
+    (λ c κs. search needs)
+    (λ c. search needs)
+    (λ c κs. search needs)
+    (λ c. simp (written-append, c .word2 .ensures, c .before .before .hex8 .ensures, c .before .before .before .word .ensures, c .before .before .before .before .before .nothing .ensures)))

@@ -1,0 +1,16 @@
+-- `comparison::changed`.
+use borrow.Author.Needs.{needs}
+use Rattle.text.proofs.Written.{written-append}
+use Rattle.comparison.proofs.changed.Statement.{statement}
+use Rattle.comparison.proofs.changed.Tie as tie
+
+pub changed-spec : {M : Type 1} → statement M
+changed-spec =
+    tie.close
+    (tie.spec
+    (λ c. search needs)
+    (λ c κs. search needs)
+    (λ c. search needs)
+    (λ c κs. search needs)
+    (λ c κs. search needs)
+    (λ c. simp (written-append, c .write-values .ensures, c .before .word .ensures, c .before .before .before .signed .ensures)))

@@ -1,0 +1,14 @@
+-- `comparison::judge`.
+use borrow.Author.Needs.{needs}
+use Rattle.comparison.proofs.Comparison.{older-long, both-read}
+use Rattle.comparison.proofs.judge.Statement.{statement}
+use Rattle.comparison.proofs.judge.Tie as tie
+
+pub judge-spec : {M : Type 1} → statement M
+judge-spec =
+    tie.close
+    (tie.spec
+    (λ c. search (older-long))
+    (λ c. search needs)
+    (λ c κs. search needs)
+    (λ c. search (both-read)))

@@ -1,0 +1,4 @@
+-- The text of a comparison.
+
+pub mod Comparison
+pub mod Promises

@@ -1,0 +1,18 @@
+-- What holds of every text. Each is a statement; proofs/ has the proof under the same name in lower case.
+use Prim.Native.Nat.{ℕ, _≤_}
+use mathlib.Core.List.{List}
+use mathlib.Core.Path.{_≡_}
+use lib.ListN.{length}
+use Rattle.compare.specs.Differences.{differencesOf}
+use Rattle.listing.specs.Listing.{printed}
+use Rattle.comparison.specs.Comparison.{judged, comparisonOf, statusFor, statusOf}
+
+-- No second answer fits a text, and a refusal writes nothing: `listing`'s `One-printing` and `Refusal-writes-nothing`, of any text.
+
+-- room for every text: at most 4,094 lines of 38 bytes, or half as many of 68, and a last one of 24
+abbrev pub Enough : Type 0
+Enough = (s t out : List ℕ) → 160000 ≤ length out → printed (comparisonOf s t) out .number ≡ 0
+
+-- the text tells the exit status
+abbrev pub Tells-status : Type 0
+Tells-status = (s t : List ℕ) → statusOf (comparisonOf s t) ≡ statusFor (judged s t .state) (differencesOf s t)

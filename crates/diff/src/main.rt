@@ -1,0 +1,77 @@
+// Compares the status pages in the files that the arguments name two by two, the older first; of several pairs, each after a line with its
+// names. If a file cannot be read, it says so on standard error and compares nothing.
+ghost use Rattle.io.specs.Counts.{Counts};
+use input::Input;
+use libc::STDOUT_FILENO;
+
+// Of a file a byte more than may be compared, so that a longer one is seen.
+fn read_file(i: usize, buf: &mut [u8]) -> Input
+    ensures { λ r. ⌜ Counts (r .count) (now (buf .exit)) ⌝ }
+{
+    let mut path = io::buffer();
+    let length = os::arg(i, &mut path);
+    let fd = os::open_read(&path[..length]);
+    if fd < 0 {
+        os::fail(&path[..length]);
+        return Input {
+            count: 0,
+            failed: true,
+        };
+    }
+    let page = input::read_whole(fd, buf);
+    if page.failed {
+        os::fail(&path[..length]);
+    }
+    libc::close(fd);
+    page
+}
+
+fn write_name(i: usize, end: &[u8]) {
+    let mut path = io::buffer();
+    let length = os::arg(i, &mut path);
+    io::write_all(STDOUT_FILENO, &path[..length]);
+    io::write_all(STDOUT_FILENO, end);
+}
+
+// With room for every text.
+fn compare<'a>(older: &'a [u8], newer: &'a [u8]) {
+    let mut out = [0u8; 160000];
+    let written = comparison::write(older, newer, &mut out);
+    let size = written.count;
+    if !io::write_all(STDOUT_FILENO, &out[..size]) {
+        os::fail(b"diff: standard output");
+    }
+}
+
+fn compare_files(i: usize, j: usize) {
+    let mut older = [0u8; 65537];
+    let mut newer = [0u8; 65537];
+    let first = read_file(i, &mut older);
+    let second = read_file(j, &mut newer);
+    if first.failed {
+        return;
+    }
+    if second.failed {
+        return;
+    }
+    let n = first.count;
+    let m = second.count;
+    compare(&older[..n], &newer[..m]);
+}
+
+fn write_names(i: usize, j: usize) {
+    write_name(i, b" ");
+    write_name(j, b"\n");
+}
+
+fn main() {
+    let n = os::arg_count();
+    for j in 2..n {
+        if j % 2 == 0 {
+            if 3 < n {
+                write_names(j - 1, j);
+            }
+            compare_files(j - 1, j);
+        }
+    }
+}
