@@ -33,9 +33,9 @@ use Rattle.table.specs.Check.{ascending}
 use Rattle.table.specs.Elements.{live, blank, isRemoved, removedCount}
 use Rattle.table.specs.declared.Element.{Element}
 use Rattle.words.proofs.Lists.{length-keep, length-flat}
-use Rattle.words.specs.Lists.{keep, flat, one}
+use Rattle.words.specs.Lists.{Every, keep, flat, one}
 use Rattle.words.specs.declared.Order.the-variants.{Little}
-use Rattle.agreement.specs.Agreement.{Every, ElementFits, Fits, Agrees}
+use Rattle.agreement.specs.Agreement.{ElementFits, Fits, Agrees}
 use Rattle.agreement.proofs.Lists.{every-take, every-keep, every-at, kept-all, ascending-keep, before, ascending-at, after, flat-at}
 
 -- ## An element

@@ -13,8 +13,7 @@ use Rattle.reader.proofs.LayoutTheorem.{and-both}
 use Rattle.table.specs.Check.{ascending}
 use Rattle.table.specs.Elements.{blank}
 use Rattle.table.specs.declared.Element.{Element}
-use Rattle.words.specs.Lists.{keep, flat}
-use Rattle.agreement.specs.Agreement.{Every}
+use Rattle.words.specs.Lists.{Every, keep, flat}
 
 module _ {A : Type 0} (P : A → Type 0) where
   pub every-take : (n : ℕ) (l : List A) → Every P l → Every P (take n l)

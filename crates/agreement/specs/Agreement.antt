@@ -14,10 +14,7 @@ use Rattle.status.specs.Page.{descriptorOf, listOf, busyOf, headerOf, pageOf}
 use Rattle.table.specs.Check.{ascending}
 use Rattle.table.specs.Elements.{live, blank}
 use Rattle.table.specs.declared.Element.{Element}
-
-abbrev pub Every : {A : Type 0} → (A → Type 0) → List A → Type 0
-Every P [] = Unit {0}
-Every P (x ∷ xs) = P x × Every P xs
+use Rattle.words.specs.Lists.{Every}
 
 -- numbers that fit their types, as every record of the code has them
 pub record ElementFits (e : Element) : Type 0 where

@@ -16,13 +16,14 @@ use Rattle.layout.specs.declared.Request.{Request}
 use Rattle.paper.specs.Told.{Told}
 use Rattle.reader.specs.Checks.{baseOf}
 use Rattle.words.specs.Bytes.{number, front, numberAt}
+use Rattle.words.specs.Lists.{Every}
 use Rattle.words.specs.declared.Order.the-variants.{Little}
 use Rattle.words.specs.declared.Order.{Order}
 use Rattle.compare.specs.Differences.{alike, Standing, absent, stands, standingIn, standing, difference, differenceAt, differencesIn, differencesOf}
 use Rattle.compare.specs.Opening.{accepted, Values, bound, turn, heard}
 use Rattle.compare.specs.Pages.{countOf, elementAt, boundOf, endOf}
 use Rattle.compare.specs.Parts.{descriptorPart, partOf}
-use Rattle.compare.specs.Promises.{One-opening, Stands-for, idOf, Ascending, Each-once, Hands-out, Each, Hands-out-each}
+use Rattle.compare.specs.Promises.{One-opening, Stands-for, idOf, Ascending, Each-once, Hands-out, Hands-out-each}
 use Rattle.compare.specs.declared.Line.the-variants.{OnlyOlder, OnlyNewer, Changed}
 use Rattle.compare.specs.declared.Line.{Line}
 use Rattle.compare.specs.declared.Opening.the-variants.{Accepted, Refused}
@@ -160,29 +161,29 @@ module _ (s t : List ℕ) (q : Request) (of-s : accepted s q ≡ true) (of-t : a
   of-newer : (id j : ℕ) → standing t id ≡ stands j → Handed (OnlyNewer j)
   of-newer id j e = let (long, same) = hands-out t q j of-t (stands-for t id j .0 e .0) in (long, ap (λ (d : Descriptor). d .id .0) same)
 
-  each-both : (ls ms : List Line) → Each Handed ls → Each Handed ms → Each Handed (ls ++ ms)
-  each-both [] ms p q = q
-  each-both (l ∷ ls) ms (h, p) q = (h, each-both ls ms p q)
+  every-both : (ls ms : List Line) → Every Handed ls → Every Handed ms → Every Handed (ls ++ ms)
+  every-both [] ms p q = q
+  every-both (l ∷ ls) ms (h, p) q = (h, every-both ls ms p q)
 
-  handed-at : (id : ℕ) → Each Handed (differenceAt s t id)
+  handed-at : (id : ℕ) → Every Handed (differenceAt s t id)
   unfolding differenceAt
   handed-at id = by-standings (standing s id) (standing t id) (of-older id) (of-newer id)
     where
-      by-alike : (b : Bool) (l : Line) → Handed l → Each Handed (cond b [] (l ∷ []))
+      by-alike : (b : Bool) (l : Line) → Handed l → Every Handed (cond b [] (l ∷ []))
       by-alike true l h = tt
       by-alike false l h = (h, tt)
 
       by-standings : (x y : Standing) → ((i : ℕ) → x ≡ stands i → Handed (OnlyOlder i)) → ((j : ℕ) → y ≡ stands j → Handed (OnlyNewer j))
-          → Each Handed (difference s t x y)
+          → Every Handed (difference s t x y)
       by-standings absent absent p q = tt
       by-standings (stands i) absent p q = (p i refl, tt)
       by-standings absent (stands j) p q = (q j refl, tt)
       by-standings (stands i) (stands j) p q = by-alike (alike (elementAt s i) (elementAt t j)) (Changed (record { older = i; newer = j })) (q j refl)
 
-  handed-in : (n id : ℕ) → Each Handed (differencesIn s t id n)
+  handed-in : (n id : ℕ) → Every Handed (differencesIn s t id n)
   unfolding differencesIn
   handed-in zero id = tt
-  handed-in (suc n) id = each-both (differenceAt s t id) (differencesIn s t (suc id) n) (handed-at id) (handed-in n (suc id))
+  handed-in (suc n) id = every-both (differenceAt s t id) (differencesIn s t (suc id) n) (handed-at id) (handed-in n (suc id))
 
 pub hands-out-each : Hands-out-each
 unfolding differencesOf

@@ -1,6 +1,7 @@
--- The definitions at work on small pages: what the walk gives, and what the differences are where a page was cut.
+-- The definitions at work on small pages, shorter than any that the reader accepts: what the walk gives, and what the differences are where a
+-- page was cut.
 use Prim.Native.Nat.{ℕ}
-use mathlib.Core.Bool.{false}
+use mathlib.Core.Bool.{Bool, true, false}
 use mathlib.Core.List.{List, [], _∷_, _++_}
 use mathlib.Core.Path.{_≡_, refl}
 use Rattle.layout.specs.Bytes.{headerBytes, descriptorBytes}
@@ -44,6 +45,22 @@ up-to-3 = refl
 walked-to-3 : walkFrom cut newer first ≡ OnlyOlder 0 ∷ Changed (cursor 1 0) ∷ []
 unfolding page element cut newer countOf elementAt reachOf boundOf idWithin agreeAt stepAt past nextTo nextOf walk walkFrom
 walked-to-3 = refl
+
+-- both cut, after 3 and after 1: only 1 is compared
+shorter : List ℕ
+shorter = page 2 1 (element 1 0x21 ∷ [])
+
+up-to-1 : differencesOf cut shorter ≡ Changed (cursor 0 0) ∷ []
+unfolding page element cut shorter countOf elementAt reachOf boundOf standing differenceAt differencesIn differencesOf
+up-to-1 = refl
+
+-- the highest identifier, with the flag alone changed
+flagged : Bool → List ℕ
+flagged b = page 1 1 (record { id = record { 0 = 0xFFFF_FFFF }; restorable = b; kind = 1; health = 0xFF; capacity = 500 } ∷ [])
+
+flag-alone : walkFrom (flagged false) (flagged true) first ≡ Changed (cursor 0 0) ∷ []
+unfolding page flagged countOf elementAt reachOf boundOf idWithin agreeAt stepAt past nextTo nextOf walk walkFrom
+flag-alone = refl
 
 -- the newer's part of a changed element, and none of a wild line
 handed : partOf cut newer (Changed (cursor 1 0)) ≡ descriptorBytes Little (element 3 0x10)

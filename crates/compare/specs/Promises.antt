@@ -6,6 +6,7 @@ use mathlib.Core.Path.{_≡_}
 use lib.ListN.{length}
 use Rattle.layout.specs.Bytes.{descriptorIn}
 use Rattle.layout.specs.declared.Request.{Request}
+use Rattle.words.specs.Lists.{Every}
 use Rattle.words.specs.declared.Order.the-variants.{Little}
 use Rattle.compare.specs.Differences.{absent, stands, standing, differencesOf}
 use Rattle.compare.specs.Opening.{heard, openOf, accepted}
@@ -63,12 +64,8 @@ Hands-out =
     (s : List ℕ) (q : Request) (k : ℕ) → accepted s q ≡ true → k < countOf s
     → (length (descriptorPart s k) ≡ 32) × (descriptorIn Little (descriptorPart s k) ≡ elementAt s k)
 
-abbrev pub Each : {A : Type 0} → (A → Type 0) → List A → Type 0
-Each P [] = Unit {0}
-Each P (x ∷ xs) = P x × Each P xs
-
 -- "For each line the tool hands out the descriptor itself": 32 bytes with the line's identifier
 abbrev pub Hands-out-each : Type 0
 Hands-out-each =
     (s t : List ℕ) (q : Request) → accepted s q ≡ true → accepted t q ≡ true
-    → Each (λ l. (length (partOf s t l) ≡ 32) × (descriptorIn Little (partOf s t l) .id .0 ≡ idOf s t l)) (differencesOf s t)
+    → Every (λ l. (length (partOf s t l) ≡ 32) × (descriptorIn Little (partOf s t l) .id .0 ≡ idOf s t l)) (differencesOf s t)

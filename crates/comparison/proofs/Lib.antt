@@ -1,4 +1,4 @@
--- What is proved of `differences`'s definitions, and of its functions.
+-- What is proved of `comparison`'s definitions, and of its functions.
 pub mod Accepted
 pub mod Comparison
 pub mod EveryComparison

@@ -15,6 +15,11 @@ abbrev pub all : {A : Type 0} → (A → Bool) → List A → Bool
 all f [] = true
 all f (x ∷ xs) = f x && all f xs
 
+-- a statement that holds of every element
+abbrev pub Every : {A : Type 0} → (A → Type 0) → List A → Type 0
+Every P [] = Unit {0}
+Every P (x ∷ xs) = P x × Every P xs
+
 -- whether a number is one of some
 abbrev pub oneOf : ℕ → List ℕ → Bool
 oneOf n [] = false
