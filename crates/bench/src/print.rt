@@ -1,4 +1,4 @@
-// What is written on standard output, line by line.
+// What is written on standard output, line by line. No contract can say what was written, so these functions promise nothing.
 ghost use Prim.Native.Nat.{_*_, _≤_};
 ghost use lib.ListN.{length};
 use super::head;

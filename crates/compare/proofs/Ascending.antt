@@ -1,12 +1,14 @@
--- The identifiers of a page that was accepted: none is 0, and they ascend.
-use Prim.Native.Nat.{ℕ, zero, suc, _≤_, _<_}
+-- The identifiers of a page that was accepted: they fit in it, none is 0, and they ascend.
+use Prim.Native.Nat.{ℕ, zero, suc, _-_, _*_, _≤_, _<_}
 use mathlib.Core.Bool.{Bool, true, false}
 use mathlib.Core.List.{List, [], _∷_, _++_}
 use mathlib.Core.Path.{_≡_, refl, sym, subst}
+use native.Mathlib.Nat.{min-le-right}
 use native.Mathlib.Omega.{arith}
 use lib.Dec.{eqb}
 use borrow.Author.Tests.{eqb-true, eqb-false}
-use Rattle.layout.specs.Bytes.{headerIn}
+use Rattle.layout.specs.Bytes.{headerIn, returnedOf}
+use Rattle.layout.specs.Requests.{pagesOf}
 use Rattle.layout.specs.declared.Request.{Request}
 use Rattle.reader.proofs.LayoutTheorem.{takes-exactly}
 use Rattle.reader.specs.Layout.{Rule, Each, below, rulesAt, pageRules}
@@ -46,6 +48,13 @@ module _ (s : List ℕ) (q : Request) (is-accepted : accepted s q ≡ true) wher
   pub rules : Each (pageRules Little s q)
   unfolding accepted
   rules = takes-exactly s q .0 (eqb-true (readOf s q .number) 0 is-accepted)
+
+  -- a page of p times 512 bytes has room for 16p - 1 descriptors
+  pub count-room : countOf s ≤ 16 * pagesOf q - 1
+  unfolding countOf
+  count-room =
+      let cut : headerIn Little s .returned ≡ returnedOf (headerIn Little s .number) (pagesOf q) = rules .1 .1 .0 in
+      omega (arith, cut, min-le-right (headerIn Little s .number) (16 * pagesOf q - 1))
 
   rules-at : (k : ℕ) → k < countOf s → Each (rulesAt Little s q k)
   unfolding countOf

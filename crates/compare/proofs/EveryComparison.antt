@@ -1,15 +1,14 @@
 -- What holds of every comparison (specs/Promises), but for the walk.
-use Prim.Native.Nat.{ℕ, zero, suc, _+_, _-_, _*_, _≤_, _<_}
+use Prim.Native.Nat.{ℕ, zero, suc, _+_, _*_, _≤_, _<_}
 use mathlib.Core.Bool.{Bool, true, false, cond}
 use mathlib.Core.List.{List, [], _∷_, _++_, map}
 use mathlib.Core.Path.{_≡_, refl, sym, ap, subst, _∙_}
-use native.Mathlib.Nat.{min-le-right}
 use native.Mathlib.Omega.{arith}
 use lib.Dec.{eqb}
 use lib.ListN.{length, take, drop, getD, length-drop}
 use lib.Seq.{length-take-le, getD-take, getD-drop, drop-drop}
 use borrow.Author.Tests.{eqb-true, eqb-false, lt-ltb, le-leb}
-use Rattle.layout.specs.Bytes.{headerIn, descriptorIn, returnedOf}
+use Rattle.layout.specs.Bytes.{descriptorIn}
 use Rattle.layout.specs.Requests.{pagesOf}
 use Rattle.layout.specs.declared.Descriptor.{Descriptor}
 use Rattle.layout.specs.declared.Request.{Request}
@@ -28,7 +27,7 @@ use Rattle.compare.specs.declared.Line.the-variants.{OnlyOlder, OnlyNewe
 use Rattle.compare.specs.declared.Line.{Line}
 use Rattle.compare.specs.declared.Opening.the-variants.{Accepted, Refused}
 use Rattle.compare.specs.declared.Opening.{Opening}
-use Rattle.compare.proofs.Ascending.{idAt, rules}
+use Rattle.compare.proofs.Ascending.{idAt, rules, count-room}
 
 -- ## What was heard gives the answer back
 
@@ -140,12 +139,11 @@ descriptor-part o l =
     )
 
 pub hands-out : Hands-out
-unfolding descriptorPart elementAt countOf
+unfolding descriptorPart elementAt
 hands-out s q k is-accepted l =
     let long : length s ≡ 512 * pagesOf q = rules s q is-accepted .1 .0 in
-    let cut : headerIn Little s .returned ≡ returnedOf (headerIn Little s .number) (pagesOf q) = rules s q is-accepted .1 .1 .0 in
-    let room : baseOf k + 32 ≤ length s = omega (arith, l, long, cut, min-le-right (headerIn Little s .number) (16 * pagesOf q - 1)) in
-    let whole : descriptorPart s k ≡ take 32 (drop (baseOf k) s) = rw (lt-ltb k (headerIn Little s .returned) l, le-leb (baseOf k + 32) (length s) room) in (
+    let room : baseOf k + 32 ≤ length s = omega (arith, l, long, count-room s q is-accepted) in
+    let whole : descriptorPart s k ≡ take 32 (drop (baseOf k) s) = rw (lt-ltb k (countOf s) l, le-leb (baseOf k + 32) (length s) room) in (
       ap length whole ∙ length-take-le 32 (drop (baseOf k) s) (omega (arith, room, length-drop (baseOf k) s)),
       ap (descriptorIn Little) whole ∙ descriptor-part Little (drop (baseOf k) s),
     )

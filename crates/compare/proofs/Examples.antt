@@ -15,23 +15,23 @@ use Rattle.compare.specs.Walk.{cursor, first, idWithin, agreeAt, stepAt,
 use Rattle.compare.specs.declared.Line.the-variants.{OnlyOlder, OnlyNewer, Changed}
 
 -- a page's header and descriptors
-page : ℕ → ℕ → List Descriptor → List ℕ
+abbrev pub page : ℕ → ℕ → List Descriptor → List ℕ
 page number returned ds =
     headerBytes Little (record { number = number; returned = returned; busy = record { 0 = 0 }; limit = 2; removed = 0 })
     ++ flat (descriptorBytes Little) ds
 
-element : ℕ → ℕ → Descriptor
+abbrev pub element : ℕ → ℕ → Descriptor
 element id health = record { id = record { 0 = id }; restorable = false; kind = 1; health = health; capacity = 500 }
 
 -- 1 gone, 3 unchanged, 4 new, 0001_0003h removed
-older : List ℕ
+abbrev pub older : List ℕ
 older = page 3 3 (element 1 0x20 ∷ element 3 0x10 ∷ element 0x10003 0x70 ∷ [])
 
-newer : List ℕ
+abbrev pub newer : List ℕ
 newer = page 3 3 (element 3 0x10 ∷ element 4 0 ∷ element 0x10003 0xFF ∷ [])
 
 walked : walkFrom older newer first ≡ OnlyOlder 0 ∷ OnlyNewer 1 ∷ Changed (cursor 2 2) ∷ []
-unfolding page element older newer countOf elementAt reachOf boundOf idWithin agreeAt stepAt past nextTo nextOf walk walkFrom
+unfolding countOf elementAt reachOf boundOf idWithin agreeAt stepAt past nextTo nextOf walk walkFrom
 walked = refl
 
 -- cut after 3: 4 and what is above it are not compared
@@ -39,11 +39,11 @@ cut : List ℕ
 cut = page 3 2 (element 1 0x20 ∷ element 3 0x11 ∷ [])
 
 up-to-3 : differencesOf cut newer ≡ OnlyOlder 0 ∷ Changed (cursor 1 0) ∷ []
-unfolding page element cut newer countOf elementAt reachOf boundOf standing differenceAt differencesIn differencesOf
+unfolding cut countOf elementAt reachOf boundOf standing differenceAt differencesIn differencesOf
 up-to-3 = refl
 
 walked-to-3 : walkFrom cut newer first ≡ OnlyOlder 0 ∷ Changed (cursor 1 0) ∷ []
-unfolding page element cut newer countOf elementAt reachOf boundOf idWithin agreeAt stepAt past nextTo nextOf walk walkFrom
+unfolding cut countOf elementAt reachOf boundOf idWithin agreeAt stepAt past nextTo nextOf walk walkFrom
 walked-to-3 = refl
 
 -- both cut, after 3 and after 1: only 1 is compared
@@ -51,7 +51,7 @@ shorter : List ℕ
 shorter = page 2 1 (element 1 0x21 ∷ [])
 
 up-to-1 : differencesOf cut shorter ≡ Changed (cursor 0 0) ∷ []
-unfolding page element cut shorter countOf elementAt reachOf boundOf standing differenceAt differencesIn differencesOf
+unfolding cut shorter countOf elementAt reachOf boundOf standing differenceAt differencesIn differencesOf
 up-to-1 = refl
 
 -- the highest identifier, with the flag alone changed
@@ -59,14 +59,14 @@ flagged : Bool → List ℕ
 flagged b = page 1 1 (record { id = record { 0 = 0xFFFF_FFFF }; restorable = b; kind = 1; health = 0xFF; capacity = 500 } ∷ [])
 
 flag-alone : walkFrom (flagged false) (flagged true) first ≡ Changed (cursor 0 0) ∷ []
-unfolding page flagged countOf elementAt reachOf boundOf idWithin agreeAt stepAt past nextTo nextOf walk walkFrom
+unfolding flagged countOf elementAt reachOf boundOf idWithin agreeAt stepAt past nextTo nextOf walk walkFrom
 flag-alone = refl
 
 -- the newer's part of a changed element, and none of a wild line
 handed : partOf cut newer (Changed (cursor 1 0)) ≡ descriptorBytes Little (element 3 0x10)
-unfolding page element cut newer countOf descriptorPart
+unfolding cut countOf descriptorPart
 handed = refl
 
 wild : partOf cut newer (OnlyOlder 2) ≡ []
-unfolding page element cut newer countOf descriptorPart
+unfolding cut countOf descriptorPart
 wild = refl

@@ -1,13 +1,13 @@
 -- Two pages that were accepted: both were accepted for one request, so they are short, and the walk over them gives exactly the differences.
-use Prim.Native.Nat.{ℕ, _-_, _*_, _≤_}
+use Prim.Native.Nat.{ℕ, _≤_}
 use mathlib.Core.Bool.{Bool, true, false, cond}
 use mathlib.Core.List.{List, [], _++_}
 use mathlib.Core.Path.{_≡_, refl, sym, ap}
-use native.Mathlib.Nat.{min-le-right}
 use native.Mathlib.Omega.{arith}
 use lib.Dec.{ltb}
 use lib.ListN.{length}
-use borrow.Author.Tests.{ltb-false, eqb-true}
+use borrow.Author.Tests.{ltb-false}
+use Rattle.compare.proofs.Ascending.{count-room}
 use Rattle.compare.proofs.Merging.{walk-gives}
 use Rattle.compare.specs.Differences.{differencesOf}
 use Rattle.compare.specs.Opening.{Values, bound, turn, openOf, accepted}
@@ -17,12 +17,8 @@ use Rattle.compare.specs.declared.Bound.{Bound}
 use Rattle.compare.specs.declared.Cursor.{Cursor}
 use Rattle.compare.specs.declared.Turn.the-variants.{Older, Newer}
 use Rattle.compare.specs.declared.Turn.{Turn}
-use Rattle.layout.specs.Bytes.{headerIn, returnedOf}
-use Rattle.layout.specs.declared.Request.{Request}
 use Rattle.listing.specs.Listing.{requestOf}
 use Rattle.paper.specs.Told.{tells}
-use Rattle.reader.proofs.LayoutTheorem.{takes-exactly}
-use Rattle.words.specs.declared.Order.the-variants.{Little}
 use Rattle.comparison.specs.Comparison.{linesOf, lastLine, judged, differencesFor, comparisonOf, isAccepted, linesFrom}
 
 -- ## Both were accepted
@@ -55,17 +51,11 @@ module _ (s t : List ℕ) (b : Bound) where
 
 -- ## They are short
 
-count-accepted : (s : List ℕ) (q : Request) → accepted s q ≡ true → countOf s ≤ 16 * (q .count .0) - 1
-unfolding countOf accepted
-count-accepted s q y =
-    let cut : headerIn Little s .returned ≡ returnedOf (headerIn Little s .number) (q .count .0) = takes-exactly s q .0 (eqb-true _ _ y) .1 .1 .0 in
-    omega (arith, cut, min-le-right (headerIn Little s .number) (16 * (q .count .0) - 1))
-
 -- 128 pages have room for 2,047 descriptors
 pub counts : (s t : List ℕ) (b : Bound) → judged s t .state ≡ bound b → (countOf s ≤ 2047) × (countOf t ≤ 2047)
 counts s t b e =
     let (short, in-s, in-t) = both-accepted s t b e in
-    (omega (arith, count-accepted s (requestOf s) in-s), omega (arith, count-accepted t (requestOf s) in-t))
+    (omega (arith, count-room s (requestOf s) in-s), omega (arith, count-room t (requestOf s) in-t))
 
 -- ## The walk over them
 

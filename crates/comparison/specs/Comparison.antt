@@ -1,5 +1,5 @@
--- The text of a comparison: "`-` or `+` or `~`, identifier, type, health, capacity as the listing has them, for `~` the older values after an
--- arrow"; `compared up to` when the pages were cut; or `refused 9` and the page's turn. The older page is s, the newer t.
+-- The text of a comparison, as docs/changes/2026-01 asks for it: "a line for each difference, `-` or `+` or `~`, identifier, type, health,
+-- capacity as the listing has them", and a last line. The older page is s, the newer t.
 use Prim.Native.Nat.{ℕ}
 use mathlib.Core.Bool.{Bool, true, false, cond}
 use mathlib.Core.List.{List, [], _∷_, _++_}
@@ -77,8 +77,8 @@ lastLine (turn w) = refusedLine w
 
 -- ## The whole text
 
--- the listing's request, with as many pages as the older has. An older page of more than 65,536 bytes is refused here; a newer one of
--- another length than the older's, by the reader
+-- "As many pages as the files have, up to 65,536 bytes each, request as for the listing": it is one request, so with the older's pages. An
+-- older page of more bytes is refused here; a newer one of another length than the older's, by the reader
 unfoldable pub judged : List ℕ → List ℕ → Told Values
 judged s t = cond (ltb 65536 (length s)) (tells 9 (turn Older)) (openOf s t (requestOf s))
 
@@ -91,7 +91,7 @@ comparisonOf s t = linesOf s t (differencesFor s t (judged s t .state)) ++ lastL
 
 -- ## The exit status
 
--- "0 where they agree, 1 where they differ, 2 for a refusal"
+-- "exit status 0 where they agree, 1 where they differ, 2 for a refusal"
 abbrev pub statusFor : Values → List Line → ℕ
 statusFor (turn w) ls = 2
 statusFor (bound b) [] = 0
