@@ -1,12 +1,12 @@
 -- The device's page keeps each rule of the layout, and reads back as what was written (specs/Agreement).
 use Prim.Native.Nat.{ℕ, zero, suc, _+_, _-_, _*_, _^_, _≤_, _<_}
 use mathlib.Core.Bool.{Bool, true, false, cond, false≢true}
-use mathlib.Core.List.{List, [], _∷_, _++_, append-assoc}
+use mathlib.Core.List.{List, [], _∷_, _++_, map, append-assoc}
 use mathlib.Core.Path.{_≡_, refl, sym, ap, _∙_, subst}
 use native.Mathlib.Nat.{min-comm}
 use native.Mathlib.Omega.{arith}
 use lib.Dec.{ltb}
-use lib.ListN.{length, getD, take, drop, replicate, length-append, length-take, getD-replicate}
+use lib.ListN.{length, getD, take, drop, replicate, length-append, length-take, length-map, getD-replicate, List·getD-map}
 use lib.Seq.{drop-append-add, getD-append-add, getD-take}
 use borrow.Author.Tests.{lt-ltb, leb-true}
 use Rattle.device.specs.declared.Device.{Device}
@@ -17,6 +17,7 @@ use Rattle.layout.specs.Requests.{reportTypeOf, pagesOf, refused, takesId, take
 use Rattle.layout.specs.declared.Descriptor.{Descriptor}
 use Rattle.layout.specs.declared.Header.{Header}
 use Rattle.layout.specs.declared.Request.{Request}
+use Rattle.paper.specs.Elements.{removedHealth}
 use Rattle.paper.specs.Told.{tells}
 use Rattle.reader.proofs.LayoutTheorem.{and-both, type-to, health-to, takes-exactly}
 use Rattle.reader.proofs.Rules.{each-both, each-below}
@@ -26,17 +27,16 @@ use Rattle.reader.specs.Layout.{Rule, Each, below, descriptorRules, rulesAt, pa
 use Rattle.reader.specs.Reading.{header, slotOf}
 use Rattle.reader.specs.declared.Slot.the-variants.{Holds}
 use Rattle.status.proofs.EveryPage.{whole-pages}
-use Rattle.status.proofs.Page.{wide}
-use Rattle.status.specs.Page as page
-use Rattle.status.specs.Page.{shownHealth, isRestorable, descriptorOf, asks, listOf, headerOf, pageOf}
+use Rattle.status.proofs.Page.{bytesOf, wide, shown-ids}
+use Rattle.status.specs.Page.{shownOf, shownAt, shownAll, asks, listOf, headerOf, pageOf}
 use Rattle.table.specs.Check.{ascending}
-use Rattle.table.specs.Elements.{live, blank, isRemoved, removedCount}
-use Rattle.table.specs.declared.Element.{Element}
-use Rattle.words.proofs.Lists.{length-keep, length-flat}
-use Rattle.words.specs.Lists.{Every, keep, flat, one}
+use Rattle.table.specs.Elements.{live, blankPart, identifiers, size, removedCount}
+use Rattle.table.specs.declared.Part.{Part}
+use Rattle.words.proofs.Lists.{length-keep, length-upTo, length-flat, every-take, every-keep, every-at, every-below, kept-all}
+use Rattle.words.specs.Lists.{Every, keep, upTo, flat, one}
 use Rattle.words.specs.declared.Order.the-variants.{Little}
-use Rattle.agreement.specs.Agreement.{ElementFits, Fits, Agrees}
-use Rattle.agreement.proofs.Lists.{every-take, every-keep, every-at, kept-all, ascending-keep, before, ascending-at, after, flat-at}
+use Rattle.agreement.specs.Agreement.{PartFits, Fits, Agrees}
+use Rattle.agreement.proofs.Lists.{ascending-keep, before, ascending-at, after, flat-at}
 
 -- ## An element
 
@@ -44,58 +44,81 @@ capacity-fits : (b : Bool) (n : ℕ) → n < 2 ^ 64 → cond b (2 ^ 64 - 1) n < 
 capacity-fits true n h = omega arith
 capacity-fits false n h = h
 
-descriptor-fits : (e : Element) → ElementFits e → DescriptorFits (descriptorOf e)
-unfolding shownHealth
-descriptor-fits e f = record { id = f .id; kind = f .kind; health = f .health; capacity = capacity-fits (e .unreported) (e .blocks) (f .blocks) }
+descriptor-fits : (p : Part) (h : ℕ) → PartFits p → h < 2 ^ 8 → DescriptorFits (shownOf p h)
+unfolding shownOf
+descriptor-fits p h f low = record { id = f .id; kind = f .kind; health = low; capacity = capacity-fits (p .unreported) (p .blocks) (f .blocks) }
 
-few-removed : (l : List Element) → removedCount l ≤ length l
+few-removed : (hs : List ℕ) → removedCount hs ≤ length hs
 few-removed [] = omega arith
-few-removed (e ∷ l) = more (isRemoved e) (few-removed l)
+few-removed (h ∷ hs) = more (removedHealth h) (few-removed hs)
   where
-    more : (b : Bool) → removedCount l ≤ length l → one b + removedCount l ≤ suc (length l)
+    more : (b : Bool) → removedCount hs ≤ length hs → one b + removedCount hs ≤ suc (length hs)
     more true h = omega arith
     more false h = omega arith
 
--- what a listed element keeps of the rules of its place
-element-each : (q : Request) (last base : ℕ) (e : Element) → asks q e ≡ true → last < e .id .0 → Each (descriptorRules q last base (descriptorOf e))
-unfolding asks isRestorable shownHealth
-element-each q last base e a up =
-    let id = and-both (takesId q (e .id .0)) _ a in
-    let rest = and-both (takesType (reportTypeOf q) (e .kind)) _ (id .1) in
-    ((omega (arith, up), leb-true _ _ (id .0), up), ((λ r. absurd (false≢true r)), (type-to q (descriptorOf e) (rest .0), (health-to q (descriptorOf e) (rest .1), tt))))
+-- what is shown at a place has no restoration bit
+bit-clear : (d : Device) (n : ℕ) → Every (λ (x : Descriptor). x .restorable ≡ false) (map (shownAt d) (upTo n))
+unfolding shownOf
+bit-clear d n = every-below (λ (x : Descriptor). x .restorable ≡ false) (shownAt d) n (λ i _. refl)
 
-module _ (d : Device) (q : Request) (fits : Fits d) (asc : ascending 0 (live (d .table)) ≡ true) (ok : refused q ≡ false) where
-  list-is : listOf d q ≡ keep (asks q) (live (d .table))
+-- what a listed element keeps of the rules of its place
+element-each : (q : Request) (last base : ℕ) (x : Descriptor) → asks q x ≡ true → x .restorable ≡ false → last < x .id .0 → Each (descriptorRules q last base x)
+unfolding asks
+element-each q last base x a clear up =
+    let id = and-both (takesId q (x .id .0)) _ a in
+    let rest = and-both (takesType (reportTypeOf q) (x .kind)) _ (id .1) in
+    ((omega (arith, up), leb-true _ _ (id .0), up), ((λ r. absurd (false≢true (sym clear ∙ r))), (type-to q x (rest .0), (health-to q x (rest .1), tt))))
+
+abbrev none : Descriptor
+none = shownOf blankPart 0
+
+abbrev idOf : Descriptor → ℕ
+idOf x = x .id .0
+
+module _ (d : Device) (q : Request) (fits : Fits d) (asc : ascending 0 (identifiers (d .table)) ≡ true) (ok : refused q ≡ false) where
+  list-is : listOf d q ≡ keep (asks q) (shownAll d)
   unfolding listOf
   list-is = refl
 
   abbrev n : ℕ
   n = headerOf d q .returned
 
-  live-few : length (live (d .table)) ≤ 128
-  live-few = rw (length-take, fits .full) (omega arith)
+  size-few : size (d .table) ≤ 128
+  size-few = rw (length-map, length-take, fits .full) (omega arith)
 
   few : length (listOf d q) ≤ 128
-  few = let h = length-keep (asks q) (live (d .table)) in rw list-is (omega (arith, h, live-few))
+  few =
+      let h = length-keep (asks q) (shownAll d) in
+      let all : length (shownAll d) ≡ size (d .table) = length-map (upTo (size (d .table))) (shownAt d) ∙ length-upTo (size (d .table)) in
+      rw list-is (omega (arith, h, all, size-few))
 
-  list-fits : Every ElementFits (listOf d q)
-  list-fits = rw list-is (every-keep ElementFits (asks q) (live (d .table)) (every-take ElementFits (d .table .count) (d .table .elements) (fits .each)))
+  list-fits : Every DescriptorFits (listOf d q)
+  list-fits =
+      rw list-is (every-keep DescriptorFits (asks q) (shownAll d)
+      (every-below DescriptorFits (shownAt d) (size (d .table)) (λ i h.
+      let place : i < length (live (d .table)) = rw (← length-map (live (d .table)) (λ (p : Part). p .id .0)) h in
+      descriptor-fits _ _ (every-at PartFits (live (d .table)) i blankPart place (every-take PartFits (d .table .count) (d .table .parts) (fits .each)))
+      (every-at (λ (x : ℕ). x < 2 ^ 8) (d .cells .healths) i 0 (omega (arith, h, size-few, fits .celled)) (fits .healths)))))
 
-  list-asked : Every (λ (e : Element). asks q e ≡ true) (listOf d q)
-  list-asked = rw list-is (kept-all (asks q) (live (d .table)))
+  list-asked : Every (λ (x : Descriptor). asks q x ≡ true) (listOf d q)
+  list-asked = rw list-is (kept-all (asks q) (shownAll d))
 
-  list-ascends : ascending 0 (listOf d q) ≡ true
-  list-ascends = rw list-is (ascending-keep (asks q) 0 (live (d .table)) asc)
+  list-clear : Every (λ (x : Descriptor). x .restorable ≡ false) (listOf d q)
+  list-clear = rw list-is (every-keep (λ (x : Descriptor). x .restorable ≡ false) (asks q) (shownAll d) (bit-clear d (size (d .table))))
+
+  list-ascends : ascending 0 (map idOf (listOf d q)) ≡ true
+  list-ascends = rw list-is (ascending-keep idOf (asks q) 0 (shownAll d) (ap (ascending 0) (shown-ids d) ∙ asc))
 
   header-fits : HeaderFits (headerOf d q)
   header-fits =
-      let removed = few-removed (live (d .table)) in
+      let removed = few-removed (take (d .table .count) (d .cells .healths)) in
+      let few-cells : length (take (d .table .count) (d .cells .healths)) ≤ 128 = rw (length-take, fits .celled) (omega arith) in
       record {
         number = omega (arith, few);
         returned = omega (arith, few);
         busy = fits .busy;
         limit = fits .limit;
-        removed = omega (arith, removed, live-few);
+        removed = omega (arith, removed, few-cells);
       }
 
   -- ## The page, part by part
@@ -103,57 +126,63 @@ module _ (d : Device) (q : Request) (fits : Fits d) (asc : ascending 0 (live (d 
   abbrev first : List ℕ
   first = headerBytes Little (headerOf d q)
 
-  abbrev listed : List Element
+  abbrev listed : List Descriptor
   listed = take (roomOf (pagesOf q)) (listOf d q)
 
   abbrev zeros : List ℕ
   zeros = replicate (512 * pagesOf q - 32 * (n + 1)) 0
 
-  parts : pageOf d q ≡ first ++ (flat page.elementBytes listed ++ zeros)
+  parts : pageOf d q ≡ first ++ (flat bytesOf listed ++ zeros)
   unfolding pageOf
-  parts = append-assoc first (flat page.elementBytes listed) zeros
+  parts = append-assoc first (flat bytesOf listed) zeros
 
   listed-length : length listed ≡ n
   listed-length = length-take (roomOf (pagesOf q)) (listOf d q) ∙ min-comm (roomOf (pagesOf q)) (length (listOf d q))
 
   header-here : headerIn Little (pageOf d q) ≡ headerOf d q
-  header-here = ap (headerIn Little) parts ∙ header-back Little (headerOf d q) (flat page.elementBytes listed ++ zeros) header-fits
+  header-here = ap (headerIn Little) parts ∙ header-back Little (headerOf d q) (flat bytesOf listed ++ zeros) header-fits
 
-  descriptor-here : (k : ℕ) → k < n → checks.descriptorAt Little (pageOf d q) k ≡ descriptorOf (getD (listOf d q) k blank)
+  descriptor-here : (k : ℕ) → k < n → checks.descriptorAt Little (pageOf d q) k ≡ getD (listOf d q) k none
   descriptor-here k l =
-      let e = getD (listOf d q) k blank in
-      let same : getD listed k blank ≡ e = getD-take (roomOf (pagesOf q)) (listOf d q) k blank (omega arith) in
-      let fit : ElementFits e = every-at ElementFits (listOf d q) k blank (omega arith) list-fits in
-      let here : drop (baseOf k) (pageOf d q) ≡ page.elementBytes e ++ after page.elementBytes 32 wide listed k zeros =
+      let e = getD (listOf d q) k none in
+      let same : getD listed k none ≡ e = getD-take (roomOf (pagesOf q)) (listOf d q) k none (omega arith) in
+      let fit : DescriptorFits e = every-at DescriptorFits (listOf d q) k none (omega arith) list-fits in
+      let here : drop (baseOf k) (pageOf d q) ≡ bytesOf e ++ after bytesOf 32 wide listed k zeros =
       ap (drop (baseOf k)) parts
-      ∙ drop-append-add first (flat page.elementBytes listed ++ zeros) (32 * k)
-      ∙ flat-at page.elementBytes 32 wide listed k blank zeros (omega (arith, listed-length))
-      ∙ ap (λ (x : Element). page.elementBytes x ++ after page.elementBytes 32 wide listed k zeros) same in
-      ap (descriptorIn Little) here ∙ descriptor-back Little (descriptorOf e) (after page.elementBytes 32 wide listed k zeros) (descriptor-fits e fit)
+      ∙ drop-append-add first (flat bytesOf listed ++ zeros) (32 * k)
+      ∙ flat-at bytesOf 32 wide listed k none zeros (omega (arith, listed-length))
+      ∙ ap (λ (x : Descriptor). bytesOf x ++ after bytesOf 32 wide listed k zeros) same in
+      ap (descriptorIn Little) here ∙ descriptor-back Little e (after bytesOf 32 wide listed k zeros) fit
 
   padding-here : (i : ℕ) → i < length (pageOf d q) - baseOf n → getD (pageOf d q) (baseOf n + i) 0 ≡ 0
   padding-here i l =
       let whole = whole-pages d q (accepted q ok .2) in
-      let front : List ℕ = first ++ flat page.elementBytes listed in
-      let long : length front ≡ baseOf n = rw (length-append, length-flat page.elementBytes 32 wide listed, listed-length) in
-      let same : pageOf d q ≡ front ++ zeros = parts ∙ sym (append-assoc first (flat page.elementBytes listed) zeros) in
+      let front : List ℕ = first ++ flat bytesOf listed in
+      let long : length front ≡ baseOf n = rw (length-append, length-flat bytesOf 32 wide listed, listed-length) in
+      let same : pageOf d q ≡ front ++ zeros = parts ∙ sym (append-assoc first (flat bytesOf listed) zeros) in
       ap (λ (s : List ℕ). getD s (baseOf n + i) 0) same
       ∙ subst (λ (m : ℕ). getD (front ++ zeros) (m + i) 0 ≡ 0) long
       (getD-append-add front zeros i 0 ∙ getD-replicate (512 * pagesOf q - 32 * (n + 1)) i 0 0 (omega (arith, whole)))
 
   -- ## Each rule
 
-  last-here : (k : ℕ) → k < n → lastBefore Little (pageOf d q) k ≡ before 0 (listOf d q) k
+  id-at : (k : ℕ) → getD (map idOf (listOf d q)) k 0 ≡ idOf (getD (listOf d q) k none)
+  unfolding shownOf
+  id-at k = List·getD-map idOf (listOf d q) k none
+
+  last-here : (k : ℕ) → k < n → lastBefore Little (pageOf d q) k ≡ before 0 (map idOf (listOf d q)) k
   last-here zero l = refl
-  last-here (suc k) l = ap (λ (x : Descriptor). x .id .0) (descriptor-here k (omega arith))
+  last-here (suc k) l = ap idOf (descriptor-here k (omega arith)) ∙ sym (id-at k)
 
   list-each : (k : ℕ) → k < n → Each (rulesAt Little (pageOf d q) q k)
   list-each k l =
-      let e = getD (listOf d q) k blank in
-      let asked : asks q e ≡ true = every-at (λ (x : Element). asks q x ≡ true) (listOf d q) k blank (omega arith) list-asked in
-      let up = ascending-at 0 (listOf d q) k (omega arith) list-ascends in
+      let e = getD (listOf d q) k none in
+      let asked : asks q e ≡ true = every-at (λ (x : Descriptor). asks q x ≡ true) (listOf d q) k none (omega arith) list-asked in
+      let clear : e .restorable ≡ false = every-at (λ (x : Descriptor). x .restorable ≡ false) (listOf d q) k none (omega arith) list-clear in
+      let up : before 0 (map idOf (listOf d q)) k < idOf e =
+      subst (λ (m : ℕ). before 0 (map idOf (listOf d q)) k < m) (id-at k) (ascending-at 0 (map idOf (listOf d q)) k (rw (length-map (listOf d q) idOf) (omega arith)) list-ascends) in
       subst (λ (x : Descriptor). Each (descriptorRules q (lastBefore Little (pageOf d q) k) (baseOf k) x)) (sym (descriptor-here k l))
-      (subst (λ (m : ℕ). Each (descriptorRules q m (baseOf k) (descriptorOf e))) (sym (last-here k l)) (element-each q (before 0 (listOf d q) k) (baseOf k) e asked up))
+      (subst (λ (m : ℕ). Each (descriptorRules q m (baseOf k) e)) (sym (last-here k l)) (element-each q (before 0 (map idOf (listOf d q)) k) (baseOf k) e asked clear up))
 
   returned-here : headerIn Little (pageOf d q) .returned ≡ n
   returned-here = ap (λ (h : Header). h .returned) header-here
@@ -175,7 +204,7 @@ module _ (d : Device) (q : Request) (fits : Fits d) (asc : ascending 0 (live (d 
       let right = returned-here ∙ ap (λ (h : Header). returnedOf (h .number) (pagesOf q)) (sym header-here) in
       (accepted q ok, (whole-pages d q (accepted q ok .2), (right, subst (λ (m : ℕ). Each (list-rules m ++ padding-rules m)) (sym returned-here) contents-each)))
 
-  slot-here : (k : ℕ) → k < n → slotOf (pageOf d q) k ≡ Holds (descriptorOf (getD (listOf d q) k blank))
+  slot-here : (k : ℕ) → k < n → slotOf (pageOf d q) k ≡ Holds (getD (listOf d q) k none)
   slot-here k l =
       let less : ltb k (headerIn Little (pageOf d q) .returned) ≡ true = rw returned-here (lt-ltb k n l) in
       rw less (ap Holds (descriptor-here k l))

@@ -3,12 +3,13 @@ use mathlib.Core.Bool.{true}
 use mathlib.Core.Path.{_≡_, refl}
 use Rattle.device.specs.Cells.{isSet}
 use Rattle.device.specs.Remove.{judgeRoom, judgeFound}
+use Rattle.device.specs.Sights.{see}
 use Rattle.layout.specs.Requests.{refused, takesHealth}
-use Rattle.status.specs.Page.{shownHealth, isRestorable, asks, listOf, pageOf}
-use Rattle.table.specs.Search.{find, change, storeIn}
+use Rattle.status.specs.Page.{shownOf, asks, listOf, pageOf}
+use Rattle.table.specs.Search.{sightIn}
 use Rattle.words.specs.Lists.{all}
 use Rattle.agreement.specs.Bench.{asSaid, examples}
 
 pub twelve : all asSaid examples ≡ true
-unfolding find change storeIn isSet judgeRoom judgeFound refused takesHealth shownHealth isRestorable asks listOf pageOf
+unfolding sightIn see isSet judgeRoom judgeFound refused takesHealth shownOf asks listOf pageOf
 twelve = refl

@@ -1,76 +1,47 @@
--- What holds of each element of a list, of those kept, and of the one at a place; a part of a flattened list.
+-- Ascending identifiers, of those kept and of the one at a place; a part of a flattened list.
 use Prim.Native.Nat.{ℕ, zero, suc, _+_, _*_, _≤_, _<_}
 use mathlib.Core.Bool.{Bool, true, false, cond}
-use mathlib.Core.List.{List, [], _∷_, _++_, append-assoc}
+use mathlib.Core.List.{List, [], _∷_, _++_, map, append-assoc}
 use mathlib.Core.Path.{_≡_, refl, _∙_, subst}
 use native.Mathlib.Nat.{mul-suc, add-comm, not-suc-le-zero, le-of-suc-le-suc, mul-zero}
 use native.Mathlib.Omega.{arith}
 use lib.Dec.{ltb}
-use lib.ListN.{length, getD, take, drop}
+use lib.ListN.{length, getD, drop}
 use lib.Seq.{drop-append-add}
 use borrow.Author.Tests.{lt-ltb, ltb-true}
-use Rattle.reader.proofs.LayoutTheorem.{and-both}
+use Rattle.table.proofs.Check.{both, ascending-both}
 use Rattle.table.specs.Check.{ascending}
-use Rattle.table.specs.Elements.{blank}
-use Rattle.table.specs.declared.Element.{Element}
-use Rattle.words.specs.Lists.{Every, keep, flat}
-
-module _ {A : Type 0} (P : A → Type 0) where
-  pub every-take : (n : ℕ) (l : List A) → Every P l → Every P (take n l)
-  every-take zero l e = tt
-  every-take (suc n) [] e = tt
-  every-take (suc n) (x ∷ xs) (p, e) = (p, every-take n xs e)
-
-  pub every-keep : (f : A → Bool) (l : List A) → Every P l → Every P (keep f l)
-  every-keep f [] e = tt
-  every-keep f (x ∷ xs) (p, e) = one (f x) (every-keep f xs e)
-    where
-      one : (b : Bool) → Every P (keep f xs) → Every P (cond b (x ∷ keep f xs) (keep f xs))
-      one true r = (p, r)
-      one false r = r
-
-  pub every-at : (l : List A) (k : ℕ) (z : A) → k < length l → Every P l → P (getD l k z)
-  every-at [] k z h e = absurd (not-suc-le-zero h)
-  every-at (x ∷ xs) zero z h (p, e) = p
-  every-at (x ∷ xs) (suc k) z h (p, e) = every-at xs k z (le-of-suc-le-suc h) e
-
-pub kept-all : {A : Type 0} (f : A → Bool) (l : List A) → Every (λ (x : A). f x ≡ true) (keep f l)
-kept-all f [] = tt
-kept-all {A} f (x ∷ xs) = one (f x) refl (kept-all f xs)
-  where
-    one : (b : Bool) → f x ≡ b → Every (λ (y : A). f y ≡ true) (keep f xs) → Every (λ (y : A). f y ≡ true) (cond b (x ∷ keep f xs) (keep f xs))
-    one true e r = (e, r)
-    one false e r = r
+use Rattle.words.specs.Lists.{keep, flat}
 
 -- ## Ascending
 
-ascending-from : (low high : ℕ) (l : List Element) → low ≤ high → ascending high l ≡ true → ascending low l ≡ true
+ascending-from : (low high : ℕ) (l : List ℕ) → low ≤ high → ascending high l ≡ true → ascending low l ≡ true
 ascending-from low high [] h e = refl
 ascending-from low high (x ∷ xs) h e =
-    let b = and-both (ltb high (x .id .0)) (ascending (x .id .0) xs) e in
-    let up = ltb-true high (x .id .0) (b .0) in
-    rw (lt-ltb low (x .id .0) (omega (arith, up))) (b .1)
+    let b = ascending-both high x xs e in
+    rw (lt-ltb low x (omega (arith, b .0))) (b .1)
 
-pub ascending-keep : (f : Element → Bool) (low : ℕ) (l : List Element) → ascending low l ≡ true → ascending low (keep f l) ≡ true
-ascending-keep f low [] e = refl
-ascending-keep f low (x ∷ xs) e =
-    let b = and-both (ltb low (x .id .0)) (ascending (x .id .0) xs) e in
-    one (f x) (b .0) (ascending-keep f (x .id .0) xs (b .1))
+-- of elements by a key
+pub ascending-keep : {A : Type 0} (key : A → ℕ) (f : A → Bool) (low : ℕ) (l : List A) → ascending low (map key l) ≡ true → ascending low (map key (keep f l)) ≡ true
+ascending-keep key f low [] e = refl
+ascending-keep key f low (x ∷ xs) e =
+    let b = both (ltb low (key x)) (ascending (key x) (map key xs)) e in
+    one (f x) (b .0) (ascending-keep key f (key x) xs (b .1))
   where
-    one : (t : Bool) → ltb low (x .id .0) ≡ true → ascending (x .id .0) (keep f xs) ≡ true → ascending low (cond t (x ∷ keep f xs) (keep f xs)) ≡ true
+    one : (t : Bool) → ltb low (key x) ≡ true → ascending (key x) (map key (keep f xs)) ≡ true → ascending low (map key (cond t (x ∷ keep f xs) (keep f xs))) ≡ true
     one true up r = rw up r
-    one false up r = let less = ltb-true low (x .id .0) up in ascending-from low (x .id .0) (keep f xs) (omega (arith, less)) r
+    one false up r = let less = ltb-true low (key x) up in ascending-from low (key x) (map key (keep f xs)) (omega (arith, less)) r
 
 -- the identifier before place k
-abbrev pub before : ℕ → List Element → ℕ → ℕ
+abbrev pub before : ℕ → List ℕ → ℕ → ℕ
 before low l zero = low
-before low l (suc k) = getD l k blank .id .0
+before low l (suc k) = getD l k 0
 
-pub ascending-at : (low : ℕ) (l : List Element) (k : ℕ) → k < length l → ascending low l ≡ true → before low l k < getD l k blank .id .0
+pub ascending-at : (low : ℕ) (l : List ℕ) (k : ℕ) → k < length l → ascending low l ≡ true → before low l k < getD l k 0
 ascending-at low [] k h e = absurd (not-suc-le-zero h)
-ascending-at low (x ∷ xs) zero h e = ltb-true low (x .id .0) (and-both (ltb low (x .id .0)) (ascending (x .id .0) xs) e .0)
-ascending-at low (x ∷ xs) (suc zero) h e = ascending-at (x .id .0) xs 0 (le-of-suc-le-suc h) (and-both (ltb low (x .id .0)) (ascending (x .id .0) xs) e .1)
-ascending-at low (x ∷ xs) (suc (suc k)) h e = ascending-at (x .id .0) xs (suc k) (le-of-suc-le-suc h) (and-both (ltb low (x .id .0)) (ascending (x .id .0) xs) e .1)
+ascending-at low (x ∷ xs) zero h e = ascending-both low x xs e .0
+ascending-at low (x ∷ xs) (suc zero) h e = ascending-at x xs 0 (le-of-suc-le-suc h) (ascending-both low x xs e .1)
+ascending-at low (x ∷ xs) (suc (suc k)) h e = ascending-at x xs (suc k) (le-of-suc-le-suc h) (ascending-both low x xs e .1)
 
 -- ## A part of a flattened list
 

@@ -6,6 +6,7 @@ ghost use mathlib.Core.Path.{_≡_};
 ghost use Prim.Native.Nat.{min};
 ghost use lib.ListN.{length};
 ghost use Rattle.io.specs.Counts.{Counts};
+use device::Cells;
 use device::Device;
 use device::Mark;
 use device::Note;
@@ -30,13 +31,15 @@ use script::Line;
 use script::Poke;
 use script::Taken;
 use table::Element;
+use table::Offer;
+use table::Part;
 use table::Table;
 
 // What a script has on its bench: the line as far as it was read, the offered list, the device and whether one was made, and how many
 // bytes of `page` are kept.
 struct Bench {
     line: Gathered,
-    offered: Table,
+    offered: Offer,
     made: bool,
     device: Device,
     kept: usize,
@@ -77,7 +80,7 @@ fn unanswered() -> [u8; 65536]
     [0xA5; 65536]
 }
 
-fn no_table() -> Table {
+fn no_offer() -> Offer {
     let blank = Element {
         id: ElementId(0),
         kind: 0,
@@ -85,10 +88,34 @@ fn no_table() -> Table {
         unreported: false,
         blocks: 0,
     };
-    Table {
+    Offer {
         elements: [blank; 128],
         count: 0,
         limit: 0,
+    }
+}
+
+fn no_table() -> Table {
+    let blank = Part {
+        id: ElementId(0),
+        kind: 0,
+        unreported: false,
+        blocks: 0,
+    };
+    Table {
+        parts: [blank; 128],
+        count: 0,
+        limit: 0,
+    }
+}
+
+fn no_cells() -> Cells {
+    Cells {
+        native: Lba(0),
+        accessible: Lba(0),
+        healths: [0; 128],
+        failed: Mark::Clear,
+        note: Note::Empty,
     }
 }
 
@@ -96,16 +123,13 @@ fn no_table() -> Table {
 fn no_device() -> Device {
     Device {
         table: no_table(),
-        native: Lba(0),
-        accessible: Lba(0),
-        failed: Mark::Clear,
-        note: Note::Empty,
+        cells: no_cells(),
         position: Position::Work1,
     }
 }
 
 // The list with a record more. Of its first 129 the last is only counted: 129 are refused, whatever they hold.
-fn lengthened(list: Table, e: Element) -> Table {
+fn lengthened(list: Offer, e: Element) -> Offer {
     let at = list.count;
     let mut longer = list;
     if at < 128 {
@@ -148,7 +172,7 @@ impl Bench {
     fn empty() -> Bench {
         Bench {
             line: Gathered::nothing(),
-            offered: no_table(),
+            offered: no_offer(),
             made: false,
             device: no_device(),
             kept: 0,
@@ -202,7 +226,7 @@ impl Bench {
         if is_done(answer) {
             next.made = true;
         }
-        let none = no_table();
+        let none = no_offer();
         next.offered = none;
         next
     }
@@ -226,11 +250,23 @@ impl Bench {
         next.keep(head(lent, n), page)
     }
 
+    // The page of 12h.
+    fn show(self, c: Command, lent: &mut [u8]) {
+        if c.code != 0x12 {
+            return;
+        }
+        let d = self.device;
+        let security = c.security;
+        let lba = c.lba;
+        status::show(d, security, commands::asked(c.feature, c.count, lba), lent);
+    }
+
     fn command_over(self, c: Command, lent: &mut [u8], page: &mut [u8]) -> Bench {
         let d = self.device;
         let security = c.security;
         let lba = c.lba;
-        let s = commands::command(d, security, c.code, c.feature, c.count, lba, lent);
+        let s = commands::command(d, security, c.code, c.feature, c.count, lba, lent.len());
+        self.show(c, lent);
         self.after_command(c, s, lent, page)
     }
 

@@ -13,7 +13,7 @@ use paper::Answer;
 use paper::Sensed;
 use reader::Reading;
 use reader::Slot;
-use table::Element;
+use table::Part;
 use text::Text;
 
 fn print(text: Text) {
@@ -81,34 +81,36 @@ fn write_position(text: Text, at: Position) -> Text {
     }
 }
 
-fn print_element(e: Element) {
+fn print_element(p: Part, health: u8) {
     print(
         Text::nothing()
-            .hex8(e.id.0)
+            .hex8(p.id.0)
             .word(b" ")
-            .hex2(e.kind)
+            .hex2(p.kind)
             .word(b" ")
-            .hex2(e.health)
+            .hex2(health)
             .word(b" ")
-            .decimal(e.blocks)
+            .decimal(p.blocks)
             .word(b" ")
-            .decimal(bit(e.unreported)),
+            .decimal(bit(p.unreported)),
     );
 }
 
-fn print_elements(es: [Element; 128], count: usize) {
+fn print_elements(ps: [Part; 128], healths: [u8; 128], count: usize) {
     let n = smaller(count, 128);
     for i in 0..n {
-        let e = es[i];
-        print_element(e);
+        let p = ps[i];
+        print_element(p, healths[i]);
     }
 }
 
 pub fn print_cells(d: Device) {
     let t = d.table;
-    let native = d.native;
-    let accessible = d.accessible;
-    let note = d.note;
+    let c = d.cells;
+    let native = c.native;
+    let accessible = c.accessible;
+    let healths = c.healths;
+    let note = c.note;
     let position = d.position;
     let numbers = Text::nothing()
         .word(b"limit ")
@@ -122,8 +124,8 @@ pub fn print_cells(d: Device) {
         .word(b" note ");
     let noted = write_note(numbers, note).word(b" position ");
     print(write_position(noted, position));
-    let es = t.elements;
-    print_elements(es, t.count);
+    let ps = t.parts;
+    print_elements(ps, healths, t.count);
 }
 
 // ---- A lent buffer

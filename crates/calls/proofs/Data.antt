@@ -52,12 +52,12 @@ abbrev pub found : Datum
 found = enum Found.the-type Found′.the-laws Found′.the-plain Found′.the-copy tt
 
 -- what a call by value hands back
-abbrev pub stepped : Handed answer device
+abbrev pub stepped : Handed device answer
 stepped =
     record {
       both = struct Stepped.the-type Stepped′.the-laws Stepped′.the-plain Stepped′.the-copy;
-      answer = λ r. r .answer;
       state = λ r. r .device;
+      answer = λ r. r .answer;
       name = Stepped.the-type .name;
       as-type = refl;
       as-value = λ r. refl;

@@ -1,4 +1,5 @@
--- What is proved of the calls' data, of a lent list and of the answers.
+-- What is proved of the calls' data, of the front call, of a lent list and of the answers.
 pub mod Data
+pub mod Front
 pub mod Lists
 pub mod Once

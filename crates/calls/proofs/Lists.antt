@@ -1,12 +1,12 @@
--- A list and its table: with at most 128 records the elements that count are the list's, and with more both are refused.
+-- A list and its offer: with at most 128 records the elements that count are the list's, and with more both are refused.
 use Prim.Native.Nat.{ℕ, _-_, _≤_, _<_, min}
 use mathlib.Core.Bool.{Bool, true, false, cond, and-false}
-use mathlib.Core.List.{List, [], _∷_, _++_}
+use mathlib.Core.List.{List, [], _∷_, _++_, map}
 use mathlib.Core.Path.{_≡_, refl, sym, _∙_}
 use native.Mathlib.Nat.{min-comm}
 use native.Mathlib.Omega.{arith}
 use lib.Dec.{leb}
-use lib.ListN.{length, take, replicate}
+use lib.ListN.{length, take, replicate, length-map}
 use lib.Seq.{take-all, take-at}
 use borrow.Author.Tests.{leb-true, leb-false, le-leb, lt-leb}
 use Rattle.device.specs.Making.{fresh, madeOf}
@@ -15,13 +15,13 @@ use Rattle.device.specs.declared.Device.{Device}
 use Rattle.paper.specs.Told.{tells}
 use Rattle.table.proofs.Laws.{good-count}
 use Rattle.table.specs.Check.{good, checkOf}
-use Rattle.table.specs.Elements.{live, blank, blockSum}
+use Rattle.table.specs.Elements.{offered, blank, blankPart, partOf, healthOf, blockSum}
 use Rattle.table.specs.Search.{find}
 use Rattle.table.specs.declared.Element.{Element}
 use Rattle.table.specs.declared.Found.the-variants.{Missing}
 use Rattle.table.specs.declared.Found.{Found}
 use Rattle.words.proofs.Lists.{take-min}
-use Rattle.calls.specs.Offered.{checkList, findList, arrayOf, tableOf, madeFrom}
+use Rattle.calls.specs.Offered.{checkList, findList, arrayOf, offerOf, madeFrom}
 use Rattle.calls.specs.Promises.{Long-list-refused, Refused-list-leaves, Copied-whole}
 
 -- ## The array
@@ -42,29 +42,29 @@ unfolding good
 long-bad count es limit h = simp (lt-leb count 128 h, and-false)
 
 module _ (es : List Element) (limit : ℕ) where
-  -- the check of the table goes by the list
+  -- the check of the offer goes by the list
   alike : {A : Type 0} (f : List Element → A) (x : A)
-      → cond (good (length es) (live (tableOf es limit)) limit) (f (live (tableOf es limit))) x ≡ cond (good (length es) es limit) (f es) x
+      → cond (good (length es) (offered (offerOf es limit)) limit) (f (offered (offerOf es limit))) x ≡ cond (good (length es) es limit) (f es) x
   alike {A} f x = go (leb (length es) 128) refl
     where
       go : (b : Bool) → leb (length es) 128 ≡ b
-          → cond (good (length es) (live (tableOf es limit)) limit) (f (live (tableOf es limit))) x ≡ cond (good (length es) es limit) (f es) x
+          → cond (good (length es) (offered (offerOf es limit)) limit) (f (offered (offerOf es limit))) x ≡ cond (good (length es) es limit) (f es) x
       go true e = rw (taken es (leb-true (length es) 128 e))
       go false e =
           let long : 128 < length es = leb-false (length es) 128 e in
-          rw (long-bad (length es) (live (tableOf es limit)) limit long, long-bad (length es) es limit long)
+          rw (long-bad (length es) (offered (offerOf es limit)) limit long, long-bad (length es) es limit long)
 
-  pub check-table : checkOf (tableOf es limit) ≡ checkList es limit
+  pub check-offer : checkOf (offerOf es limit) ≡ checkList es limit
   unfolding checkOf checkList
-  check-table = alike (λ (l : List Element). tells 0 (blockSum l ∷ [])) (tells 8 [])
+  check-offer = alike (λ (l : List Element). tells 0 (blockSum l ∷ [])) (tells 8 [])
 
-  pub make-table : (d : Device) → madeOf d (tableOf es limit) ≡ madeFrom d es limit
+  pub make-offer : (d : Device) → madeOf d (offerOf es limit) ≡ madeFrom d es limit
   unfolding madeOf madeFrom
-  make-table d = alike (λ (l : List Element). tells 0 (fresh (tableOf es limit))) (tells 8 d)
+  make-offer d = alike (λ (l : List Element). tells 0 (fresh (offerOf es limit))) (tells 8 d)
 
-pub find-table : (es : List Element) (id : ℕ) → cond (leb (length es) 128) (find id (take (length es) (arrayOf es))) Missing ≡ findList id es
+pub find-offer : (es : List Element) (id : ℕ) → cond (leb (length es) 128) (find id (take (length es) (arrayOf es))) Missing ≡ findList id es
 unfolding findList
-find-table es id = go (leb (length es) 128) refl
+find-offer es id = go (leb (length es) 128) refl
   where
     go : (b : Bool) → leb (length es) 128 ≡ b → cond b (find id (take (length es) (arrayOf es))) Missing ≡ cond b (find id es) Missing
     go true e = rw (taken es (leb-true (length es) 128 e))
@@ -89,12 +89,17 @@ pub refused-list-leaves : Refused-list-leaves
 unfolding madeFrom
 refused-list-leaves d es limit = go (good (length es) es limit)
   where
-    go : (b : Bool) → Leaves d (cond b (tells 0 (fresh (tableOf es limit))) (tells 8 d))
+    go : (b : Bool) → Leaves d (cond b (tells 0 (fresh (offerOf es limit))) (tells 8 d))
     go true z = absurd (z refl)
     go false z = refl
+
+-- what the device has of each record
+held : {B : Type 0} (f : Element → B) (z : B) (es : List Element) → length es ≤ 128
+    → take (length es) (map f (take (length es) (arrayOf es)) ++ replicate (128 - length es) z) ≡ map f es
+held f z es few = rw (taken es few) (take-at (map f es) (replicate (128 - length es) z) (length es) (length-map es f))
 
 pub copied-whole : Copied-whole
 unfolding madeFrom
 copied-whole d es limit g =
     let few : length es ≤ 128 = good-count (length es) es limit g in
-    rw (g, taken es few) (take-at es (replicate (128 - length es) blank) (length es) refl)
+    rw g (held partOf blankPart es few, held healthOf 0 es few)

@@ -14,7 +14,7 @@ use Rattle.table.specs.Search.{find}
 use Rattle.table.specs.declared.Element.{Element}
 use Rattle.table.specs.declared.Found.the-variants.{Missing}
 use Rattle.table.specs.declared.Found.{Found}
-use Rattle.table.specs.declared.Table.{Table}
+use Rattle.table.specs.declared.Offer.{Offer}
 
 -- what the check tells of a list: 0 and the blocks of all, or 8
 unfoldable pub checkList : List Element → ℕ → Told (List ℕ)
@@ -28,9 +28,9 @@ findList id es = cond (leb (length es) 128) (find id es) Missing
 abbrev pub arrayOf : List Element → List Element
 arrayOf es = take 128 es ++ replicate (128 - length es) blank
 
-abbrev pub tableOf : List Element → ℕ → Table
-tableOf es limit = record { elements = arrayOf es; count = length es; limit = limit }
+abbrev pub offerOf : List Element → ℕ → Offer
+offerOf es limit = record { elements = arrayOf es; count = length es; limit = limit }
 
 -- a new device of a list, or 8 and the device that was there
 unfoldable pub madeFrom : Device → List Element → ℕ → Told Device
-madeFrom d es limit = cond (good (length es) es limit) (tells 0 (fresh (tableOf es limit))) (tells 8 d)
+madeFrom d es limit = cond (good (length es) es limit) (tells 0 (fresh (offerOf es limit))) (tells 8 d)

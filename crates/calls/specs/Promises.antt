@@ -1,9 +1,9 @@
 -- What holds of the lent calls. Each is a statement; proofs/ has the proof under the same name in lower case.
 use Prim.Native.Nat.{ℕ, _<_}
 use mathlib.Core.Bool.{true}
-use mathlib.Core.List.{List, []}
+use mathlib.Core.List.{List, [], map}
 use mathlib.Core.Path.{_≡_}
-use lib.ListN.{length}
+use lib.ListN.{length, take}
 use Rattle.commands.specs.Lent.{lent}
 use Rattle.device.specs.Commands.{otherNumber}
 use Rattle.device.specs.Machine.{command, told}
@@ -16,7 +16,7 @@ use Rattle.paper.specs.declared.Lba.{Lba}
 use Rattle.paper.specs.declared.Security.{Security}
 use Rattle.status.specs.Promises.{One-page}
 use Rattle.table.specs.Check.{verdict, good}
-use Rattle.table.specs.Elements.{live}
+use Rattle.table.specs.Elements.{live, partOf, healthOf}
 use Rattle.table.specs.declared.Checked.{Checked}
 use Rattle.table.specs.declared.Element.{Element}
 use Rattle.table.specs.declared.Found.the-variants.{Missing}
@@ -77,6 +77,8 @@ Long-list-refused =
 abbrev pub Refused-list-leaves : Type 0
 Refused-list-leaves = (d : Device) (es : List Element) (limit : ℕ) → Leaves d (madeFrom d es limit)
 
--- "then copied into the device": the elements of a new device are the records of its list
+-- "then copied into the device": the parts of a new device, and the healths at their places, are those of the records of its list
 abbrev pub Copied-whole : Type 0
-Copied-whole = (d : Device) (es : List Element) (limit : ℕ) → good (length es) es limit ≡ true → live (madeFrom d es limit .state .table) ≡ es
+Copied-whole =
+    (d : Device) (es : List Element) (limit : ℕ) → good (length es) es limit ≡ true
+    → (live (madeFrom d es limit .state .table) ≡ map partOf es) × (take (length es) (madeFrom d es limit .state .cells .healths) ≡ map healthOf es)

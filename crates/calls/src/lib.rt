@@ -27,7 +27,7 @@ use paper::Security;
 use table::Checked;
 use table::Element;
 use table::Found;
-use table::Table;
+use table::Offer;
 
 // ---- The device, changed in place
 
@@ -95,7 +95,8 @@ pub fn grade(d: &mut Device, id: ElementId, health: u8) -> Answer
     r.answer
 }
 
-// The front call, with the lent buffer.
+// The front call. The page of 12h is filled by `show` below: called from two places, the call by value would be compiled apart, and take a
+// copy of the device.
 pub fn command(
     d: &mut Device,
     security: Security,
@@ -109,8 +110,11 @@ pub fn command(
         ⌜ (said r (now (d .exit)) ≡ told (now (d .entry)) (machine.command security code feature count lba (length (now (buf .entry)))))
         × (now (buf .exit) ≡ lent (now (d .entry)) security code feature count lba (now (buf .entry))) ⌝ }
 {
-    let r = commands::command(*d, security, code, feature, count, lba, buf);
+    let r = commands::command(*d, security, code, feature, count, lba, buf.len());
     *d = r.device;
+    if code == 0x12 {
+        show(d, security, commands::asked(feature, count, lba), buf);
+    }
     r.answer
 }
 
@@ -167,12 +171,12 @@ fn copied(list: &[Element]) -> [Element; 128]
 fn check_in(elements: [Element; 128], count: usize, limit: u16) -> Checked
     ensures { λ r. ⌜ verdict r ≡ checkOf (record { elements = elements; count = count; limit = limit }) ⌝ }
 {
-    let t = Table {
+    let o = Offer {
         elements,
         count,
         limit,
     };
-    t.check()
+    o.check()
 }
 
 fn find_in(elements: [Element; 128], count: usize, id: ElementId) -> Found
@@ -181,23 +185,23 @@ fn find_in(elements: [Element; 128], count: usize, id: ElementId) -> Found
     if 128 < count {
         return Found::Missing;
     }
-    let t = Table {
+    let o = Offer {
         elements,
         count,
         limit: 0,
     };
-    t.find(id)
+    o.find(id)
 }
 
 fn make_in(there: Device, elements: [Element; 128], count: usize, limit: u16) -> Stepped
     ensures { λ r. ⌜ said (r .answer) (r .device) ≡ madeOf there (record { elements = elements; count = count; limit = limit }) ⌝ }
 {
-    let t = Table {
+    let o = Offer {
         elements,
         count,
         limit,
     };
-    device::make_device(there, t)
+    device::make_device(there, o)
 }
 
 // Whether document 01 accepts a list as a table, and then its blocks in all.

@@ -1,26 +1,23 @@
--- The front call and the judgement of the other codes: a law for each way out.
+-- Any command, and the judgement of the other codes: a law for each way out.
 use Prim.Native.Nat.{ℕ, _+_, _-_, _≤_, _<_, _^_}
 use mathlib.Core.Bool.{Bool, true, false, not, _&&_}
-use mathlib.Core.List.{List, [], _∷_}
+use mathlib.Core.List.{[], _∷_}
 use mathlib.Core.Path.{_≡_, refl, sym, ap, _∙_}
 use native.Mathlib.Nat.{mod-lt}
 use native.Mathlib.Omega.{arith}
 use lib.Dec.{ltb, lit<}
-use lib.ListN.{length}
 use borrow.Author.Tests.{eq-eqb, ne-eqb, lt-ltb, le-ltb, ltb-true, ltb-false}
 use Rattle.device.specs.Cells.{underWay, isSet}
-use Rattle.device.specs.Commands.{otherNumber, isMedia, isNamed, isOpen, sectorsOf, isBeyond, mediaNumber}
-use Rattle.device.specs.Machine.{command, told}
+use Rattle.device.specs.Commands.{statusNumber, otherNumber, isMedia, isNamed, isOpen, sectorsOf, isBeyond, mediaNumber}
+use Rattle.device.specs.Machine.{command, ruleCommand, quietNumber, told}
+use Rattle.device.specs.Rulings.{tell}
 use Rattle.device.specs.declared.Device.{Device}
-use Rattle.paper.specs.Answers.{numberOf}
+use Rattle.layout.specs.declared.Request.{Request}
 use Rattle.paper.specs.Registers.{low48}
-use Rattle.paper.specs.Told.{Told, tells, said}
-use Rattle.paper.specs.declared.Answer.{Answer}
+use Rattle.paper.specs.Told.{Told}
 use Rattle.paper.specs.declared.Lba.{Lba}
 use Rattle.paper.specs.declared.Security.{Security}
-use Rattle.status.specs.Page.{shown}
 use Rattle.words.specs.Lists.{oneOf}
-use Rattle.commands.specs.Lent.{lent}
 
 -- ## Sectors
 
@@ -57,64 +54,67 @@ pub named-other : (code : ℕ) (m : Bool) → m ≡ isMedia code → m ≡ false
     → b ≡ oneOf code (0xEC ∷ 0xE1 ∷ 0x2F ∷ 0x47 ∷ 0x0B ∷ 0xF2 ∷ 0xEF ∷ 0xB0 ∷ []) → b ≡ isNamed code
 named-other code m is-m n b is-b = is-b ∙ sym (rw (sym is-m ∙ n))
 
-module _ (d : Device) (code feature lba : ℕ) (u : Bool) (is-u : u ≡ underWay d) where
-  pub shut-busy : u ≡ true → (o : Bool) → o ≡ isOpen code feature lba → not o ≡ (underWay d && not (isOpen code feature lba))
-  shut-busy y o is-o = sym (rw (sym is-u ∙ y, sym is-o))
+module _ (busy : Bool) (code feature lba : ℕ) where
+  pub shut-busy : busy ≡ true → (o : Bool) → o ≡ isOpen code feature lba → not o ≡ (busy && not (isOpen code feature lba))
+  shut-busy y o is-o = sym (rw (y, sym is-o))
 
-  pub shut-idle : u ≡ false → false ≡ (underWay d && not (isOpen code feature lba))
-  shut-idle n = sym (rw (sym is-u ∙ n))
+  pub shut-idle : busy ≡ false → false ≡ (busy && not (isOpen code feature lba))
+  shut-idle n = sym (rw n)
 
-module _ (d : Device) (code feature count : ℕ) (lba : Lba) (s : Bool) (is-s : s ≡ (underWay d && not (isOpen code feature (lba .0)))) where
-  pub other-shut : s ≡ true → 2 ≡ otherNumber d code feature count lba
-  unfolding otherNumber
-  other-shut y = sym (rw (sym is-s ∙ y))
+-- ## What a judgement looks at of a device
 
-  module _ (unshut : s ≡ false) (n : Bool) (is-n : n ≡ isNamed code) where
-    pub other-unknown : n ≡ false → 6 ≡ otherNumber d code feature count lba
-    unfolding otherNumber
-    other-unknown e = sym (rw (sym is-s ∙ unshut, sym is-n ∙ e))
+module _ (failed : Bool) (accessible : Lba) (count : ℕ) (lba : Lba) where
+  -- of every device with this mark and this address
+  abbrev Media : ℕ → Type 0
+  Media k = (d : Device) → failed ≡ isSet (d .cells .failed) → accessible ≡ d .cells .accessible → k ≡ mediaNumber d count lba
 
-    module _ (named : n ≡ true) (m : Bool) (is-m : m ≡ isMedia code) where
-      pub other-media : m ≡ true → (k : ℕ) → k ≡ mediaNumber d count lba → k ≡ otherNumber d code feature count lba
-      unfolding otherNumber
-      other-media e k is-k = is-k ∙ sym (rw (sym is-s ∙ unshut, sym is-n ∙ named, sym is-m ∙ e))
-
-      pub other-done : m ≡ false → 0 ≡ otherNumber d code feature count lba
-      unfolding otherNumber
-      other-done e = sym (rw (sym is-s ∙ unshut, sym is-n ∙ named, sym is-m ∙ e))
-
--- ## Media access
-
-module _ (d : Device) (count : ℕ) (lba : Lba) (f : Bool) (is-f : f ≡ isSet (d .failed)) where
-  pub media-failed : f ≡ true → 3 ≡ mediaNumber d count lba
+  pub media-failed : failed ≡ true → Media 3
   unfolding mediaNumber
-  media-failed e = sym (rw (sym is-f ∙ e))
+  media-failed e d is-f is-a = sym (rw (sym is-f ∙ e))
 
-  module _ (clear : f ≡ false) (b : Bool) (is-b : b ≡ isBeyond (d .accessible .0) lba count) where
-    pub media-beyond : b ≡ true → 5 ≡ mediaNumber d count lba
+  module _ (clear : failed ≡ false) (b : Bool) (is-b : b ≡ isBeyond (accessible .0) lba count) where
+    pub media-beyond : b ≡ true → Media 5
     unfolding mediaNumber
-    media-beyond e = sym (rw (sym is-f ∙ clear, sym is-b ∙ e))
+    media-beyond e d is-f is-a = sym (rw (sym is-f ∙ clear, ← is-a, sym is-b ∙ e))
 
-    pub media-done : b ≡ false → 0 ≡ mediaNumber d count lba
+    pub media-done : b ≡ false → Media 0
     unfolding mediaNumber
-    media-done e = sym (rw (sym is-f ∙ clear, sym is-b ∙ e))
+    media-done e d is-f is-a = sym (rw (sym is-f ∙ clear, ← is-a, sym is-b ∙ e))
 
--- ## The front call
+module _ (busy failed : Bool) (accessible : Lba) (code feature count : ℕ) (lba : Lba) where
+  -- of every device with this mark and this address that is in a removal or not
+  abbrev Other : ℕ → Type 0
+  Other k = (d : Device) → busy ≡ underWay d → failed ≡ isSet (d .cells .failed) → accessible ≡ d .cells .accessible → k ≡ otherNumber d code feature count lba
 
-module _ (d : Device) (s : Security) (code feature count : ℕ) (lba : Lba) (buf : List ℕ) where
-  -- what the front call tells, and what it leaves in the buffer
-  abbrev Front : Told Device → List ℕ → Type 0
-  Front t out = (t ≡ told d (command s code feature count lba (length buf))) × (out ≡ lent d s code feature count lba buf)
+  module _ (s : Bool) (is-s : s ≡ (busy && not (isOpen code feature (lba .0)))) where
+    pub other-shut : s ≡ true → Other 2
+    unfolding otherNumber
+    other-shut y d is-u is-f is-a = sym (rw (← is-u, sym is-s ∙ y))
 
-  pub front-remove : (t : Told Device) → code ≡ 0x7C → t ≡ told d (command s 0x7C feature count lba 0) → Front t buf
-  front-remove t e q = (q ∙ sym (rw (eq-eqb _ _ e)), sym (rw e))
+    module _ (unshut : s ≡ false) (n : Bool) (is-n : n ≡ isNamed code) where
+      pub other-unknown : n ≡ false → Other 6
+      unfolding otherNumber
+      other-unknown e d is-u is-f is-a = sym (rw (← is-u, sym is-s ∙ unshut, sym is-n ∙ e))
 
-  module _ (not-remove : code ≡ 0x7C → ⊥) (a : Answer) where
-    pub front-status : code ≡ 0x12 → (out : List ℕ) → said a out ≡ shown d s (record { feature = feature; count = record { 0 = count }; lba = lba }) buf → Front (said a d) out
-    front-status e out q = (
-      ap (λ (t : Told (List ℕ)). tells (t .number) d) q ∙ sym (rw (ne-eqb _ _ not-remove, eq-eqb _ _ e)),
-      ap (λ (t : Told (List ℕ)). t .state) q ∙ sym (rw (eq-eqb _ _ e)),
-    )
+      module _ (named : n ≡ true) (m : Bool) (is-m : m ≡ isMedia code) where
+        pub other-media : m ≡ true → (k : ℕ) → Media failed accessible count lba k → Other k
+        unfolding otherNumber
+        other-media e k is-k d is-u is-f is-a = is-k d is-f is-a ∙ sym (rw (← is-u, sym is-s ∙ unshut, sym is-n ∙ named, sym is-m ∙ e))
 
-    pub front-other : (code ≡ 0x12 → ⊥) → numberOf a ≡ otherNumber d code feature count lba → Front (said a d) buf
-    front-other n q = (ap (λ (k : ℕ). tells k d) q ∙ sym (rw (ne-eqb _ _ not-remove, ne-eqb _ _ n)), sym (rw (ne-eqb _ _ n)))
+        pub other-done : m ≡ false → Other 0
+        unfolding otherNumber
+        other-done e d is-u is-f is-a = sym (rw (← is-u, sym is-s ∙ unshut, sym is-n ∙ named, sym is-m ∙ e))
+
+-- ## Any command
+
+module _ (d : Device) (s : Security) (code feature count : ℕ) (lba : Lba) (room k : ℕ) where
+  pub quiet-status : code ≡ 0x12 → (w : Request) → w ≡ record { feature = feature; count = record { 0 = count }; lba = lba }
+      → k ≡ statusNumber s w room → k ≡ quietNumber d s code feature count lba room
+  quiet-status e w is-w is-k = is-k ∙ ap (λ (x : Request). statusNumber s x room) is-w ∙ sym (rw (eq-eqb _ _ e))
+
+  pub quiet-other : (code ≡ 0x12 → ⊥) → k ≡ otherNumber d code feature count lba → k ≡ quietNumber d s code feature count lba room
+  quiet-other n is-k = is-k ∙ sym (rw (ne-eqb _ _ n))
+
+  pub commanded : (t : Told Device) → t ≡ tell d (ruleCommand d s code feature count lba k) → k ≡ quietNumber d s code feature count lba room
+      → t ≡ told d (command s code feature count lba room)
+  commanded t is-t is-k = is-t ∙ ap (λ (n : ℕ). tell d (ruleCommand d s code feature count lba n)) is-k

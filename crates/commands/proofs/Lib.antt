@@ -1,4 +1,4 @@
--- What is proved of the front call.
+-- What is proved of any command.
 
 pub mod Judgement
 pub mod Open

@@ -1,4 +1,4 @@
--- What a command leaves in the lent buffer: 12h what it shows, any other every byte as it was.
+-- What a command leaves in the lent buffer, as `calls::command` promises it: 12h what it shows, any other every byte as it was.
 use Prim.Native.Nat.{ℕ}
 use mathlib.Core.Bool.{cond}
 use mathlib.Core.List.{List}

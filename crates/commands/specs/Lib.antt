@@ -1,4 +1,4 @@
--- The table of what is open during a removal, and what holds of the front call.
+-- The table of what is open during a removal, and what holds of every code.
 
 pub mod Lent
 pub mod Open

@@ -1,16 +1,14 @@
-// The front call: any command code, with the security state, the registers and the lent buffer.
+// Any command code, by value: the security state, the registers, and the length of the lent buffer.
 ghost use mathlib.Core.Path.{_≡_};
 ghost use mathlib.Core.Bool.{not, _&&_};
 ghost use Prim.Native.Nat.{_≤_};
-ghost use lib.ListN.{length};
 ghost use Rattle.paper.specs.Answers.{numberOf};
 ghost use Rattle.words.specs.Lists.{oneOf};
 ghost use Rattle.paper.specs.Told.{said};
-ghost use Rattle.device.specs.Cells.{underWay};
+ghost use Rattle.device.specs.Cells.{underWay, isSet};
 ghost use Rattle.device.specs.Commands.{otherNumber, isMedia, isNamed, isOpen, sectorsOf, isBeyond, mediaNumber};
 ghost use Rattle.device.specs.Machine as machine;
 ghost use Rattle.device.specs.Machine.{told};
-ghost use Rattle.commands.specs.Lent.{lent};
 ghost use Rattle.commands.specs.Open.{hasRest, rowFits};
 use device::Device;
 use device::Stepped;
@@ -113,10 +111,10 @@ fn is_named(code: u8) -> bool
 }
 
 // Whether a removal is under way that the command must wait for.
-fn is_shut(d: Device, code: u8, feature: u16, lba: u64) -> bool
-    ensures { λ r. ⌜ r ≡ (underWay d && not (isOpen code feature lba)) ⌝ }
+fn is_shut(busy: bool, code: u8, feature: u16, lba: u64) -> bool
+    ensures { λ r. ⌜ r ≡ (busy && not (isOpen code feature lba)) ⌝ }
 {
-    if d.is_under_way() {
+    if busy {
         return !is_open(code, feature, lba);
     }
     false
@@ -138,36 +136,91 @@ fn is_beyond(accessible: Lba, lba: Lba, count: u16) -> bool
     accessible.0 < last
 }
 
-fn media_answer(d: Device, count: u16, lba: Lba) -> Answer
-    ensures { λ r. ⌜ numberOf r ≡ mediaNumber d count lba ⌝ }
+fn media_answer(failed: bool, accessible: Lba, count: u16, lba: Lba) -> Answer
+    ensures { λ r.
+        ⌜ ((d : Device) → failed ≡ isSet (d .cells .failed) → accessible ≡ d .cells .accessible → numberOf r ≡ mediaNumber d count lba) ⌝ }
 {
-    if d.is_failed() {
+    if failed {
         return Answer::Failed;
     }
-    let accessible = d.accessible;
     if is_beyond(accessible, lba, count) {
         return Answer::BeyondMax;
     }
     Answer::Done
 }
 
-// The judgement of a code that has no rules of its own.
-pub fn other_answer(d: Device, code: u8, feature: u16, count: u16, lba: Lba) -> Answer
-    ensures { λ r. ⌜ numberOf r ≡ otherNumber d code feature count lba ⌝ }
+// The judgement of a code that has no rules of its own, over what it looks at of a device.
+fn judge(
+    busy: bool,
+    failed: bool,
+    accessible: Lba,
+    code: u8,
+    feature: u16,
+    count: u16,
+    lba: Lba,
+) -> Answer
+    ensures { λ r.
+        ⌜ ((d : Device) → busy ≡ underWay d → failed ≡ isSet (d .cells .failed) → accessible ≡ d .cells .accessible
+        → numberOf r ≡ otherNumber d code feature count lba) ⌝ }
 {
-    if is_shut(d, code, feature, lba.0) {
+    if is_shut(busy, code, feature, lba.0) {
         return Answer::InProgress;
     }
     if !is_named(code) {
         return Answer::UnknownCommand;
     }
     if is_media(code) {
-        return media_answer(d, count, lba);
+        return media_answer(failed, accessible, count, lba);
     }
     Answer::Done
 }
 
-// Any command.
+// The same of a device.
+pub fn other_answer(d: Device, code: u8, feature: u16, count: u16, lba: Lba) -> Answer
+    ensures { λ r. ⌜ numberOf r ≡ otherNumber d code feature count lba ⌝ }
+{
+    let busy = d.is_under_way();
+    let failed = d.is_failed();
+    let cells = d.cells;
+    let accessible = cells.accessible;
+    judge(busy, failed, accessible, code, feature, count, lba)
+}
+
+// What 12h asks for.
+pub fn asked(feature: u16, count: u16, lba: Lba) -> Request
+    ensures { λ r. ⌜ r ≡ record { feature = feature; count = record { 0 = count }; lba = lba } ⌝ }
+{
+    Request {
+        feature,
+        count: PageCount(count),
+        lba,
+    }
+}
+
+// What a code that changes nothing is answered; 12h has rules of its own. It is asked of 7Ch too, whose ruling does not need it.
+// `other_answer`, called from a second place, would be compiled apart and copy the device.
+fn quiet_answer(
+    d: Device,
+    security: Security,
+    code: u8,
+    feature: u16,
+    count: u16,
+    lba: Lba,
+    room: usize,
+) -> Answer
+    ensures { λ r. ⌜ numberOf r ≡ machine.quietNumber d security code feature count lba room ⌝ }
+{
+    if code == 0x12 {
+        return status::judge(security, asked(feature, count, lba), room);
+    }
+    let busy = d.is_under_way();
+    let failed = d.is_failed();
+    let cells = d.cells;
+    let accessible = cells.accessible;
+    judge(busy, failed, accessible, code, feature, count, lba)
+}
+
+// Any command, with the length of the lent buffer. It fills no page: of 12h that is left to `status::show`.
 pub fn command(
     d: Device,
     security: Security,
@@ -175,24 +228,10 @@ pub fn command(
     feature: u16,
     count: u16,
     lba: Lba,
-    buf: &mut [u8],
+    room: usize,
 ) -> Stepped
-    ensures { λ r.
-        ⌜ (said (r .answer) (r .device) ≡ told d (machine.command security code feature count lba (length (now (buf .entry)))))
-        × (now (buf .exit) ≡ lent d security code feature count lba (now (buf .entry))) ⌝ }
+    ensures { λ r. ⌜ said (r .answer) (r .device) ≡ told d (machine.command security code feature count lba room) ⌝ }
 {
-    if code == 0x7C {
-        return d.remove(security, feature, count, lba);
-    }
-    if code == 0x12 {
-        let request = Request {
-            feature,
-            count: PageCount(count),
-            lba,
-        };
-        let answer = status::show(d, security, request, buf);
-        return Stepped { answer, device: d };
-    }
-    let answer = other_answer(d, code, feature, count, lba);
-    Stepped { answer, device: d }
+    let other = quiet_answer(d, security, code, feature, count, lba, room);
+    d.command(security, code, feature, count, lba, other)
 }

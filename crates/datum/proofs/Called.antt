@@ -1,6 +1,7 @@
--- A call within a walk. `calls-promised` is for any function with a promise; `calls-value`, `calls-filling` and `calls-reading` are for one
--- that takes data by value, one that fills a lent buffer besides, its last parameter, and one that reads a lent list. The caller has the
--- facts of the data that it passes, and afterwards the callee's promise of the result, and the result's facts.
+-- A call within a walk. `calls-promised` is for any function with a promise; `calls-value`, `calls-filling`, `calls-showing` and
+-- `calls-reading` are for one that takes data by value, one that fills a lent buffer besides, its last parameter, one that reads a lent
+-- value for it, its first, and one that reads a lent list. The caller has the facts of the data that it passes, and afterwards the callee's
+-- promise of the result, and the result's facts.
 use Prim.Native.Nat.{ℕ}
 use mathlib.Core.List.{List, [], _∷_}
 use mathlib.Core.Path.{_≡_, refl}
@@ -14,31 +15,51 @@ use prog.Wp.{Heap, Env, Calls, Loops}
 use ghost.Atoms.{Atoms, sem}
 use sound.WpLaws.{FmC}
 use contract.Lifetimes.{Lfts, Shares, toks}
-use contract.Monad.{fact as holds}
-use types.Kit.{Given, Item, ‵, raw, _⊛_, some, later, mean, Post, Goal, Seq, Step, step, runs, lands, _$_, _∵_, !, qed, move, drop, use1, split, join, pick, regoal, fsplit, fjoin, feqL, frame, await, done}
+use contract.Monad.{Fun, fact as holds}
+use types.Kit.{Given, Item, ‵, raw, _⊛_, some, later, mean, Post, Goal, Soaks, Seq, Step, step, runs, lands, settles, _$_, _∵_, !, qed, move, drop, use1, split, join, group, pick, regoal, fsplit, fjoin, feqL, frame, await, done}
 use types.Run.{Opds}
 use denote.Builtin.{u8}
 use denote.Laws.{Is, shows}
 use denote.Ref.{RefT, now, name}
-use denote.Slice.{MutSlice, ShrSlice, slice-vals, shr-slice-copy, finally}
+use denote.Slice.{ShrSlice, slice-vals, shr-slice-copy, finally}
 use denote.Steps.{heard, facts, nothing}
-use denote.Triple.Call.{calls-from}
+use denote.Triple.Call.{calls-from, calls-from-last}
 use denote.Triple.Statement.{Contract, Triple}
 use Rattle.datum.proofs.Datum.{Datum, Denot, Fact, fact, is-val}
-use Rattle.datum.proofs.Parameters.{Params, Args, Lasts, Exits, Values, Facts, none, _▹_, values, listing, filling, args, given, others, others-out, others-last, given-args, others-args, out-last, flats, Owns, Leaves, exits, all-own, others-left}
+use Rattle.datum.proofs.Lent.{ref-own, lent, buffer-own}
+use Rattle.datum.proofs.Parameters.{Params, Args, Lasts, Exits, Values, Facts, none, _▹_, values, reading, listing, filling, args, given, others, others-out, others-last, given-args, others-args, out-last, flats, Owns, Leaves, exits, all-own, others-left}
 use Rattle.datum.proofs.Promise.{tokens, tokens-out, Promise, Ensures, bound}
 
 -- ## Any function with a promise
 
 module _ {n : ℕ} (p : Params n) (R : Datum) (P : (κs : Lfts n) → Args p κs → Exits p κs → Denot R → Type 0) {M : Type 1} (𝓤 : URA M) (H : Heap 𝓤)
     (A : Atoms 𝓤) (κs : Lfts n) (qs : Shares n) (a : Args p κs) where
-  enters : Given 𝓤 H A → (i : Item 𝓤) → ent 𝓤 (mean 𝓤 H A i) (sep 𝓤 (toks 𝓤 A n κs qs) (sem 𝓤 H A (Owns p κs a)))
-      → ent 𝓤 (mean 𝓤 H A i) (Promise p R P 𝓤 H A .pre (bound p R P 𝓤 H A κs qs a))
-  enters W i gives = qed W (i ∷ []) ∵ use1 W (raw (toks 𝓤 A n κs qs) ⊛ ‵ (Owns p κs a)) gives $ frame ! $ done !
+  -- the entry i has the tokens and what the parameters own, and so what the callee asks
+  enters : Given 𝓤 H A → (run : Fun 𝓤) → Triple 𝓤 run (Promise p R P 𝓤 H A)
+      → (i : Item 𝓤) → ent 𝓤 (mean 𝓤 H A i) (sep 𝓤 (toks 𝓤 A n κs qs) (sem 𝓤 H A (Owns p κs a)))
+      → ent 𝓤 (mean 𝓤 H A i) (run (flats p κs a) (Promise p R P 𝓤 H A .post (bound p R P 𝓤 H A κs qs a)))
+  enters W run met i gives =
+      via 𝓤 (Promise p R P 𝓤 H A .pre (bound p R P 𝓤 H A κs qs a))
+      (qed W (i ∷ []) ∵ use1 W (raw (toks 𝓤 A n κs qs) ⊛ ‵ (Owns p κs a)) gives $ frame ! $ done !) (met (bound p R P 𝓤 H A κs qs a))
+
+module _ {M : Type 1} {𝓤 : URA M} {H : Heap 𝓤} {A : Atoms 𝓤} {K : Type 0} {W : Given 𝓤 H A} {Γ : List (Item 𝓤)} where
+  -- once it has returned, the caller goes on with what it left
+  hears : K → {n : ℕ} (p : Params n) (R : Datum) (P : (κs : Lfts n) → Args p κs → Exits p κs → Denot R → Type 0)
+      → (κs : Lfts n) (qs : Shares n) (a : Args p κs) (after : Val → Goal 𝓤 H) → ((v : Val) → Soaks (after v))
+      → ((r : Denot R) (w : Lasts p κs a) → P κs a (exits p κs a w) r → Fact R r
+      → Seq K W (tokens 𝓤 n κs qs ∷ ‵ (Leaves p κs a w) ∷ Γ) (after (R .val r)))
+      → (v : Val) → Seq K W (raw (Promise p R P 𝓤 H A .post (bound p R P 𝓤 H A κs qs a) v) ∷ Γ) (after v)
+  hears t {n} p R P κs qs a after soaks k v =
+      use1 W (later (some (λ (r : Denot R). (raw (toks 𝓤 A n κs qs) ⊛ ‵ (R .row .own r (v ∷ []))) ⊛ raw (Ensures p R P 𝓤 H A κs a r)))) (id⊢ 𝓤 _) $
+      await t (soaks v) $ pick t (λ r. split t $ move t (1 ∷ []) $
+      use1 W (some (λ (w : Lasts p κs a). ‵ (Leaves p κs a w) ⊛ raw (holds 𝓤 (P κs a (exits p κs a w) r)))) (id⊢ 𝓤 _) $ pick t (λ w. split t $
+      move t (1 ∷ []) $ heard t (P κs a (exits p κs a w) r) (λ e.
+      move t (1 ∷ []) $ split t $ use1 W (tokens 𝓤 n κs qs) (tokens-out 𝓤 H A n κs qs) $ move t (1 ∷ []) $
+      facts t (R .row) (Is (R .row)) (shows 𝓤 H A (R .row)) r (v ∷ []) (λ is. regoal t after (is-val R r v is) refl $ k r w e (fact R r v is)))))
 
 module _ {M : Type 1} {𝓤 : URA M} {H : Heap 𝓤} {A : Atoms 𝓤} {K : Type 0} {W : Given 𝓤 H A} {Γ : List (Item 𝓤)} {E : Env 𝓤 H} {C : Calls 𝓤 H}
     {Λ : Loops 𝓤 H} {q : Post 𝓤 H} {g : Name} {os : List Operand} {d : Place} {rest : Body} where
-  -- the entry i has the tokens and what the parameters own; the operands are read while it is there
+  -- the operands are read while the entry i is there
   calls-promised : K → FmC 𝓤 H (W .laws) C → {n : ℕ} (p : Params n) (R : Datum) (P : (κs : Lfts n) → Args p κs → Exits p κs → Denot R → Type 0)
       → Triple 𝓤 (C g) (Promise p R P 𝓤 H A)
       → (κs : Lfts n) (qs : Shares n) (a : Args p κs) (i : Item 𝓤) → ent 𝓤 (mean 𝓤 H A i) (sep 𝓤 (toks 𝓤 A n κs qs) (sem 𝓤 H A (Owns p κs a)))
@@ -46,50 +67,64 @@ module _ {M : Type 1} {𝓤 : URA M} {H : Heap 𝓤} {A : Atoms 𝓤} {K : Type 
       → ((r : Denot R) (w : Lasts p κs a) → P κs a (exits p κs a w) r → Fact R r
       → Seq K W (tokens 𝓤 n κs qs ∷ ‵ (Leaves p κs a w) ∷ Γ) (lands C Λ E d (R .val r) rest q))
       → Seq K W (i ∷ Γ) (runs C Λ E (seq (call g os d) rest) q)
-  calls-promised t fm {n} p R P met κs qs a i gives reads k =
-      calls-from t fm i (flats p κs a) (Promise p R P 𝓤 H A .post (bound p R P 𝓤 H A κs qs a))
-      (via 𝓤 (Promise p R P 𝓤 H A .pre (bound p R P 𝓤 H A κs qs a)) (enters p R P 𝓤 H A κs qs a W i gives) (met (bound p R P 𝓤 H A κs qs a))) reads
-      (λ v.
-      use1 W (later (some (λ (r : Denot R). (raw (toks 𝓤 A n κs qs) ⊛ ‵ (R .row .own r (v ∷ []))) ⊛ raw (Ensures p R P 𝓤 H A κs a r)))) (id⊢ 𝓤 _) $
-      await t tt $ pick t (λ r. split t $ move t (1 ∷ []) $
-      use1 W (some (λ (w : Lasts p κs a). ‵ (Leaves p κs a w) ⊛ raw (holds 𝓤 (P κs a (exits p κs a w) r)))) (id⊢ 𝓤 _) $ pick t (λ w. split t $
-      move t (1 ∷ []) $ heard t (P κs a (exits p κs a w) r) (λ e.
-      move t (1 ∷ []) $ split t $ use1 W (tokens 𝓤 n κs qs) (tokens-out 𝓤 H A n κs qs) $ move t (1 ∷ []) $
-      facts t (R .row) (Is (R .row)) (shows 𝓤 H A (R .row)) r (v ∷ []) (λ is.
-      regoal t (λ (u : Val). lands C Λ E d u rest q) (is-val R r v is) refl $ k r w e (fact R r v is))))))
+  calls-promised t fm p R P met κs qs a i gives reads k =
+      calls-from t fm i (flats p κs a) (Promise p R P 𝓤 H A .post (bound p R P 𝓤 H A κs qs a)) (enters p R P 𝓤 H A κs qs a W (C g) met i gives) reads
+      (hears t p R P κs qs a (λ (v : Val). lands C Λ E d v rest q) (λ v. tt) k)
 
--- ## Data by value
+-- ## Data by value, and more data after it
 
-abbrev valued : List Datum → Params 0
-valued Ds = values Ds none
+abbrev valued : List Datum → List Datum → Params 0
+valued Ds Es = values Ds (values Es none)
 
-abbrev passed : (Ds : List Datum) → Values Ds → Args (valued Ds) tt
-passed Ds x = args none tt Ds x tt
+abbrev passed : (Ds Es : List Datum) → Values Ds → Values Es → Args (valued Ds Es) tt
+passed Ds Es x y = args (values Es none) tt Ds x (args none tt Es y tt)
 
-module _ (Ds : List Datum) (R : Datum) (P : Values Ds → Denot R → Type 0) where
-  abbrev Tells : (κs : Lfts 0) → Args (valued Ds) κs → Exits (valued Ds) κs → Denot R → Type 0
-  Tells κs a e r = P (given none κs Ds a) r
+module _ (Ds Es : List Datum) (R : Datum) (P : Values Ds → Values Es → Denot R → Type 0) where
+  abbrev Tells : (κs : Lfts 0) → Args (valued Ds Es) κs → Exits (valued Ds Es) κs → Denot R → Type 0
+  Tells κs a e r = P (given (values Es none) κs Ds a) (given none κs Es (others (values Es none) κs Ds a)) r
 
-  abbrev pub Valued : {M : Type 1} (𝓤 : URA M) (H : Heap 𝓤) (A : Atoms 𝓤) → Contract 𝓤
-  Valued 𝓤 H A = Promise (valued Ds) R Tells 𝓤 H A
+  abbrev pub Valued-two : {M : Type 1} (𝓤 : URA M) (H : Heap 𝓤) (A : Atoms 𝓤) → Contract 𝓤
+  Valued-two 𝓤 H A = Promise (valued Ds Es) R Tells 𝓤 H A
 
-  tells : (x : Values Ds) (r : Denot R) → P (given none tt Ds (passed Ds x)) r → P x r
-  tells x r e = rw (given-args {n = 0} none tt Ds x tt) at e
+  module _ (x : Values Ds) (y : Values Es) where
+    tells : (r : Denot R)
+        → P (given (values Es none) tt Ds (passed Ds Es x y)) (given none tt Es (others (values Es none) tt Ds (passed Ds Es x y))) r → P x y r
+    tells r e =
+        rw (
+          given-args {n = 0} (values Es none) tt Ds x (args none tt Es y tt),
+          others-args {n = 0} (values Es none) tt Ds x (args none tt Es y tt),
+          given-args {n = 0} none tt Es y tt,
+        ) at e
 
-  value-pre : {M : Type 1} (𝓤 : URA M) (H : Heap 𝓤) (A : Atoms 𝓤) (W : Given 𝓤 H A) (x : Values Ds) → Facts Ds x
-      → ent 𝓤 (sem 𝓤 H A ftrue) (sep 𝓤 (toks 𝓤 A 0 tt tt) (sem 𝓤 H A (Owns (valued Ds) tt (passed Ds x))))
-  value-pre 𝓤 H A W x fs =
-      qed W (‵ ftrue ∷ []) ∵ use1 W (‵ (Owns (valued Ds) tt (passed Ds x))) (all-own none tt 𝓤 H A W Ds x tt fs) $ nothing ! $ frame ! $ done !
+    value-pre : {M : Type 1} (𝓤 : URA M) (H : Heap 𝓤) (A : Atoms 𝓤) (W : Given 𝓤 H A) → Facts Ds x → Facts Es y
+        → ent 𝓤 (sem 𝓤 H A ftrue) (sep 𝓤 (toks 𝓤 A 0 tt tt) (sem 𝓤 H A (Owns (valued Ds Es) tt (passed Ds Es x y))))
+    value-pre 𝓤 H A W fs gs =
+        qed W (‵ ftrue ∷ []) ∵ use1 W (‵ (Owns (values Es none) tt (args none tt Es y tt))) (all-own none tt 𝓤 H A W Es y tt gs) $
+        use1 W (‵ (Owns (valued Ds Es) tt (passed Ds Es x y))) (all-own (values Es none) tt 𝓤 H A W Ds x (args none tt Es y tt) fs) $
+        nothing ! $ frame ! $ done !
 
 module _ {M : Type 1} {𝓤 : URA M} {H : Heap 𝓤} {A : Atoms 𝓤} {K : Type 0} {W : Given 𝓤 H A} {Γ : List (Item 𝓤)} {E : Env 𝓤 H} {C : Calls 𝓤 H}
     {Λ : Loops 𝓤 H} {q : Post 𝓤 H} {g : Name} {os : List Operand} {d : Place} {rest : Body} where
   -- the operands are read with one entry more at the head of the context
+  pub calls-value-two : K → FmC 𝓤 H (W .laws) C → (Ds Es : List Datum) (R : Datum) (P : Values Ds → Values Es → Denot R → Type 0)
+      → Triple 𝓤 (C g) (Valued-two Ds Es R P 𝓤 H A)
+      → (x : Values Ds) → Facts Ds x → (y : Values Es) → Facts Es y → Opds K W (‵ ftrue ∷ Γ) E os (flats (valued Ds Es) tt (passed Ds Es x y))
+      → ((r : Denot R) → P x y r → Fact R r → Seq K W Γ (lands C Λ E d (R .val r) rest q)) → Seq K W Γ (runs C Λ E (seq (call g os d) rest) q)
+  calls-value-two t fm Ds Es R P met x fs y gs reads k =
+      nothing t $ calls-promised t fm (valued Ds Es) R (Tells Ds Es R P) met tt tt (passed Ds Es x y) (‵ ftrue) (value-pre Ds Es R P x y 𝓤 H A W fs gs) reads
+      (λ r w e is. drop t $ drop t $ k r (tells Ds Es R P x y r e) is)
+
+-- no more data
+module _ (Ds : List Datum) (R : Datum) (P : Values Ds → Denot R → Type 0) where
+  abbrev pub Valued : {M : Type 1} (𝓤 : URA M) (H : Heap 𝓤) (A : Atoms 𝓤) → Contract 𝓤
+  Valued 𝓤 H A = Valued-two Ds [] R (λ x y. P x) 𝓤 H A
+
+module _ {M : Type 1} {𝓤 : URA M} {H : Heap 𝓤} {A : Atoms 𝓤} {K : Type 0} {W : Given 𝓤 H A} {Γ : List (Item 𝓤)} {E : Env 𝓤 H} {C : Calls 𝓤 H}
+    {Λ : Loops 𝓤 H} {q : Post 𝓤 H} {g : Name} {os : List Operand} {d : Place} {rest : Body} where
   pub calls-value : K → FmC 𝓤 H (W .laws) C → (Ds : List Datum) (R : Datum) (P : Values Ds → Denot R → Type 0) → Triple 𝓤 (C g) (Valued Ds R P 𝓤 H A)
-      → (x : Values Ds) → Facts Ds x → Opds K W (‵ ftrue ∷ Γ) E os (flats (valued Ds) tt (passed Ds x))
+      → (x : Values Ds) → Facts Ds x → Opds K W (‵ ftrue ∷ Γ) E os (flats (valued Ds []) tt (passed Ds [] x tt))
       → ((r : Denot R) → P x r → Fact R r → Seq K W Γ (lands C Λ E d (R .val r) rest q)) → Seq K W Γ (runs C Λ E (seq (call g os d) rest) q)
-  calls-value t fm Ds R P met x fs reads k =
-      nothing t $ calls-promised t fm (valued Ds) R (Tells Ds R P) met tt tt (passed Ds x) (‵ ftrue) (value-pre Ds R P 𝓤 H A W x fs) reads
-      (λ r w e is. drop t $ drop t $ k r (tells Ds R P x r e) is)
+  calls-value t fm Ds R P met x fs = calls-value-two t fm Ds [] R (λ x y. P x) met x fs tt tt
 
 -- ## A lent buffer after the data
 
@@ -98,9 +133,6 @@ buffer = filling 0 tt ▹ none
 
 abbrev with-buffer : List Datum → Params 1
 with-buffer Ds = values Ds buffer
-
-abbrev pub buffer-own : Lft → RefT (List ℕ) → Fml
-buffer-own κ y = MutSlice (named 0) κ u8 .own y (slice-vals y)
 
 -- P: of the data, the bytes before, the result, the bytes after
 module _ (Ds : List Datum) (R : Datum) (P : Values Ds → List ℕ → Denot R → List ℕ → Type 0) where
@@ -149,6 +181,63 @@ module _ {M : Type 1} {𝓤 : URA M} {H : Heap 𝓤} {A : Atoms 𝓤} {K : Type 
       (others-left buffer (κ, tt) 𝓤 H A W Ds x (y, tt) w) $
       fsplit t $ fsplit t $ move t (1 ∷ []) $ feqL t (λ l. move t (2 ∷ []) $ split t $ move t (1 ∷ 3 ∷ 2 ∷ 0 ∷ []) $ drop t $ drop t $
       k r (last-bytes Ds R P x κ y w) (tells-with Ds R P x κ y r w e) l is))
+
+-- ## A lent value before the data, and a lent buffer after it
+
+-- what the two own, each with its lifetime's token
+abbrev both-own : {M : Type 1} {𝓤 : URA M} (D : Datum) → Lfts 2 → Shares 2 → RefT (Denot D) → RefT (List ℕ) → Item 𝓤
+both-own D κs qs y z = ‵ (ref-own D (κs .0) y) ⊛ ‵ (flft (κs .0) (qs .0)) ⊛ ‵ (buffer-own (κs .1 .0) z) ⊛ ‵ (flft (κs .1 .0) (qs .1 .0))
+
+-- P: of the value, the data, the bytes before, the result, the bytes after
+module _ (D : Datum) (Ds : List Datum) (R : Datum) (P : Denot D → Values Ds → List ℕ → Denot R → List ℕ → Type 0) where
+  abbrev showing : Params 2
+  showing = reading D 0 tt ▹ values Ds lent
+
+  abbrev Tells-shown : (κs : Lfts 2) → Args showing κs → Exits showing κs → Denot R → Type 0
+  Tells-shown κs a e r =
+      P (now (a .0)) (given lent κs Ds (a .1)) (now (others lent κs Ds (a .1) .0)) r (now (others-out lent κs Ds (e .1) .0))
+
+  abbrev pub Showing : {M : Type 1} (𝓤 : URA M) (H : Heap 𝓤) (A : Atoms 𝓤) → Contract 𝓤
+  Showing 𝓤 H A = Promise showing R Tells-shown 𝓤 H A
+
+  module _ (x : Values Ds) (κs : Lfts 2) (y : RefT (Denot D)) (z : RefT (List ℕ)) where
+    abbrev passed-shown : Args showing κs
+    passed-shown = (y, args lent κs Ds x (z, tt))
+
+    abbrev last-shown : Lasts showing κs passed-shown → List ℕ
+    last-shown w = others-last lent κs Ds x (z, tt) (w .1) .0
+
+    tells-shown : (r : Denot R) (w : Lasts showing κs passed-shown)
+        → Tells-shown κs passed-shown (exits showing κs passed-shown w) r → P (now y) x (now z) r (last-shown w)
+    tells-shown r w e = rw (given-args lent κs Ds x (z, tt), others-args lent κs Ds x (z, tt), out-last lent κs Ds x (z, tt) (w .1)) at e
+
+    showing-pre : {M : Type 1} (𝓤 : URA M) (H : Heap 𝓤) (A : Atoms 𝓤) (W : Given 𝓤 H A) (qs : Shares 2) → Facts Ds x
+        → ent 𝓤 (mean 𝓤 H A (both-own D κs qs y z))
+        (sep 𝓤 (toks 𝓤 A 2 κs qs) (sem 𝓤 H A (Owns showing κs passed-shown)))
+    showing-pre 𝓤 H A W qs fs =
+        qed W (‵ (ref-own D (κs .0) y) ∷ ‵ (flft (κs .0) (qs .0)) ∷ ‵ (buffer-own (κs .1 .0) z) ∷ ‵ (flft (κs .1 .0) (qs .1 .0)) ∷ []) ∵
+        nothing ! $ move ! (3 ∷ 0 ∷ []) $ fjoin ! $ use1 W (‵ (Owns (values Ds lent) κs (args lent κs Ds x (z, tt)))) (all-own lent κs 𝓤 H A W Ds x (z, tt) fs) $
+        move ! (1 ∷ 0 ∷ []) $ fjoin ! $ nothing ! $ move ! (2 ∷ 3 ∷ 0 ∷ []) $ group ! 3 $ frame ! $ done !
+
+module _ {M : Type 1} {𝓤 : URA M} {H : Heap 𝓤} {A : Atoms 𝓤} {K : Type 0} {W : Given 𝓤 H A} {Γ : List (Item 𝓤)} {E : Env 𝓤 H} {C : Calls 𝓤 H}
+    {Λ : Loops 𝓤 H} {q : Post 𝓤 H} {g : Name} {os : List Operand} {d : Place} where
+  -- as `calls-filling`, of a call that is the last statement of its part; the operands are read with the first four entries as one
+  pub calls-showing : K → FmC 𝓤 H (W .laws) C → (D : Datum) (Ds : List Datum) (R : Datum) (P : Denot D → Values Ds → List ℕ → Denot R → List ℕ → Type 0)
+      → Triple 𝓤 (C g) (Showing D Ds R P 𝓤 H A) → (x : Values Ds) → Facts Ds x → (κs : Lfts 2) (qs : Shares 2) {y : RefT (Denot D)} {z : RefT (List ℕ)}
+      → Opds K W (both-own D κs qs y z ∷ Γ) E os (flats (showing D Ds R P) κs (passed-shown D Ds R P x κs y z))
+      → ((r : Denot R) (zs : List ℕ) → P (now y) x (now z) r zs → length zs ≡ length (now z) → Fact R r
+      → Seq K W (‵ (finally u8 (name z) zs) ∷ ‵ (flft (κs .0) (qs .0)) ∷ ‵ (flft (κs .1 .0) (qs .1 .0)) ∷ Γ) (settles E d (R .val r) q))
+      → Seq K W (‵ (ref-own D (κs .0) y) ∷ ‵ (flft (κs .0) (qs .0)) ∷ ‵ (buffer-own (κs .1 .0) z) ∷ ‵ (flft (κs .1 .0) (qs .1 .0)) ∷ Γ)
+      (runs C Λ E (call g os d) q)
+  calls-showing t fm D Ds R P met x fs κs qs {y} {z} reads k =
+      group t 4 $ calls-from-last t fm (both-own D κs qs y z) (flats (showing D Ds R P) κs (passed-shown D Ds R P x κs y z)) _
+      (enters (showing D Ds R P) R (Tells-shown D Ds R P) 𝓤 H A κs qs (passed-shown D Ds R P x κs y z) W (C g) met (both-own D κs qs y z)
+      (showing-pre D Ds R P x κs y z 𝓤 H A W qs fs)) reads
+      (hears t (showing D Ds R P) R (Tells-shown D Ds R P) κs qs (passed-shown D Ds R P x κs y z) (λ (v : Val). settles E d v q) (λ v. tt) (λ r w e is.
+      move t (1 ∷ []) $ fsplit t $ drop t $ use1 W (‵ (Leaves lent κs (z, tt) (others-last lent κs Ds x (z, tt) (w .1))))
+      (others-left lent κs 𝓤 H A W Ds x (z, tt) (w .1)) $
+      fsplit t $ fsplit t $ move t (1 ∷ []) $ feqL t (λ l. move t (2 ∷ []) $ split t $ move t (1 ∷ []) $ split t $
+      move t (1 ∷ 4 ∷ 3 ∷ 2 ∷ 0 ∷ []) $ drop t $ drop t $ k r (last-shown D Ds R P x κs y z w) (tells-shown D Ds R P x κs y z r w e) l is)))
 
 -- ## A lent list
 

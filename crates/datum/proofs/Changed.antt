@@ -26,7 +26,7 @@ use Rattle.datum.proofs.Locals.{var, locals, after, up, copies, beyond,
 use Rattle.datum.proofs.Parameters.{Param, Values, Facts, none, changing}
 use Rattle.datum.proofs.Thin.{Promised, Thin-walk, begins, finishes, Thin, thin}
 
-module _ (D B : Datum) (S : Handed B D) (Ds : List Datum) where
+module _ (D B : Datum) (S : Handed D B) (Ds : List Datum) where
   abbrev first : Param 1
   first = changing D 0 tt
 
@@ -69,10 +69,10 @@ module _ (D B : Datum) (S : Handed B D) (Ds : List Datum) where
           calls-value ! fm (D ∷ Ds) (S .both) By-value met (now y, x) (was, fs)
           (and-then ! (load ! (from-at ! (at 1) (stop !)) (look ! 6 refl)) (reads-all none tt tt (no-more !) ! 5 Ds bs x 2 (tail l₂ l₃) refl refl))
           (λ r e is.
-          hands-back ! B D S r (y .ptr .0) (y .ptr .1) is refl refl (at 0) 7 5 3 refl refl refl refl $
+          hands-back ! D B S r (y .ptr .0) (y .ptr .1) is refl refl (at 0) 7 5 3 refl refl refl refl $
           returns ! (look ! 10 refl) $ move ! (10 ∷ 11 ∷ []) $ free-cell ! $ move ! (8 ∷ 9 ∷ []) $ free-cell ! $ move ! (3 ∷ []) $
           free-all ! Ds bs x (move ! (5 ∷ 6 ∷ []) $ free-cell ! $ move ! (3 ∷ 4 ∷ []) $ free-cell ! $ free0 ! $
-          suffices ! _ (finishes first Ds none B Changes 𝓤 H A κs qs y x tt (S .state r) tt (S .answer r) W fs tt tt (S .fits r is .0) e) $
+          suffices ! _ (finishes first Ds none B Changes 𝓤 H A κs qs y x tt (S .state r) tt (S .answer r) W fs tt tt (S .fits r is .1) e) $
           nothing ! $ move ! (3 ∷ 0 ∷ []) $ join ! $ frame ! $ feqI ! (List Val) (ptr-vals y) (ptr-vals y) refl $ fjoin3 ! $ frame ! $
           done !)))))))))))
 

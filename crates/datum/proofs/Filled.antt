@@ -1,6 +1,8 @@
 -- A call that reads what is lent and fills a lent buffer:
 --     fn f(d: &D, ..data.., buf: &mut [u8]) -> B { g(*d, ..data.., buf) }
--- The walk is that of `Read`, with the buffer lent on as in `ChangedWith`.
+-- The walk is that of `Read`, with two things more: the buffer is made a slice anew (`lends-on`), which goes to the call with all that the
+-- buffer owns and its lifetime's token (`calls-filling`). The token comes back, with what says the buffer's last bytes; the buffer itself
+-- does not, so at exit that is all that is had of it.
 use Prim.Native.Nat.{ℕ}
 use mathlib.Core.List.{List, [], _∷_}
 use mathlib.Core.Path.{refl}

@@ -27,7 +27,7 @@ use Rattle.datum.proofs.Parameters.{Param, Params, Args, Values, Facts,
 use Rattle.datum.proofs.Taken.{slice, Copies, taking, takes}
 use Rattle.datum.proofs.Thin.{Promised, Thin-walk, begins, finishes, Thin-two, thin-two}
 
-module _ (D E : Datum) (N : ℕ) (B : Datum) (S : Handed B D) (Ds : List Datum) where
+module _ (D E : Datum) (N : ℕ) (B : Datum) (S : Handed D B) (Ds : List Datum) where
   abbrev first : Param 2
   first = changing D 0 tt
 
@@ -90,7 +90,7 @@ module _ (D E : Datum) (N : ℕ) (B : Datum) (S : Handed B D) (Ds : List Datum) 
           (and-then ! (load ! (from-at ! (at 1) (stop !)) (look ! 11 refl)) (and-then ! (load ! (from-at ! (at 2) (stop !)) (look ! 9 refl))
           (and-then ! (load ! (from-at ! (at 3) (stop !)) (look ! 7 refl))
           (reads-all none tt tt (no-more !) ! 6 Ds bs x 3 (tail l₃ l₄ l₅ l₆) refl refl)))) (λ r e is.
-          move ! (1 ∷ 2 ∷ 3 ∷ 4 ∷ []) $ hands-back ! B D S r (y .ptr .0) (y .ptr .1) is refl refl (at 0) 14 12 8 refl refl refl refl $
+          move ! (1 ∷ 2 ∷ 3 ∷ 4 ∷ []) $ hands-back ! D B S r (y .ptr .0) (y .ptr .1) is refl refl (at 0) 14 12 8 refl refl refl refl $
           -- [what the reference owns; its token; the list's token; the data; _6; _5; _4; _3; _2; _1; _0; the list]
           returns ! (look ! 17 refl) $ move ! (17 ∷ 18 ∷ []) $ free-cell ! $ move ! (15 ∷ 16 ∷ []) $ free-cell ! $ move ! (13 ∷ 14 ∷ []) $
           free-cell ! $ move ! (4 ∷ []) $
@@ -98,7 +98,7 @@ module _ (D E : Datum) (N : ℕ) (B : Datum) (S : Handed B D) (Ds : List Datum) 
           move ! (4 ∷ 5 ∷ []) $ free-cell ! $ free0 ! $
           suffices ! _ (finishes first [] more B Makes 𝓤 H A κs qs y tt (z, args none κs Ds x tt) (S .state r) (tt, lasts none κs Ds x tt tt)
           (S .answer r)
-          W tt tt (tt, all-fit none κs Ds x tt tt tt) (S .fits r is .0)
+          W tt tt (tt, all-fit none κs Ds x tt tt tt) (S .fits r is .1)
           (rw (given-args {n = 2} none κs Ds x tt) (agree (now y) (now z) x (S .answer r) (S .state r) (rw c at e)))) $
           nothing ! $ move ! (3 ∷ 4 ∷ 0 ∷ []) $ group ! 3 $ frame ! $ feqI ! (List Val) (ptr-vals y) (ptr-vals y) refl $ fjoin3 ! $ frame ! $
           nothing ! $ use1 W (‵ (Has (values Ds none) κs (args none κs Ds x tt) (lasts none κs Ds x tt tt))) (all-had none κs 𝓤 H A W Ds x tt tt fs) $

@@ -4,29 +4,30 @@ use mathlib.Core.Path.{_≡_, refl}
 use Rattle.layout.specs.Requests.{refused}
 use Rattle.paper.specs.Told.{tells}
 use Rattle.table.specs.Check.{good}
-use Rattle.table.specs.Examples.{tableA}
-use Rattle.table.specs.Search.{find, change, storeIn}
+use Rattle.table.specs.Examples.{offerA}
+use Rattle.table.specs.Search.{sightIn}
 use Rattle.words.specs.Lists.{all}
 use Rattle.device.specs.Cells.{isSet}
 use Rattle.device.specs.Commands.{isOpen, mediaNumber, otherNumber}
 use Rattle.device.specs.Examples.{deviceA, holds, rows, removals, others}
 use Rattle.device.specs.Making.{fresh, madeOf}
 use Rattle.device.specs.Remove.{judgeRoom, judgeFound}
-use Rattle.device.specs.Steps.{gradeFound}
+use Rattle.device.specs.Sights.{see}
+use Rattle.device.specs.Steps.{gradeSeen}
 use Rattle.device.specs.declared.Device.{Device}
 
 pub examples : all holds rows ≡ true
-unfolding find change storeIn isSet judgeRoom judgeFound
+unfolding sightIn see isSet judgeRoom judgeFound
 examples = refl
 
 removals-hold : all holds removals ≡ true
-unfolding find change storeIn isSet judgeRoom judgeFound gradeFound
+unfolding sightIn see isSet judgeRoom judgeFound gradeSeen
 removals-hold = refl
 
 others-hold : all holds others ≡ true
-unfolding find change storeIn isSet judgeRoom judgeFound isOpen mediaNumber otherNumber refused
+unfolding sightIn see isSet judgeRoom judgeFound isOpen mediaNumber otherNumber refused
 others-hold = refl
 
-pub made-of-A : (there : Device) → (madeOf there (tableA 2) ≡ tells 0 deviceA) × (madeOf there (tableA 1) ≡ tells 0 (fresh (tableA 1))) × (madeOf there (tableA 129) ≡ tells 8 there)
+pub made-of-A : (there : Device) → (madeOf there (offerA 2) ≡ tells 0 deviceA) × (madeOf there (offerA 1) ≡ tells 0 (fresh (offerA 1))) × (madeOf there (offerA 129) ≡ tells 8 there)
 unfolding good madeOf
 made-of-A there = (refl, refl, refl)

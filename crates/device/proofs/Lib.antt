@@ -1,5 +1,4 @@
 -- What is proved of the machine, and of the device's functions.
-pub mod Cells
 pub mod EveryCall
 pub mod Examples
 pub mod Making
@@ -7,3 +6,4 @@ pub mod OneCell
 pub mod PowerCut
 pub mod Rules
 pub mod Shapes
+pub mod Stores

@@ -1,16 +1,14 @@
 -- Document 01, "Table and cells": "Cells that survive power loss, each written whole or not at all".
 use Prim.Native.Nat.{ℕ}
 use mathlib.Core.Bool.{Bool, true, false}
+use lib.ListN.{getD, set}
 use Rattle.paper.specs.declared.Lba.{Lba}
-use Rattle.table.specs.Elements.{atFFh}
-use Rattle.table.specs.Search.{storeIn, storeHealth}
-use Rattle.table.specs.declared.Table.{Table}
+use Rattle.device.specs.declared.Cells.{Cells}
 use Rattle.device.specs.declared.Device.{Device}
 use Rattle.device.specs.declared.Mark.the-variants.{Clear, Set}
 use Rattle.device.specs.declared.Mark.{Mark}
 use Rattle.device.specs.declared.Note.the-variants.{Empty, Full}
 use Rattle.device.specs.declared.Note.{Note}
-use Rattle.device.specs.declared.Position.{Position}
 use Rattle.device.specs.declared.Store.the-variants.{Nothing, NativeTo, AccessibleTo, Marked, Graded, FailedTo, Noted, NoteEmptied}
 use Rattle.device.specs.declared.Store.{Store}
 
@@ -20,7 +18,7 @@ isFull Empty = false
 isFull (Full w) = true
 
 abbrev pub underWay : Device → Bool
-underWay d = isFull (d .note)
+underWay d = isFull (d .cells .note)
 
 -- the number of a command that has to wait for a removal
 abbrev pub busyNumber : Device → ℕ
@@ -35,34 +33,34 @@ isSet Set = true
 abbrev pub failedNumber : Mark → ℕ
 failedNumber m = 3
 
+-- "each element's health": the cell of its place
+abbrev pub healthAt : Device → ℕ → ℕ
+healthAt d place = getD (d .cells .healths) place 0
+
 -- ## One cell written
 
-abbrev pub withTable : Table → Device → Device
-withTable t d = record { table = t; native = d .native; accessible = d .accessible; failed = d .failed; note = d .note; position = d .position }
+abbrev pub withNative : Lba → Cells → Cells
+withNative v c = record { native = v; accessible = c .accessible; healths = c .healths; failed = c .failed; note = c .note }
 
-abbrev pub withNative : Lba → Device → Device
-withNative v d = record { table = d .table; native = v; accessible = d .accessible; failed = d .failed; note = d .note; position = d .position }
+abbrev pub withAccessible : Lba → Cells → Cells
+withAccessible v c = record { native = c .native; accessible = v; healths = c .healths; failed = c .failed; note = c .note }
 
-abbrev pub withAccessible : Lba → Device → Device
-withAccessible v d = record { table = d .table; native = d .native; accessible = v; failed = d .failed; note = d .note; position = d .position }
+abbrev pub withHealth : ℕ → ℕ → Cells → Cells
+withHealth place h c = record { native = c .native; accessible = c .accessible; healths = set (c .healths) place h; failed = c .failed; note = c .note }
 
-abbrev pub withFailed : Mark → Device → Device
-withFailed m d = record { table = d .table; native = d .native; accessible = d .accessible; failed = m; note = d .note; position = d .position }
+abbrev pub withFailed : Mark → Cells → Cells
+withFailed m c = record { native = c .native; accessible = c .accessible; healths = c .healths; failed = m; note = c .note }
 
-abbrev pub withNote : Note → Device → Device
-withNote n d = record { table = d .table; native = d .native; accessible = d .accessible; failed = d .failed; note = n; position = d .position }
+abbrev pub withNote : Note → Cells → Cells
+withNote n c = record { native = c .native; accessible = c .accessible; healths = c .healths; failed = c .failed; note = n }
 
--- the position is no cell: "Only the position in the step list is lost with power"
-abbrev pub withPosition : Position → Device → Device
-withPosition p d = record { table = d .table; native = d .native; accessible = d .accessible; failed = d .failed; note = d .note; position = p }
-
--- the device with one store made
-abbrev pub make : Store → Device → Device
-make Nothing d = d
-make (NativeTo v) d = withNative v d
-make (AccessibleTo v) d = withAccessible v d
-make (Marked id) d = withTable (storeIn (id .0) atFFh (d .table)) d
-make (Graded id h) d = withTable (storeHealth (id .0) h (d .table)) d
-make (FailedTo m) d = withFailed m d
-make (Noted w) d = withNote (Full w) d
-make NoteEmptied d = withNote Empty d
+-- the cells with one store made
+abbrev pub make : Store → Cells → Cells
+make Nothing c = c
+make (NativeTo v) c = withNative v c
+make (AccessibleTo v) c = withAccessible v c
+make (Marked place) c = withHealth place 0xFF c
+make (Graded place h) c = withHealth place h c
+make (FailedTo m) c = withFailed m c
+make (Noted w) c = withNote (Full w) c
+make NoteEmptied c = withNote Empty c

@@ -57,7 +57,7 @@ isBeyond accessible lba count = ltb (accessible + 1) (low48 lba .0 + sectorsOf c
 
 -- "media access with the failed mark: 3; last sector above the accessible max: 5; else 0"
 unfoldable pub mediaNumber : Device → ℕ → Lba → ℕ
-mediaNumber d count lba = cond (isSet (d .failed)) (failedNumber (d .failed)) (cond (isBeyond (d .accessible .0) lba count) 5 0)
+mediaNumber d count lba = cond (isSet (d .cells .failed)) (failedNumber (d .cells .failed)) (cond (isBeyond (d .cells .accessible .0) lba count) 5 0)
 
 -- "Order: not open during a removal: 2; unknown: 6; media access ..; else 0"
 unfoldable pub otherNumber : Device → ℕ → ℕ → ℕ → Lba → ℕ

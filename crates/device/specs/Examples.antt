@@ -3,11 +3,9 @@ use Prim.Native.Nat.{ℕ}
 use mathlib.Core.Bool.{Bool, true, false, not, _&&_}
 use mathlib.Core.List.{List, [], _∷_, _++_}
 use lib.Dec.{eqb}
-use lib.ListN.{replicate}
+use lib.ListN.{take, replicate}
 use Rattle.paper.specs.declared.Security.the-variants.{Locked, Unlocked, Frozen}
-use Rattle.table.specs.Elements.{live}
-use Rattle.table.specs.Examples.{tableA}
-use Rattle.table.specs.declared.Element.{Element}
+use Rattle.table.specs.Examples.{offerA}
 use Rattle.device.specs.Cells.{underWay, isSet}
 use Rattle.device.specs.Machine.{Event, command, step, mediaError, powerCut, comreset, hardwareReset, softwareReset, grade, told}
 use Rattle.device.specs.Making.{fresh}
@@ -15,7 +13,7 @@ use Rattle.device.specs.declared.Device.{Device}
 
 -- "Device A, limit 2"
 abbrev pub deviceA : Device
-deviceA = fresh (tableA 2)
+deviceA = fresh (offerA 2)
 
 abbrev pub run : Device → List Event → Device
 run d [] = d
@@ -56,11 +54,11 @@ pub record Row : Type 0 where
 abbrev pub row : Device → List Event → Event → ℕ → ℕ → List ℕ → Bool → Bool → Row
 row d es e n m hs f b = record { device = d; before = es; event = e; number = n; maximum = m; healths = hs; failed = f; busy = b }
 
-abbrev pub sameHealths : List Element → List ℕ → Bool
+abbrev pub sameHealths : List ℕ → List ℕ → Bool
 sameHealths [] [] = true
 sameHealths [] (h ∷ hs) = false
-sameHealths (e ∷ es) [] = false
-sameHealths (e ∷ es) (h ∷ hs) = eqb (e .health) h && sameHealths es hs
+sameHealths (x ∷ xs) [] = false
+sameHealths (x ∷ xs) (h ∷ hs) = eqb x h && sameHealths xs hs
 
 abbrev pub sameBool : Bool → Bool → Bool
 sameBool true b = b
@@ -68,10 +66,10 @@ sameBool false b = not b
 
 abbrev pub shows : Row → Device → Bool
 shows r d =
-    eqb (d .native .0) (r .maximum)
-    && eqb (d .accessible .0) (r .maximum)
-    && sameHealths (live (d .table)) (r .healths)
-    && sameBool (isSet (d .failed)) (r .failed)
+    eqb (d .cells .native .0) (r .maximum)
+    && eqb (d .cells .accessible .0) (r .maximum)
+    && sameHealths (take (d .table .count) (d .cells .healths)) (r .healths)
+    && sameBool (isSet (d .cells .failed)) (r .failed)
     && sameBool (underWay d) (r .busy)
 
 abbrev pub holds : Row → Bool
@@ -104,7 +102,7 @@ rows =
     ∷ row deviceA (R1 ++ (remove 0 1 0 ∷ steps 4)) step 0 1499 (0xFF ∷ 0x10 ∷ 0xFF ∷ 0 ∷ []) false false
     ∷ row deviceA (R1 ++ (remove 0 1 0 ∷ steps 5)) (remove 0 3 0) 4 1499 (0xFF ∷ 0x10 ∷ 0xFF ∷ 0 ∷ []) false false
     -- the limit alone: 2,499 - 1,000 blocks would leave room
-    ∷ row (fresh (tableA 1)) R1 (remove 0 1 0) 4 2499 oneGone false false
+    ∷ row (fresh (offerA 1)) R1 (remove 0 1 0) 4 2499 oneGone false false
     ∷ row deviceA R1 (remove 0 1 0) 0 2499 oneGone false true
     ∷ []
 
@@ -137,7 +135,7 @@ removals =
     ∷ amid (locked 0x7C) 1
     ∷ amid (remove 0 1 0) 2
     -- check 6 without a limit: 1,499 - 1,500; and the least that is left
-    ∷ row (fresh (tableA 0)) (R1 ++ (remove 0 1 0 ∷ steps 5)) (remove 0 3 0) 4 1499 (0xFF ∷ 0x10 ∷ 0xFF ∷ 0 ∷ []) false false
+    ∷ row (fresh (offerA 0)) (R1 ++ (remove 0 1 0 ∷ steps 5)) (remove 0 3 0) 4 1499 (0xFF ∷ 0x10 ∷ 0xFF ∷ 0 ∷ []) false false
     ∷ row deviceA ((remove 1 3 1501 ∷ steps 5) ++ (remove 0 3 0 ∷ steps 4)) step 0 1 (0x20 ∷ 0xFF ∷ 0xFF ∷ 0 ∷ []) false false
     ∷ row deviceA (remove 1 3 1500 ∷ steps 5) (remove 0 3 0) 4 1500 oneGone false false
     -- the LBA is the new maximum; bits above 47 are ignored, so 2^48 is 0

@@ -8,4 +8,5 @@ pub mod Making
 pub mod Promises
 pub mod Remove
 pub mod Rulings
+pub mod Sights
 pub mod Steps

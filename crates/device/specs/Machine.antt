@@ -18,19 +18,23 @@ pub data Event : Type 0 where
   step mediaError powerCut comreset hardwareReset softwareReset : Event
   grade : ElementId → ℕ → Event
 
--- 7Ch and 12h have rules of their own
+-- 7Ch has a ruling of its own; any other code is answered with a number, and nothing changes
 abbrev pub ruleCommand : Device → Security → ℕ → ℕ → ℕ → Lba → ℕ → Ruled
-ruleCommand d security code feature count lba room =
-    cond (eqb code 0x7C) (ruleRemove d security feature count lba)
-    (cond (eqb code 0x12) (says (statusNumber security (record { feature = feature; count = record { 0 = count }; lba = lba }) room) d)
-    (says (otherNumber d code feature count lba) d))
+ruleCommand d security code feature count lba other = cond (eqb code 0x7C) (ruleRemove d security feature count lba) (says other d)
+
+-- that number: 12h has rules of its own
+abbrev pub quietNumber : Device → Security → ℕ → ℕ → ℕ → Lba → ℕ → ℕ
+quietNumber d security code feature count lba room =
+    cond (eqb code 0x12) (statusNumber security (record { feature = feature; count = record { 0 = count }; lba = lba }) room)
+    (otherNumber d code feature count lba)
 
 -- "COMRESET, hardware reset and software reset answer 0 and change nothing (002)."
 abbrev pub rule : Device → Event → Ruled
-rule d (command security code feature count lba room) = ruleCommand d security code feature count lba room
-rule d step = ruleStep d (d .note)
-rule d mediaError = ruleStop d 10 (d .note)
-rule d powerCut = ruleStop d 0 (d .note)
+rule d (command security code feature count lba room) =
+    ruleCommand d security code feature count lba (quietNumber d security code feature count lba room)
+rule d step = ruleStep d (d .cells .note)
+rule d mediaError = ruleStop (d .position) 10 (d .cells .note)
+rule d powerCut = ruleStop (d .position) 0 (d .cells .note)
 rule d comreset = says 0 d
 rule d hardwareReset = says 0 d
 rule d softwareReset = says 0 d

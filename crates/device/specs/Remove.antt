@@ -2,24 +2,25 @@
 use Prim.Native.Nat.{ℕ, _+_, _-_, _*_}
 use mathlib.Core.Bool.{Bool, true, false, cond, not, _&&_}
 use lib.Dec.{leb, ltb, eqb}
+use lib.ListN.{take}
+use Rattle.paper.specs.Elements.{removedHealth}
 use Rattle.paper.specs.Registers.{low48}
 use Rattle.paper.specs.declared.ElementId.{ElementId}
 use Rattle.paper.specs.declared.Lba.{Lba}
 use Rattle.paper.specs.declared.Security.the-variants.{Locked, Unlocked, Frozen}
 use Rattle.paper.specs.declared.Security.{Security}
-use Rattle.table.specs.Elements.{live, isStorage, isRemoved, removedCount}
-use Rattle.table.specs.Search.{find}
-use Rattle.table.specs.declared.Found.the-variants.{Missing, One}
-use Rattle.table.specs.declared.Found.{Found}
-use Rattle.table.specs.declared.Table.{Table}
+use Rattle.table.specs.Elements.{isStorage, removedCount}
 use Rattle.device.specs.Cells.{underWay, busyNumber}
-use Rattle.device.specs.Rulings.{Ruled, says, stores, goes}
+use Rattle.device.specs.Rulings.{Ruled, quiet, says, stores, goes}
+use Rattle.device.specs.Sights.{see}
 use Rattle.device.specs.declared.Command.the-variants.{Remove, Status}
 use Rattle.device.specs.declared.Command.{Command}
 use Rattle.device.specs.declared.Device.{Device}
 use Rattle.device.specs.declared.Mark.the-variants.{Clear}
 use Rattle.device.specs.declared.Position.the-variants.{Work1}
+use Rattle.device.specs.declared.Position.{Position}
 use Rattle.device.specs.declared.Removal.{Removal}
+use Rattle.device.specs.declared.Seen.{Seen}
 use Rattle.device.specs.declared.Store.the-variants.{FailedTo, Noted}
 
 -- check 1, after 000, table 12: "under locked, unlocked, frozen this command is aborted, runs, runs; GET PHYSICAL ELEMENT STATUS runs in all three"
@@ -45,9 +46,13 @@ columnOf Frozen = 2
 abbrev pub identifierOf : ℕ → ℕ → ElementId
 identifierOf feature count = record { 0 = feature * 65536 + count }
 
+-- how many elements of the table are at FFh
+abbrev pub removedNumber : Device → ℕ
+removedNumber d = removedCount (take (d .table .count) (d .cells .healths))
+
 -- 5: "limit not 0 and as many elements already FFh"
-abbrev pub limitMet : Table → Bool
-limitMet t = not (eqb (t .limit) 0) && leb (t .limit) (removedCount (live t))
+abbrev pub limitMet : ℕ → ℕ → Bool
+limitMet limit removed = not (eqb limit 0) && leb limit removed
 
 -- 6: "native max minus the element's blocks is below 1"
 abbrev pub tooSmall : ℕ → ℕ → Bool
@@ -61,32 +66,32 @@ tooHigh native blocks lba = not (eqb lba 0) && ltb native (lba + blocks)
 abbrev pub orDifference : ℕ → Lba → Lba
 orDifference difference lba = cond (eqb (lba .0) 0) (record { 0 = difference }) lba
 
-abbrev pub removalOf : Device → ElementId → Lba → ℕ → Removal
-removalOf d id lba blocks = record { element = id; old = d .native; new = orDifference (d .native .0 - blocks) lba }
+abbrev pub removalOf : Lba → ElementId → Lba → ℕ → Removal
+removalOf native id lba blocks = record { element = id; old = native; new = orDifference (native .0 - blocks) lba }
 
--- checks 5 to 7 of an element that is not removed; "Acceptance makes one store: the note."
-unfoldable pub judgeRoom : Device → ElementId → Lba → ℕ → Ruled
-judgeRoom d id lba blocks =
-    cond (limitMet (d .table)) (says 4 d)
-    (cond (tooSmall (d .native .0) blocks) (says 4 d)
-    (cond (tooHigh (d .native .0) blocks (lba .0)) (says 4 d)
-    (goes (Noted (removalOf d id lba blocks)) Work1)))
+-- checks 6 and 7; "Acceptance makes one store: the note."
+unfoldable pub judgeRoom : Position → Lba → ElementId → Lba → ℕ → Ruled
+judgeRoom p native id lba blocks =
+    cond (tooSmall (native .0) blocks) (quiet 4 p)
+    (cond (tooHigh (native .0) blocks (lba .0)) (quiet 4 p)
+    (goes (Noted (removalOf native id lba blocks)) Work1))
 
 -- 3: "identifier not in the table, or type not 01h: 4"
 -- 4: "health FFh: 0; no element or address changes, but a failed mark is cleared"
-unfoldable pub judgeFound : Device → ElementId → Lba → Found → Ruled
-judgeFound d id lba Missing = says 4 d
-judgeFound d id lba (One e) =
-    cond (not (isStorage e)) (says 4 d)
-    (cond (isRemoved e) (stores (FailedTo Clear) d)
-    (judgeRoom d id lba (e .blocks)))
+-- then 5, and 6 and 7
+unfoldable pub judgeFound : Device → ElementId → Lba → Seen → Ruled
+judgeFound d id lba s =
+    cond (not (s .hit && isStorage (s .part))) (says 4 d)
+    (cond (removedHealth (s .health)) (stores (FailedTo Clear) d)
+    (cond (limitMet (d .table .limit) (removedNumber d)) (says 4 d)
+    (judgeRoom (d .position) (d .cells .native) id lba (s .part .blocks))))
 
 -- 1: "security state locked: 1"; 2: "removal under way: 2"
 abbrev pub judge : Device → Security → ElementId → Lba → Ruled
 judge d security id lba =
     cond (aborts Remove security) (says 1 d)
     (cond (underWay d) (says (busyNumber d) d)
-    (judgeFound d id lba (find (id .0) (live (d .table)))))
+    (judgeFound d id lba (see d id)))
 
 abbrev pub ruleRemove : Device → Security → ℕ → ℕ → Lba → Ruled
 ruleRemove d security feature count lba = judge d security (identifierOf feature count) (low48 lba)

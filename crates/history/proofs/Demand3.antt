@@ -11,7 +11,7 @@ use Rattle.history.proofs.Starts.{accepted-starts}
 
 brought-about : Brought-about
 brought-about start can s w n e q t c k =
-    let rest : after start (s ▸ e ▸▸ (t ▸ step)) .note ≡ Empty = fourth-after start s w n e q t c k in
+    let rest : after start (s ▸ e ▸▸ (t ▸ step)) .cells .note ≡ Empty = fourth-after start s w n e q t c k in
     (rest, kept start can (s ▸ e ▸▸ (t ▸ step)) .at-rest rest)
 
 pub demand-3 : Demand-3

@@ -1,31 +1,35 @@
 -- The invariant of demand 3, over values and not over a device, and that every event keeps it: a ruling's shape says what it has to keep.
-use Prim.Native.Nat.{ℕ, _≤_}
+use Prim.Native.Nat.{ℕ, _≤_, _<_}
 use mathlib.Core.Bool.{Bool, true, false, cond, _||_, true≢false, false≢true}
-use mathlib.Core.List.{List, map, List·Memᴰ}
-use mathlib.Core.Path.{_≡_, refl, sym, ap, _∙_, subst}
+use mathlib.Core.List.{List}
+use mathlib.Core.Path.{_≡_, refl, sym, ap, _∙_, subst, subst⁻¹}
+use native.Mathlib.Omega.{arith}
 use lib.Dec.{eqb}
-use borrow.Author.Tests.{eqb-true, eq-eqb, leb-true}
-use Rattle.device.proofs.Shapes.{Kind, Shape, quiet, clears, notes, advances, winds, Grading, refuses, grades, each}
+use lib.ListN.{length, getD, set, length-set}
+use borrow.Author.Tests.{eqb-true, eq-eqb, ne-eqb, leb-true}
+use Rattle.device.proofs.Shapes.{Kind, Standing, Shape, quiet, clears, notes, advances, winds, Grading, refuses, grades, each}
+use Rattle.device.specs.Cells.{healthAt}
 use Rattle.device.specs.Machine.{Event, command, step, mediaError, powerCut, comreset, hardwareReset, softwareReset, grade, rule}
-use Rattle.device.specs.Rulings.{Ruled, carriedOut}
-use Rattle.device.specs.Steps.{foundRemoved, woundUp, storeAt, nextOf}
+use Rattle.device.specs.Rulings.{Ruled, carriedOut, goes}
+use Rattle.device.specs.Sights.{see, gone}
+use Rattle.device.specs.Steps.{woundUp, storeAt, nextOf}
 use Rattle.device.specs.declared.Device.{Device}
 use Rattle.device.specs.declared.Note.the-variants.{Empty, Full}
 use Rattle.device.specs.declared.Note.{Note}
 use Rattle.device.specs.declared.Position.the-variants.{Work1, Work2, Work3, Work4, Work5, Wind1, Wind2, Wind3, Wind4}
 use Rattle.device.specs.declared.Position.{Position}
 use Rattle.device.specs.declared.Removal.{Removal}
+use Rattle.device.specs.declared.Store.the-variants.{Nothing, Marked}
+use Rattle.paper.specs.Elements.{removedHealth}
 use Rattle.paper.specs.declared.ElementId.{ElementId}
-use Rattle.table.proofs.Stores.{store-live}
+use Rattle.paper.specs.declared.Lba.{Lba}
 use Rattle.table.specs.Check.{ascending}
-use Rattle.table.specs.Elements.{live, withHealth, atFFh, isRemoved}
-use Rattle.table.specs.Search.{find, change, storeIn}
-use Rattle.table.specs.declared.Element.{Element}
-use Rattle.table.specs.declared.Found.the-variants.{One}
+use Rattle.table.specs.Elements.{identifiers, size, identifierAt}
+use Rattle.table.specs.declared.Table.{Table}
 use Rattle.history.specs.Ledger.{markedBy, marked, acceptedBy, accepted, addressBy, address, gradedBy, gradeIn}
 use Rattle.history.specs.Runs.{History, _▹_, entry}
 use Rattle.history.specs.Starts.{Present}
-use Rattle.history.proofs.Tables.{map-members, recordedBy, put, change-map, unmarked, removed-marked}
+use Rattle.history.proofs.Places.{hit-there, hit-present, present-hit, gone-told, stored-health}
 
 -- what is known at each position: m says whether the noted element is marked, N is the maximum accepted last, n and c are the native and
 -- the accessible one, a is the ledger's
@@ -41,37 +45,62 @@ Placed Wind3 m N n c new a = (n ≡ a) × (c ≡ a)
 Placed Wind4 m N n c new a = (n ≡ a) × (c ≡ a)
 
 -- a removal under way: its element is in the table, and the ledger's address is where winding up leads
-pub record Going (b : List Element) (id : ℕ) (m : Bool) (N A n c old new : ℕ) (p : Position) : Type 0 where
-  pub there : Present b id
+pub record Going (t : Table) (id : ℕ) (m : Bool) (N A n c old new : ℕ) (p : Position) : Type 0 where
+  pub there : Present t id
   pub aim : A ≡ cond m new old
   pub at : Placed p m N n c new A
 
-abbrev pub Held : List Element → (ℕ → Bool) → ℕ → ℕ → ℕ → ℕ → Position → Note → Type 0
-Held b M N A n c p Empty = (n ≡ A) × (c ≡ A)
-Held b M N A n c p (Full w) = Going b (w .element .0) (M (w .element .0)) N A n c (w .old .0) (w .new .0) p
+abbrev pub Held : Table → (ℕ → Bool) → ℕ → ℕ → ℕ → ℕ → Position → Note → Type 0
+Held t M N A n c p Empty = (n ≡ A) × (c ≡ A)
+Held t M N A n c p (Full w) = Going t (w .element .0) (M (w .element .0)) N A n c (w .old .0) (w .new .0) p
 
--- b is the table at the start, t the table now; M and G as in Tables
-pub record Kept (b : List Element) (M : ℕ → Bool) (G : ℕ → ℕ → ℕ) (N A : ℕ) (t : List Element) (n c : ℕ) (p : Position) (note : Note) : Type 0 where
-  pub same : t ≡ map (recordedBy M G) b
-  pub low : (e : Element) → List·Memᴰ e b → M (e .id .0) ≡ false → G (e .id .0) (e .health) ≤ 0xCF
-  pub only : (i : ℕ) → M i ≡ true → Present b i
-  pub held : Held b M N A n c p note
+-- the health of a place by the ledger: M says which elements are marked, G the last grade of the others
+abbrev pub ledgerHealth : Device → (ℕ → Bool) → (ℕ → ℕ → ℕ) → ℕ → ℕ
+ledgerHealth start M G i = cond (M (identifierAt (start .table) i)) 0xFF (G (identifierAt (start .table) i) (healthAt start i))
+
+-- hs are the healths now
+pub record Kept (start : Device) (M : ℕ → Bool) (G : ℕ → ℕ → ℕ) (N A : ℕ) (hs : List ℕ) (n c : ℕ) (p : Position) (note : Note) : Type 0 where
+  pub celled : size (start .table) ≤ length hs
+  pub same : (i : ℕ) → i < size (start .table) → getD hs i 0 ≡ ledgerHealth start M G i
+  pub low : (i : ℕ) → i < size (start .table) → M (identifierAt (start .table) i) ≡ false → G (identifierAt (start .table) i) (healthAt start i) ≤ 0xCF
+  pub only : (id : ℕ) → M id ≡ true → Present (start .table) id
+  pub held : Held (start .table) M N A n c p note
 
 abbrev pub Inv : Device → History → Device → Type 0
 Inv start h d =
-    Kept (live (start .table)) (marked start h) (gradeIn h) (accepted h) (address start h) (live (d .table)) (d .native .0) (d .accessible .0) (d .position) (d .note)
+    Kept start (marked start h) (gradeIn h) (accepted h) (address start h) (d .cells .healths) (d .cells .native .0) (d .cells .accessible .0) (d .position) (d .cells .note)
+
+-- what is held of a note, at a position
+abbrev pub HeldAt : Device → History → Device → Position → Note → Type 0
+HeldAt start h d p note = Held (start .table) (marked start h) (accepted h) (address start h) (d .cells .native .0) (d .cells .accessible .0) p note
+
+pub held-at : (start : Device) (h : History) (d : Device) → Inv start h d → (n : Note) → d .cells .note ≡ n → HeldAt start h d (d .position) n
+held-at start h d inv n e = subst (HeldAt start h d (d .position)) e (inv .held)
+
+-- FFh is the mark
+is-mark : (m : Bool) (g : ℕ) → (m ≡ false → g ≤ 0xCF) → removedHealth (cond m 0xFF g) ≡ m
+is-mark true g k = refl
+is-mark false g k = ne-eqb g 0xFF (λ z. let y : g ≤ 0xCF = k refl in omega arith)
+
+pub wound-to : (m : Bool) (x y : Lba) → cond m x y .0 ≡ cond m (x .0) (y .0)
+wound-to true x y = refl
+wound-to false x y = refl
 
 landed : (m : Bool) (a new old : ℕ) → a ≡ cond m new old → m ≡ true → a ≡ new
 landed true a new old e t = e
 landed false a new old e t = absurd (false≢true t)
 
+mark-one : (b m : Bool) (g : ℕ) → cond b 0xFF (cond m 0xFF g) ≡ cond (b || m) 0xFF g
+mark-one true m g = refl
+mark-one false m g = refl
+
 neither : (a b : Bool) → (a || b) ≡ false → b ≡ false
 neither true b e = absurd (true≢false e)
 neither false b e = e
 
-module _ (start : Device) (asc : ascending 0 (live (start .table)) ≡ true) (h : History) (d : Device) (inv : Inv start h d) where
-  abbrev b : List Element
-  b = live (start .table)
+module _ (start : Device) (asc : ascending 0 (identifiers (start .table)) ≡ true) (h : History) (d : Device) (built : d .table ≡ start .table) (inv : Inv start h d) where
+  abbrev t : Table
+  t = start .table
 
   abbrev M : ℕ → Bool
   M = marked start h
@@ -82,107 +111,106 @@ module _ (start : Device) (asc : ascending 0 (live (start .table)) ≡ true) (h 
   -- the invariant after a ruling, the grades being G′ then
   abbrev After : (ℕ → ℕ → ℕ) → Ruled → Type 0
   After G′ r =
-      Kept b (λ id. markedBy (r .store) id (M id)) G′ (acceptedBy (r .store) (accepted h)) (addressBy (r .store) (accepted h) (address start h))
-      (live (carriedOut d r .table)) (carriedOut d r .native .0) (carriedOut d r .accessible .0) (r .next) (carriedOut d r .note)
+      Kept start (λ id. markedBy t (r .store) id (M id)) G′ (acceptedBy (r .store) (accepted h)) (addressBy (r .store) (accepted h) (address start h))
+      (carriedOut d r .cells .healths) (carriedOut d r .cells .native .0) (carriedOut d r .cells .accessible .0) (r .next) (carriedOut d r .cells .note)
 
-  is-marked : (id : ℕ) → foundRemoved (find id (live (d .table))) ≡ M id
-  is-marked id = ap (λ (t : List Element). foundRemoved (find id t)) (inv .same) ∙ removed-marked M G b asc (inv .low) id (inv .only id)
+  -- the healths at FFh are those of the marked elements
+  pub removed-marked : (i : ℕ) → i < size t → removedHealth (healthAt d i) ≡ M (identifierAt t i)
+  removed-marked i k = ap removedHealth (inv .same i k) ∙ is-mark (M (identifierAt t i)) (G (identifierAt t i) (healthAt start i)) (inv .low i k)
 
-  standing : (id : ℕ) (e : Element) → find id (live (d .table)) ≡ One e → isRemoved e ≡ false → (M id ≡ false) × Present b id
-  standing id e p q = unmarked M G b id e (subst (λ (t : List Element). find id t ≡ One e) (inv .same) p) q
+  is-marked : (id : ElementId) → gone (see d id) ≡ M (id .0)
+  is-marked id = gone-told t asc d built M removed-marked id (inv .only (id .0))
+
+  unmarked : (id : ElementId) → Standing d id → M (id .0) ≡ false
+  unmarked id s = sym (is-marked id) ∙ rw (s .hit) (s .health)
 
   wound : (w : Removal) → address start h ≡ cond (M (w .element .0)) (w .new .0) (w .old .0) → woundUp d w .0 ≡ address start h
-  wound w e = to (M (w .element .0)) (is-marked (w .element .0)) e
-    where
-      to : (m : Bool) → foundRemoved (find (w .element .0) (live (d .table))) ≡ m → address start h ≡ cond m (w .new .0) (w .old .0) → woundUp d w .0 ≡ address start h
-      to true q e = rw q (sym e)
-      to false q e = rw q (sym e)
+  wound w e =
+      wound-to (gone (see d (w .element))) (w .new) (w .old)
+      ∙ ap (λ (m : Bool). cond m (w .new .0) (w .old .0)) (is-marked (w .element)) ∙ sym e
 
-  -- the table with one element changed by v
-  changed : (id : ElementId) (v : Element → Element) → live (storeIn (id .0) v (d .table)) ≡ map (put M G (id .0) v) b
-  changed id v = store-live (id .0) v (d .table) ∙ ap (change (id .0) v) (inv .same) ∙ change-map M G (id .0) v 0 b asc
+  -- the healths after one was stored at a place
+  stored : (at v i : ℕ) → at < size t → i < size t → getD (set (d .cells .healths) at v) i 0 ≡ cond (eqb (identifierAt t at) (identifierAt t i)) v (ledgerHealth start M G i)
+  stored at v i b k = stored-health t asc (d .cells .healths) (inv .celled) at v i b k ∙ ap (cond (eqb (identifierAt t at) (identifierAt t i)) v) (inv .same i k)
+
+  -- the invariant with another hold on the note
+  hold : {N n c : ℕ} {p : Position} {note : Note} → Held t M N (address start h) n c p note → Kept start M G N (address start h) (d .cells .healths) n c p note
+  hold k = record { celled = inv .celled; same = inv .same; low = inv .low; only = inv .only; held = k }
 
   -- ## The marking store
 
-  module _ (w : Removal) (way : Going b (w .element .0) (M (w .element .0)) (accepted h) (address start h) (d .native .0) (d .accessible .0) (w .old .0) (w .new .0) Work3) where
-    abbrev id : ℕ
-    id = w .element .0
-
-    self : (eqb id id || M id) ≡ true
-    self = rw (eq-eqb id id refl)
-
-    mark-one : (t : Bool) (e : Element) → cond t (atFFh (recordedBy M G e)) (recordedBy M G e) ≡ withHealth (cond (t || M (e .id .0)) 0xFF (G (e .id .0) (e .health))) e
-    mark-one true e = refl
-    mark-one false e = refl
-
-    mark-only : (i : ℕ) (t : Bool) → eqb id i ≡ t → (t || M i) ≡ true → Present b i
-    mark-only i true q m = subst (λ (k : ℕ). Present b k) (eqb-true id i q) (way .there)
-    mark-only i false q m = inv .only i m
-
-    keep-mark : d .note ≡ Full w → After G (record { number = 0; store = storeAt d w Work3; next = Work4 })
-    keep-mark e =
+  module _ (w : Removal) (e : d .cells .note ≡ Full w) where
+    marked-at : HeldAt start h d Work3 (Full w) → (at : ℕ) → at < size t → identifierAt t at ≡ w .element .0 → After G (goes (Marked at) Work4)
+    marked-at way at below is-id =
         record {
-          same = changed (w .element) atFFh ∙ map-members b (λ x _. mark-one (eqb id (x .id .0)) x);
-          low = λ x m z. inv .low x m (neither (eqb id (x .id .0)) (M (x .id .0)) z);
-          only = λ i. mark-only i (eqb id i) refl;
+          celled = rw length-set (inv .celled);
+          same = λ i k. stored at 0xFF i below k ∙ mark-one (eqb (identifierAt t at) (identifierAt t i)) (M (identifierAt t i)) _;
+          low = λ i k z. inv .low i k (neither (eqb (identifierAt t at) (identifierAt t i)) (M (identifierAt t i)) z);
+          only = λ i. mark-only i (eqb (identifierAt t at) i) refl;
           held = rw e (record { there = way .there; aim = rw self (way .at .1); at = (self, way .at .2, way .at .3) });
         }
+      where
+        self : (eqb (identifierAt t at) (w .element .0) || M (w .element .0)) ≡ true
+        self = rw (eq-eqb (identifierAt t at) (w .element .0) is-id)
 
-  -- ## A step
+        mark-only : (i : ℕ) (b : Bool) → eqb (identifierAt t at) i ≡ b → (b || M i) ≡ true → Present t i
+        mark-only i true q m = (at, below, eqb-true _ _ q)
+        mark-only i false q m = inv .only i m
 
-  full : (w : Removal) → d .note ≡ Full w → Held b M (accepted h) (address start h) (d .native .0) (d .accessible .0) (d .position) (Full w)
-  full w e = subst (λ (n : Note). Held b M (accepted h) (address start h) (d .native .0) (d .accessible .0) (d .position) n) e (inv .held)
+    keep-mark : HeldAt start h d Work3 (Full w) → After G (goes (storeAt d w Work3) Work4)
+    keep-mark way =
+        let hit = present-hit t asc d built (w .element) (way .there) in
+        let there = hit-there t d built (w .element) hit in
+        subst⁻¹ (λ (b : Bool). After G (goes (cond b (Marked (see d (w .element) .place)) Nothing) Work4)) hit (marked-at way (see d (w .element) .place) (there .0) (there .1))
 
-  -- the invariant with another hold on the note
-  hold : {n c : ℕ} {p : Position} {note : Note} → Held b M (accepted h) (address start h) n c p note
-      → Kept b M G (accepted h) (address start h) (live (d .table)) n c p note
-  hold k = record { same = inv .same; low = inv .low; only = inv .only; held = k }
+    -- ## A step
 
-  keep-step : (w : Removal) → d .note ≡ Full w → (p : Position)
-      → Going b (w .element .0) (M (w .element .0)) (accepted h) (address start h) (d .native .0) (d .accessible .0) (w .old .0) (w .new .0) p
-      → After G (record { number = 0; store = storeAt d w p; next = nextOf p })
-  keep-step w e Work1 k = hold (rw e (record { there = k .there; aim = k .aim; at = (k .at .0, k .at .1, refl) }))
-  keep-step w e Work2 k = hold (rw e (record { there = k .there; aim = k .aim; at = (k .at .0, k .at .1, k .at .2, refl) }))
-  keep-step w e Work3 k = keep-mark w k e
-  keep-step w e Work4 k = hold (rw e (record { there = k .there; aim = k .aim; at = k .at }))
-  keep-step w e Work5 k = hold (k .at .1 ∙ sym (landed _ _ _ _ (k .aim) (k .at .0)), k .at .2 ∙ sym (landed _ _ _ _ (k .aim) (k .at .0)))
-  keep-step w e Wind1 k = hold (rw e (record { there = k .there; aim = k .aim; at = wound w (k .aim) }))
-  keep-step w e Wind2 k = hold (rw e (record { there = k .there; aim = k .aim; at = (k .at, wound w (k .aim)) }))
-  keep-step w e Wind3 k = hold (rw e (record { there = k .there; aim = k .aim; at = k .at }))
-  keep-step w e Wind4 k = hold (k .at)
+    on : {p q : Position} {n c : ℕ} → HeldAt start h d q (Full w) → Placed p (M (w .element .0)) (accepted h) n c (w .new .0) (address start h)
+        → Kept start M G (accepted h) (address start h) (d .cells .healths) n c p (d .cells .note)
+    on {p} {q} {n} {c} way at = hold (subst⁻¹ (Held t M (accepted h) (address start h) n c p) e (record { there = way .there; aim = way .aim; at = at }))
+
+    keep-step : (p : Position) → HeldAt start h d p (Full w) → After G (goes (storeAt d w p) (nextOf p))
+    keep-step Work1 k = on k (k .at .0, k .at .1, refl)
+    keep-step Work2 k = on k (k .at .0, k .at .1, k .at .2, refl)
+    keep-step Work3 k = keep-mark k
+    keep-step Work4 k = on k (k .at)
+    keep-step Work5 k = hold (k .at .1 ∙ sym (landed _ _ _ _ (k .aim) (k .at .0)), k .at .2 ∙ sym (landed _ _ _ _ (k .aim) (k .at .0)))
+    keep-step Wind1 k = on k (wound w (k .aim))
+    keep-step Wind2 k = on k (k .at, wound w (k .aim))
+    keep-step Wind3 k = on k (k .at)
+    keep-step Wind4 k = hold (k .at)
 
   -- ## Every shape
 
   keep-shape : (k : Kind) (r : Ruled) → Shape d k r → After G r
   keep-shape k r (quiet n) = inv
-  keep-shape k r clears = inv
-  keep-shape k r (notes id lba e empty found q) =
-      let free = standing (id .0) e found q in
-      let rest = subst (λ (n : Note). Held b M (accepted h) (address start h) (d .native .0) (d .accessible .0) (d .position) n) empty (inv .held) in
-      record { same = inv .same; low = inv .low; only = inv .only; held = record { there = free .1; aim = rw (free .0) (sym (rest .0)); at = (free .0, refl) } }
-  keep-shape k r (advances w e) = keep-step w e (d .position) (full w e)
-  keep-shape k r (winds w e) = let k = full w e in hold (rw e (record { there = k .there; aim = k .aim; at = tt }))
+  keep-shape k r clears = hold (inv .held)
+  keep-shape k r (notes id lba empty s) =
+      hold (record { there = hit-present t d built id (s .hit); aim = rw (unmarked id s) (sym (held-at start h d inv Empty empty .0)); at = (unmarked id s, refl) })
+  keep-shape k r (advances w e) = keep-step w e (d .position) (held-at start h d inv (Full w) e)
+  keep-shape k r (winds w e) = on w e (held-at start h d inv (Full w) e) tt
 
   -- ## Grades
 
   module _ (id : ElementId) (v : ℕ) where
-    grade-one : (t : Bool) (e : Element) → (t ≡ true → M (e .id .0) ≡ false)
-        → cond t (withHealth v (recordedBy M G e)) (recordedBy M G e) ≡ withHealth (cond (M (e .id .0)) 0xFF (cond t v (G (e .id .0) (e .health)))) e
-    grade-one true e k = rw (k refl)
-    grade-one false e k = refl
+    grade-one : (b m : Bool) (g : ℕ) → (b ≡ true → m ≡ false) → cond b v (cond m 0xFF g) ≡ cond m 0xFF (cond b v g)
+    grade-one true m g k = rw (k refl)
+    grade-one false m g k = refl
 
-    low-one : (t : Bool) (g : ℕ) → v ≤ 0xCF → g ≤ 0xCF → cond t v g ≤ 0xCF
+    low-one : (b : Bool) (g : ℕ) → v ≤ 0xCF → g ≤ 0xCF → cond b v g ≤ 0xCF
     low-one true g p q = p
     low-one false g p q = q
 
-    keep-grade : (r : Ruled) → Grading d id v r → After (λ i built. gradedBy (grade id v) (r .number) i (G i built)) r
+    keep-grade : (r : Ruled) → Grading d id v r → After (λ i g. gradedBy (grade id v) (r .number) i (G i g)) r
     keep-grade r refuses = inv
-    keep-grade r (grades e found q good) =
-        let free = standing (id .0) e found q in
+    keep-grade r (grades s good) =
+        let there = hit-there t d built id (s .hit) in
         record {
-          same = changed id (withHealth v)
-              ∙ map-members b (λ x _. grade-one (eqb (id .0) (x .id .0)) x (λ t. subst (λ (k : ℕ). M k ≡ false) (eqb-true (id .0) (x .id .0) t) (free .0)));
-          low = λ x m z. low-one (eqb (id .0) (x .id .0)) (G (x .id .0) (x .health)) (leb-true v 0xCF good) (inv .low x m z);
+          celled = rw length-set (inv .celled);
+          same = λ i k.
+              rw (there .1) at (stored (see d id .place) v i (there .0) k)
+              ∙ grade-one (eqb (id .0) (identifierAt t i)) (M (identifierAt t i)) _ (λ q. subst (λ (j : ℕ). M j ≡ false) (eqb-true (id .0) (identifierAt t i) q) (unmarked id s));
+          low = λ i k z. low-one (eqb (id .0) (identifierAt t i)) _ (leb-true v 0xCF good) (inv .low i k z);
           only = inv .only;
           held = inv .held;
         }

@@ -2,8 +2,8 @@
 pub mod Demand3
 pub mod Events
 pub mod Kept
+pub mod Places
 pub mod Progress
 pub mod Promise
 pub mod Runs
 pub mod Starts
-pub mod Tables

@@ -1,167 +1,124 @@
 -- What a run keeps: the invariant holds at any start, every event keeps it, and at rest it is the promise.
-use Prim.Native.Nat.{ℕ, _≤_}
-use mathlib.Core.Bool.{Bool, true, false, cond, _||_, true≢false}
-use mathlib.Core.List.{List, [], _∷_, map, List·Memᴰ}
-use mathlib.Core.Path.{_≡_, refl, sym, ap, _∙_, subst, subst⁻¹}
-use borrow.Author.Tests.{eqb-true, leb-true}
-use Rattle.device.specs.Cells.{make, isSet}
-use Rattle.device.specs.Machine.{rule, powerCut, told}
-use Rattle.device.specs.Rulings.{carriedOut}
-use Rattle.device.specs.Steps.{foundRemoved, ruleStop}
+use Prim.Native.Nat.{ℕ, _≤_, _<_}
+use mathlib.Core.Bool.{Bool, true, false, cond, _||_, true≢false, or-true}
+use mathlib.Core.Path.{_≡_, refl, sym, ap, _∙_}
+use borrow.Author.Tests.{eqb-true, le-leb, leb-true}
+use Rattle.device.proofs.PowerCut.{stop-keeps-cells}
+use Rattle.device.specs.Cells.{make, isSet, healthAt}
+use Rattle.device.specs.Machine.{rule, powerCut}
+use Rattle.device.specs.Sights.{see, gone}
+use Rattle.device.specs.Steps.{ruleStop}
+use Rattle.device.specs.declared.Cells.{Cells}
 use Rattle.device.specs.declared.Device.{Device}
 use Rattle.device.specs.declared.Note.the-variants.{Empty, Full}
 use Rattle.device.specs.declared.Note.{Note}
-use Rattle.device.specs.declared.Position.{Position}
 use Rattle.device.specs.declared.Store.the-variants.{Nothing, NativeTo, AccessibleTo, Marked, Graded, FailedTo, Noted, NoteEmptied}
 use Rattle.device.specs.declared.Store.{Store}
-use Rattle.paper.specs.Elements.{gradedHealth}
-use Rattle.paper.specs.declared.Lba.{Lba}
-use Rattle.table.proofs.Stores.{store-count}
-use Rattle.table.specs.Check.{ascending}
-use Rattle.table.specs.Elements.{live, withHealth, atFFh, isRemoved}
-use Rattle.table.specs.Search.{find}
-use Rattle.table.specs.declared.Element.{Element}
-use Rattle.history.specs.Ledger.{removedAmong, marked, accepted, firstAddress, address, gradeIn, failedBy, failedIn}
+use Rattle.paper.specs.Elements.{removedHealth, gradedHealth}
+use Rattle.table.specs.Elements.{size, identifierAt}
+use Rattle.history.specs.Ledger.{marked, firstAddress, failedBy, failedIn}
 use Rattle.history.specs.Promise.{Promise, Kept-by-runs}
-use Rattle.history.specs.Runs.{Script, begin, _▸_, after, history}
-use Rattle.history.specs.Starts.{Present, fit, Begins, Startable, Cut-starts}
-use Rattle.history.proofs.Kept.{Placed, Held, Inv, keep}
-use Rattle.history.proofs.Tables.{map-members, all-members, members-all, among-self, among-find, among-present, recordedBy, ascending-recorded, removed-member, fit-member, present-map}
+use Rattle.history.specs.Runs.{Script, begin, _▸_, empty, after, history}
+use Rattle.history.specs.Starts.{fit, Begins, Startable, Cut-starts}
+use Rattle.history.proofs.Kept.{Held, Inv, HeldAt, held-at, wound-to, removed-marked, keep}
+use Rattle.history.proofs.Places.{table-kept, gone-present, gone-place}
 
 other : (a b : Bool) → (a || b) ≡ true → a ≡ false → b ≡ true
 other true b e z = absurd (true≢false z)
 other false b e z = e
 
-cond-0 : (m : Bool) (x y : Lba) → cond m x y .0 ≡ cond m (x .0) (y .0)
-cond-0 true x y = refl
-cond-0 false x y = refl
-
-map-self : {f : Element → Element} (l : List Element) → ((e : Element) → List·Memᴰ e l → f e ≡ e) → map f l ≡ l
-map-self {f} l k = map-members {f = f} {g = λ e. e} l k ∙ map-id l
-  where
-    map-id : (l : List Element) → map (λ e. e) l ≡ l
-    map-id [] = refl
-    map-id (x ∷ xs) = ap (λ (r : List Element). x ∷ r) (map-id xs)
-
--- ## What is no part of the invariant: the count, the limit, the failed mark
-
-size-kept : (s : Store) (d : Device) → (make s d .table .count ≡ d .table .count) × (make s d .table .limit ≡ d .table .limit)
-size-kept Nothing d = (refl, refl)
-size-kept (NativeTo v) d = (refl, refl)
-size-kept (AccessibleTo v) d = (refl, refl)
-size-kept (Marked id) d = store-count (id .0) atFFh (d .table)
-size-kept (Graded id h) d = store-count (id .0) (withHealth h) (d .table)
-size-kept (FailedTo m) d = (refl, refl)
-size-kept (Noted w) d = (refl, refl)
-size-kept NoteEmptied d = (refl, refl)
-
-failed-after : (s : Store) (d : Device) → isSet (make s d .failed) ≡ failedBy s (isSet (d .failed))
-failed-after Nothing d = refl
-failed-after (NativeTo v) d = refl
-failed-after (AccessibleTo v) d = refl
-failed-after (Marked id) d = refl
-failed-after (Graded id h) d = refl
-failed-after (FailedTo m) d = refl
-failed-after (Noted w) d = refl
-failed-after NoteEmptied d = refl
-
--- a cut keeps the note and the table
-cut-keeps : (d : Device) → (told d powerCut .state .note ≡ d .note) × (live (told d powerCut .state .table) ≡ live (d .table))
-cut-keeps d = go (d .note)
-  where
-    go : (n : Note) → (carriedOut d (ruleStop d 0 n) .note ≡ d .note) × (live (carriedOut d (ruleStop d 0 n) .table) ≡ live (d .table))
-    go Empty = (refl, refl)
-    go (Full w) = (refl, refl)
+-- the failed mark is no part of the invariant
+failed-after : (s : Store) (c : Cells) → isSet (make s c .failed) ≡ failedBy s (isSet (c .failed))
+failed-after Nothing c = refl
+failed-after (NativeTo v) c = refl
+failed-after (AccessibleTo v) c = refl
+failed-after (Marked place) c = refl
+failed-after (Graded place h) c = refl
+failed-after (FailedTo m) c = refl
+failed-after (Noted w) c = refl
+failed-after NoteEmptied c = refl
 
 module _ (start : Device) (can : Startable start) where
-  abbrev b : List Element
-  b = live (start .table)
-
   -- ## The start
 
-  same-start : b ≡ map (recordedBy (removedAmong b) (λ _ x. x)) b
-  same-start = sym (map-self b (λ e m. rw (among-self b (can .ids) e m) (healthy e (isRemoved e) refl)))
-    where
-      healthy : (e : Element) (m : Bool) → isRemoved e ≡ m → withHealth (cond m 0xFF (e .health)) e ≡ e
-      healthy e true q = ap (λ (h : ℕ). withHealth h e) (sym (eqb-true (e .health) 0xFF q))
-      healthy e false q = refl
+  first : (i : ℕ) → i < size (start .table) → marked start empty (identifierAt (start .table) i) ≡ removedHealth (healthAt start i)
+  first i h = gone-place (start .table) (can .ids) start refl i h
 
-  low-start : (e : Element) → List·Memᴰ e b → removedAmong b (e .id .0) ≡ false → e .health ≤ 0xCF
-  low-start e m z =
-      leb-true (e .health) 0xCF
-      (other (isRemoved e) (gradedHealth (e .health)) (all-members fit b e (can .healths) m) (sym (among-self b (can .ids) e m) ∙ z))
-
-  held-start : (n : Note) → start .note ≡ n → Begins start n
-      → Held b (removedAmong b) 0 (firstAddress start n) (start .native .0) (start .accessible .0) (start .position) n
-  held-start Empty e r = (refl, r)
-  held-start (Full w) e r =
+  held-first : (n : Note) → Begins start n
+      → Held (start .table) (marked start empty) 0 (firstAddress start n) (start .cells .native .0) (start .cells .accessible .0) (start .position) n
+  held-first Empty r = (refl, r)
+  held-first (Full w) r =
       record {
         there = r .0;
-        aim = cond-0 (foundRemoved (find (w .element .0) b)) (w .new) (w .old) ∙ ap (λ (m : Bool). cond m (w .new .0) (w .old .0)) (among-find b (can .ids) (w .element .0));
-        at = subst⁻¹ (λ (p : Position). Placed p (removedAmong b (w .element .0)) 0 (start .native .0) (start .accessible .0) (w .new .0) (firstAddress start (Full w))) (r .1) tt;
+        aim = wound-to (gone (see start (w .element))) (w .new) (w .old);
+        at = rw (r .1) tt;
       }
+
+  inv-first : Inv start empty start
+  inv-first = record {
+    celled = can .celled;
+    same = λ i h. rw (first i h) (healthy (healthAt start i) (removedHealth (healthAt start i)) refl);
+    low = λ i h z. leb-true (healthAt start i) 0xCF (other (removedHealth (healthAt start i)) (gradedHealth (healthAt start i)) (can .healths i h) (sym (first i h) ∙ z));
+    only = λ id. gone-present (start .table) start refl (record { 0 = id });
+    held = held-first (start .cells .note) (can .begins);
+  }
+    where
+      healthy : (h : ℕ) (m : Bool) → removedHealth h ≡ m → h ≡ cond m 0xFF h
+      healthy h true q = eqb-true h 0xFF q
+      healthy h false q = refl
 
   -- ## Any run
 
   inv : (s : Script) → Inv start (history start s) (after start s)
-  inv begin = record { same = same-start; low = low-start; only = among-present b (can .ids); held = held-start (start .note) refl (can .begins) }
-  inv (s ▸ e) = keep start (can .ids) (history start s) (after start s) (inv s) e
+  inv begin = inv-first
+  inv (s ▸ e) = keep start (can .ids) (history start s) (after start s) (table-kept start s) (inv s) e
 
-  sizes : (s : Script) → (after start s .table .count ≡ start .table .count) × (after start s .table .limit ≡ start .table .limit)
-  sizes begin = (refl, refl)
-  sizes (s ▸ e) =
-      let now = size-kept (rule (after start s) e .store) (after start s) in
-      let past = sizes s in
-      (now .0 ∙ past .0, now .1 ∙ past .1)
+  removed-in : (s : Script) (i : ℕ) → i < size (start .table) → removedHealth (healthAt (after start s) i) ≡ marked start (history start s) (identifierAt (start .table) i)
+  removed-in s = removed-marked start (can .ids) (history start s) (after start s) (table-kept start s) (inv s)
 
-  failed-kept : (s : Script) → isSet (after start s .failed) ≡ failedIn start (history start s)
+  failed-kept : (s : Script) → isSet (after start s .cells .failed) ≡ failedIn start (history start s)
   failed-kept begin = refl
-  failed-kept (s ▸ e) = failed-after (rule (after start s) e .store) (after start s) ∙ ap (failedBy (rule (after start s) e .store)) (failed-kept s)
+  failed-kept (s ▸ e) = failed-after (rule (after start s) e .store) (after start s .cells) ∙ ap (failedBy (rule (after start s) e .store)) (failed-kept s)
 
-  held-at : (s : Script) (n : Note) → after start s .note ≡ n
-      → Held b (marked start (history start s)) (accepted (history start s)) (address start (history start s)) (after start s .native .0) (after start s .accessible .0) (after start s .position) n
-  held-at s n e =
-      subst (λ (m : Note). Held b (marked start (history start s)) (accepted (history start s)) (address start (history start s)) (after start s .native .0) (after start s .accessible .0) (after start s .position) m) e
-      (inv s .held)
+  holds : (s : Script) (n : Note) → after start s .cells .note ≡ n → HeldAt start (history start s) (after start s) (after start s .position) n
+  holds s = held-at start (history start s) (after start s) (inv s)
 
-  promised : (s : Script) → after start s .note ≡ Empty → Promise start (history start s) (after start s)
+  promised : (s : Script) → after start s .cells .note ≡ Empty → Promise start (history start s) (after start s)
   promised s e =
-      let M : ℕ → Bool = marked start (history start s) in
-      let G : ℕ → ℕ → ℕ = gradeIn (history start s) in
-      let k : Inv start (history start s) (after start s) = inv s in
-      let r = held-at s Empty e in
       record {
-        removed = λ x m. removed-member M G b (k .low) x (subst (List·Memᴰ x) (k .same) m);
-        there = λ id q. subst (λ (l : List Element). Present l id) (sym (k .same)) (present-map M G b id (k .only id q));
-        native-max = r .0;
-        accessible-max = r .1;
-        elements = k .same;
-        count = sizes s .0;
-        limit = sizes s .1;
+        removed = rw (table-kept start s) (removed-in s);
+        there = rw (table-kept start s) (inv s .only);
+        native-max = holds s Empty e .0;
+        accessible-max = holds s Empty e .1;
+        table = table-kept start s;
+        healths = rw (table-kept start s) (inv s .same);
       }
 
   -- ## After a cut
 
-  cut-begins : (s : Script) (n : Note) → after start s .note ≡ n → Begins (after start (s ▸ powerCut)) n
-  cut-begins s Empty e =
-      let r = held-at (s ▸ powerCut) Empty (cut-keeps (after start s) .0 ∙ e) in
-      r .1 ∙ sym (r .0)
+  cut-note : (s : Script) → after start (s ▸ powerCut) .cells .note ≡ after start s .cells .note
+  cut-note s = ap (λ (c : Cells). c .note) (stop-keeps-cells (after start s) .0)
+
+  cut-begins : (s : Script) (n : Note) → after start s .cells .note ≡ n → Begins (after start (s ▸ powerCut)) n
+  cut-begins s Empty e = let r = holds (s ▸ powerCut) Empty (cut-note s ∙ e) in r .1 ∙ sym (r .0)
   cut-begins s (Full w) e =
-      let r = held-at s (Full w) e in
-      let k : Inv start (history start s) (after start s) = inv s in (
-        subst (λ (l : List Element). Present l (w .element .0)) (sym (cut-keeps (after start s) .1 ∙ k .same)) (present-map (marked start (history start s)) (gradeIn (history start s)) b (w .element .0) (r .there)),
-        ap (λ (n : Note). ruleStop (after start s) 0 n .next) e,
-      )
+      (rw (table-kept start s) (holds s (Full w) e .there), ap (λ (n : Note). ruleStop (after start s .position) 0 n .next) e)
+
+  fit-in : (s : Script) (i : ℕ) → i < size (start .table) → fit (healthAt (after start s) i) ≡ true
+  fit-in s i h = rw (inv s .same i h) (healthy (marked start (history start s) (identifierAt (start .table) i)) _ (inv s .low i h))
+    where
+      healthy : (m : Bool) (g : ℕ) → (m ≡ false → g ≤ 0xCF) → fit (cond m 0xFF g) ≡ true
+      healthy true g k = refl
+      healthy false g k = rw (le-leb g 0xCF (k refl), or-true)
 
 pub kept : (start : Device) → Startable start → (s : Script) → Kept-by-runs start (history start s) (after start s)
 kept start can s = record { at-rest = promised start can s; failed = failed-kept start can s }
 
 pub cut-starts : Cut-starts
 cut-starts start can s =
-    let h = history start (s ▸ powerCut) in
-    let k = inv start can (s ▸ powerCut) in
     record {
-      ids = ap (ascending 0) (k .same) ∙ ascending-recorded (marked start h) (gradeIn h) 0 (live (start .table)) ∙ can .ids;
-      healths = members-all fit _ (λ x m. fit-member (marked start h) (gradeIn h) (live (start .table)) (k .low) x (subst (List·Memᴰ x) (k .same) m));
-      begins = cut-begins start can s (after start (s ▸ powerCut) .note) (sym (cut-keeps (after start s) .0));
+      ids = rw (table-kept start s) (can .ids);
+      celled = rw (table-kept start s) (inv start can (s ▸ powerCut) .celled);
+      healths = rw (table-kept start s) (fit-in start can (s ▸ powerCut));
+      begins = cut-begins start can s (after start (s ▸ powerCut) .cells .note) (sym (cut-note start can s));
     }

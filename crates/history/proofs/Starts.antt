@@ -1,66 +1,74 @@
--- An accepted table starts: its device has its elements, and none at FFh.
-use Prim.Native.Nat.{_-_, _≤_}
-use mathlib.Core.Bool.{Bool, true, false, cond, _||_, false≢true}
-use mathlib.Core.List.{List, List·Memᴰ}
+-- An accepted table starts: its device has its elements, each health in the cell of its place, and none at FFh.
+use Prim.Native.Nat.{ℕ, zero, suc, _-_, _≤_, _<_}
+use mathlib.Core.Bool.{Bool, true, false, cond, or-true, false≢true}
+use mathlib.Core.List.{List, [], _∷_, map}
 use mathlib.Core.Path.{_≡_, refl, sym, ap, _∙_, subst}
 use native.Mathlib.Omega.{arith}
-use lib.ListN.{length, replicate, length-take}
-use lib.Seq.{take-at}
+use lib.ListN.{length, getD, replicate, length-map, length-append, List·getD-append}
 use borrow.Author.Tests.{leb-true, ne-eqb}
-use Rattle.device.specs.Cells.{isSet}
+use Rattle.device.proofs.EveryCall.{fresh-order}
+use Rattle.device.specs.Cells.{isSet, healthAt}
 use Rattle.device.specs.Making.{fresh, madeOf}
 use Rattle.device.specs.declared.Device.{Device}
 use Rattle.paper.specs.Answers.{numberOf}
-use Rattle.paper.specs.Elements.{gradedHealth}
+use Rattle.paper.specs.Elements.{gradedHealth, removedHealth}
 use Rattle.paper.specs.Told.{Told, tells, said}
-use Rattle.table.proofs.Laws.{good-ascending, good-sound, good-count}
-use Rattle.table.specs.Check.{ascending, sound, good}
-use Rattle.table.specs.Elements.{live, blank, isRemoved}
+use Rattle.table.proofs.Check.{both}
+use Rattle.table.proofs.Laws.{good-sound, good-count}
+use Rattle.table.proofs.Splits.{split-front, built-ids}
+use Rattle.table.specs.Check.{sound, good}
+use Rattle.table.specs.Elements.{offered, blankPart, size, partOf, healthOf}
 use Rattle.table.specs.declared.Element.{Element}
-use Rattle.table.specs.declared.Table.{Table}
+use Rattle.table.specs.declared.Offer.{Offer}
 use Rattle.words.specs.Lists.{all}
-use Rattle.history.specs.Ledger.{removedAmong}
-use Rattle.history.specs.Starts.{fit, Made-of, Accepted-starts}
-use Rattle.history.proofs.Tables.{both, all-members, members-all, none-among}
+use Rattle.history.specs.Starts.{Made-of, Accepted-starts}
+use Rattle.history.proofs.Places.{gone-told}
 
-right : (a b : Bool) → b ≡ true → (a || b) ≡ true
-right true b q = refl
-right false b q = q
+graded-all : (es : List Element) → all sound es ≡ true → (i : ℕ) → i < length es → gradedHealth (getD (map healthOf es) i 0) ≡ true
+graded-all [] q i h = absurd (omega arith)
+graded-all (e ∷ es) q zero h = both (gradedHealth (e .health)) _ (both (sound e) (all sound es) q .0) .0
+graded-all (e ∷ es) q (suc i) h = graded-all es (both (sound e) (all sound es) q .1) i (omega arith)
 
-module _ (t : Table) (full : length (t .elements) ≡ 128) (g : good (t .count) (live t) (t .limit) ≡ true) where
-  same : live (fresh t .table) ≡ live t
-  same =
-      let few : t .count ≤ 128 = good-count (t .count) (live t) (t .limit) g in
-      let long : length (live t) ≡ t .count = simp (length-take, full) (omega arith) in
-      take-at (live t) (replicate (128 - t .count) blank) (t .count) long
+module _ (o : Offer) (full : length (o .elements) ≡ 128) (g : good (o .count) (offered o) (o .limit) ≡ true) where
+  few : o .count ≤ 128
+  few = good-count (o .count) (offered o) (o .limit) g
 
-  graded : (e : Element) → List·Memᴰ e (live t) → gradedHealth (e .health) ≡ true
-  graded e m = both (gradedHealth (e .health)) _ (all-members sound (live t) e (good-sound (t .count) (live t) (t .limit) g) m) .0
+  sizes : size (fresh o .table) ≡ length (offered o)
+  sizes = ap length (built-ids o full few) ∙ length-map (offered o) (λ (e : Element). e .id .0)
 
-  standing : (e : Element) → List·Memᴰ e (live t) → isRemoved e ≡ false
-  standing e m = ne-eqb (e .health) 0xFF (λ q. let low : e .health ≤ 0xCF = leb-true (e .health) 0xCF (graded e m) in omega arith)
+  graded : (i : ℕ) → i < size (fresh o .table) → gradedHealth (healthAt (fresh o) i) ≡ true
+  graded i h =
+      let inside : i < length (map healthOf (offered o)) = rw (length-map (offered o) healthOf, sym sizes) h in
+      rw (List·getD-append (map healthOf (offered o)) (replicate (128 - o .count) 0) 0 i inside)
+      (graded-all (offered o) (good-sound (o .count) (offered o) (o .limit) g) i (rw sizes at h))
 
-  made-of : Made-of t (fresh t)
+  standing : (i : ℕ) → i < size (fresh o .table) → removedHealth (healthAt (fresh o) i) ≡ false
+  standing i h =
+      ne-eqb (healthAt (fresh o) i) 0xFF (λ q. let low : healthAt (fresh o) i ≤ 0xCF = leb-true (healthAt (fresh o) i) 0xCF (graded i h) in omega arith)
+
+  made-of : Made-of o (fresh o)
   unfolding isSet
   made-of = record {
     startable = record {
-      ids = ap (ascending 0) same ∙ good-ascending (t .count) (live t) (t .limit) g;
-      healths = ap (all fit) same ∙ members-all fit (live t) (λ e m. right (isRemoved e) (gradedHealth (e .health)) (graded e m));
+      ids = fresh-order o full g;
+      celled = rw (sizes, length-append, length-map) (omega arith);
+      healths = λ i h. rw (graded i h, or-true);
       begins = refl;
     };
-    elements = same;
+    parts = split-front o full few partOf blankPart;
+    healths = split-front o full few healthOf 0;
     count = refl;
     limit = refl;
     first = refl;
-    unmarked = λ id. ap (λ (l : List Element). removedAmong l id) same ∙ none-among (live t) standing id;
+    unmarked = λ id. gone-told (fresh o .table) (fresh-order o full g) (fresh o) refl (λ _. false) standing (record { 0 = id }) (λ q. absurd (false≢true q));
     sound = refl;
   }
 
 pub accepted-starts : Accepted-starts
 unfolding madeOf
-accepted-starts there t a d full said-so = go (good (t .count) (live t) (t .limit)) refl said-so
+accepted-starts there o a d full said-so = go (good (o .count) (offered o) (o .limit)) refl said-so
   where
-    go : (b : Bool) → good (t .count) (live t) (t .limit) ≡ b → said a d ≡ cond b (tells 0 (fresh t)) (tells 8 there) → (numberOf a ≡ 0 → Made-of t d) × (b ≡ true → numberOf a ≡ 0)
-    go true g q = (λ _. subst (Made-of t) (sym (ap (λ (u : Told Device). u .state) q)) (made-of t full g), λ _. ap (λ (u : Told Device). u .number) q)
+    go : (b : Bool) → good (o .count) (offered o) (o .limit) ≡ b → said a d ≡ cond b (tells 0 (fresh o)) (tells 8 there) → (numberOf a ≡ 0 → Made-of o d) × (b ≡ true → numberOf a ≡ 0)
+    go true g q = (λ _. subst (Made-of o) (sym (ap (λ (u : Told Device). u .state) q)) (made-of o full g), λ _. ap (λ (u : Told Device). u .number) q)
     go false g q =
         (λ z. absurd (let e : numberOf a ≡ 8 = ap (λ (u : Told Device). u .number) q in omega arith), λ z. absurd (false≢true z))

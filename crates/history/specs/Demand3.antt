@@ -17,9 +17,9 @@ use Rattle.history.specs.Starts.{Startable, Accepted-starts, Cut-starts}
 -- after a stop during a removal, and three undisturbed steps, the fourth brings the promise about
 abbrev pub Brought-about : Type 0
 Brought-about =
-    (start : Device) → Startable start → (s : Script) (w : Removal) → after start s .note ≡ Full w → (e : Event) → stops e ≡ true
+    (start : Device) → Startable start → (s : Script) (w : Removal) → after start s .cells .note ≡ Full w → (e : Event) → stops e ≡ true
     → (t : Script) → calm t ≡ true → steps t ≡ 3
-    → (after start (s ▸ e ▸▸ (t ▸ step)) .note ≡ Empty)
+    → (after start (s ▸ e ▸▸ (t ▸ step)) .cells .note ≡ Empty)
     × Promise start (history start (s ▸ e ▸▸ (t ▸ step))) (after start (s ▸ e ▸▸ (t ▸ step)))
 
 pub record Demand-3 : Type 0 where

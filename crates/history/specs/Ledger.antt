@@ -1,41 +1,37 @@
 -- The ledger: what demand 3 speaks of, read off the events, answers and stores of a history, and never off a device but the first.
 use Prim.Native.Nat.{ℕ, zero, suc}
-use mathlib.Core.Bool.{Bool, false, cond, _||_, _&&_}
-use mathlib.Core.List.{List, [], _∷_}
+use mathlib.Core.Bool.{Bool, cond, _||_}
 use lib.Dec.{eqb}
-use Rattle.device.specs.Cells.{isSet}
+use Rattle.device.specs.Cells.{isSet, healthAt}
 use Rattle.device.specs.Machine.{Event, command, step, mediaError, powerCut, comreset, hardwareReset, softwareReset, grade}
+use Rattle.device.specs.Sights.{see, gone}
 use Rattle.device.specs.Steps.{woundUp}
 use Rattle.device.specs.declared.Device.{Device}
 use Rattle.device.specs.declared.Note.the-variants.{Empty, Full}
 use Rattle.device.specs.declared.Note.{Note}
 use Rattle.device.specs.declared.Store.the-variants.{Nothing, NativeTo, AccessibleTo, Marked, Graded, FailedTo, Noted, NoteEmptied}
 use Rattle.device.specs.declared.Store.{Store}
-use Rattle.table.specs.Elements.{live, isRemoved, withHealth}
-use Rattle.table.specs.declared.Element.{Element}
+use Rattle.table.specs.Elements.{identifierAt}
+use Rattle.table.specs.declared.Table.{Table}
 use Rattle.history.specs.Runs.{History, empty, _▹_}
 
 -- ## "those whose marking store was made"
 
-abbrev pub markedBy : Store → ℕ → Bool → Bool
-markedBy Nothing id before = before
-markedBy (NativeTo v) id before = before
-markedBy (AccessibleTo v) id before = before
-markedBy (Marked i) id before = eqb (i .0) id || before
-markedBy (Graded i h) id before = before
-markedBy (FailedTo m) id before = before
-markedBy (Noted w) id before = before
-markedBy NoteEmptied id before = before
-
--- whether an element of this identifier is at FFh
-abbrev pub removedAmong : List Element → ℕ → Bool
-removedAmong [] id = false
-removedAmong (e ∷ es) id = (eqb (e .id .0) id && isRemoved e) || removedAmong es id
+-- a store names a place of the table, which is as built
+abbrev pub markedBy : Table → Store → ℕ → Bool → Bool
+markedBy t Nothing id before = before
+markedBy t (NativeTo v) id before = before
+markedBy t (AccessibleTo v) id before = before
+markedBy t (Marked place) id before = eqb (identifierAt t place) id || before
+markedBy t (Graded place h) id before = before
+markedBy t (FailedTo m) id before = before
+markedBy t (Noted w) id before = before
+markedBy t NoteEmptied id before = before
 
 -- an element at FFh at the start counts as marked; a new device has none
 abbrev pub marked : Device → History → ℕ → Bool
-marked start empty id = removedAmong (live (start .table)) id
-marked start (past ▹ x) id = markedBy (x .store) id (marked start past id)
+marked start empty id = gone (see start (record { 0 = id }))
+marked start (past ▹ x) id = markedBy (start .table) (x .store) id (marked start past id)
 
 -- ## "the one accepted with the latest such store, or the first if there was none"
 
@@ -43,8 +39,8 @@ abbrev pub acceptedBy : Store → ℕ → ℕ
 acceptedBy Nothing before = before
 acceptedBy (NativeTo v) before = before
 acceptedBy (AccessibleTo v) before = before
-acceptedBy (Marked i) before = before
-acceptedBy (Graded i h) before = before
+acceptedBy (Marked place) before = before
+acceptedBy (Graded place h) before = before
 acceptedBy (FailedTo m) before = before
 acceptedBy (Noted w) before = w .new .0
 acceptedBy NoteEmptied before = before
@@ -58,19 +54,19 @@ abbrev pub addressBy : Store → ℕ → ℕ → ℕ
 addressBy Nothing new before = before
 addressBy (NativeTo v) new before = before
 addressBy (AccessibleTo v) new before = before
-addressBy (Marked i) new before = new
-addressBy (Graded i h) new before = before
+addressBy (Marked place) new before = new
+addressBy (Graded place h) new before = before
 addressBy (FailedTo m) new before = before
 addressBy (Noted w) new before = before
 addressBy NoteEmptied new before = before
 
 -- the first: where the start is, or is wound up to
 abbrev pub firstAddress : Device → Note → ℕ
-firstAddress d Empty = d .native .0
+firstAddress d Empty = d .cells .native .0
 firstAddress d (Full w) = woundUp d w .0
 
 abbrev pub address : Device → History → ℕ
-address start empty = firstAddress start (start .note)
+address start empty = firstAddress start (start .cells .note)
 address start (past ▹ x) = addressBy (x .store) (accepted past) (address start past)
 
 -- ## "the last accepted grades"
@@ -91,9 +87,11 @@ abbrev pub gradeIn : History → ℕ → ℕ → ℕ
 gradeIn empty id built = built
 gradeIn (past ▹ x) id built = gradedBy (x .event) (x .answer) id (gradeIn past id built)
 
--- an element as the history has it: FFh if marked, else the last accepted grade; all else as built
-abbrev pub recorded : Device → History → Element → Element
-recorded start h e = withHealth (cond (marked start h (e .id .0)) 0xFF (gradeIn h (e .id .0) (e .health))) e
+-- the health of a place as the history has it: FFh if its element is marked, else the last accepted grade
+abbrev pub recorded : Device → History → ℕ → ℕ
+recorded start h place =
+    let id : ℕ = identifierAt (start .table) place in
+    cond (marked start h id) 0xFF (gradeIn h id (healthAt start place))
 
 -- ## The failed mark: set exactly if winding-up step 3, which alone sets it (Progress, `Setting-store`), came after the last clearing store
 
@@ -101,12 +99,12 @@ abbrev pub failedBy : Store → Bool → Bool
 failedBy Nothing before = before
 failedBy (NativeTo v) before = before
 failedBy (AccessibleTo v) before = before
-failedBy (Marked i) before = before
-failedBy (Graded i h) before = before
+failedBy (Marked place) before = before
+failedBy (Graded place h) before = before
 failedBy (FailedTo m) before = isSet m
 failedBy (Noted w) before = before
 failedBy NoteEmptied before = before
 
 abbrev pub failedIn : Device → History → Bool
-failedIn start empty = isSet (start .failed)
+failedIn start empty = isSet (start .cells .failed)
 failedIn start (past ▹ x) = failedBy (x .store) (failedIn start past)

@@ -1,10 +1,11 @@
 -- How a removal gets on.
-use Prim.Native.Nat.{ℕ, zero, suc, _≤_}
+use Prim.Native.Nat.{ℕ, zero, suc, _≤_, _<_}
 use mathlib.Core.Bool.{Bool, true, false, _&&_}
 use mathlib.Core.Path.{_≡_}
 use Rattle.device.specs.Machine.{Event, command, step, mediaError, powerCut, comreset, hardwareReset, softwareReset, grade, rule, told}
 use Rattle.device.specs.Remove.{identifierOf}
-use Rattle.device.specs.Steps.{removedIn, woundUp}
+use Rattle.device.specs.Sights.{see, gone}
+use Rattle.device.specs.Steps.{woundUp}
 use Rattle.device.specs.declared.Device.{Device}
 use Rattle.device.specs.declared.Mark.the-variants.{Clear, Set}
 use Rattle.device.specs.declared.Note.the-variants.{Empty, Full}
@@ -13,9 +14,9 @@ use Rattle.device.specs.declared.Position.{Position}
 use Rattle.device.specs.declared.Removal.{Removal}
 use Rattle.device.specs.declared.Store.the-variants.{NativeTo, AccessibleTo, Marked, FailedTo, Noted, NoteEmptied}
 use Rattle.device.specs.declared.Store.{Store}
-use Rattle.paper.specs.declared.ElementId.{ElementId}
 use Rattle.paper.specs.declared.Lba.{Lba}
 use Rattle.paper.specs.declared.Security.{Security}
+use Rattle.table.specs.Elements.{size, identifierAt}
 use Rattle.history.specs.Runs.{Script, begin, _▸_, _▸▸_, after}
 
 -- ## "Undisturbed": no media error and no power cut; commands, grades and resets may come between the steps
@@ -55,18 +56,20 @@ steps (s ▸ e) = stepBy e (steps s)
 abbrev pub Acceptance : Type 0
 Acceptance =
     (d : Device) (security : Security) (feature count : ℕ) (lba : Lba) (room : ℕ)
-    → told d (command security 0x7C feature count lba room) .number ≡ 0 → removedIn (d .table) (identifierOf feature count) ≡ false
-    → (w : Removal) × (rule d (command security 0x7C feature count lba room) .store ≡ Noted w) × (w .element ≡ identifierOf feature count) × (w .old ≡ d .native)
+    → told d (command security 0x7C feature count lba room) .number ≡ 0 → gone (see d (identifierOf feature count)) ≡ false
+    → (w : Removal) × (rule d (command security 0x7C feature count lba room) .store ≡ Noted w) × (w .element ≡ identifierOf feature count) × (w .old ≡ d .cells .native)
 
 -- ## Which events make the marking store, and the store that sets the failed mark
 
 -- the next step is the one at this position, of this removal
 pub record At (p : Position) (w : Removal) (d : Device) : Type 0 where
-  pub note : d .note ≡ Full w
+  pub note : d .cells .note ≡ Full w
   pub position : d .position ≡ p
 
 abbrev pub Marking-store : Type 0
-Marking-store = (d : Device) (e : Event) (id : ElementId) → rule d e .store ≡ Marked id → (e ≡ step) × ((w : Removal) × At Work3 w d × (w .element ≡ id))
+Marking-store =
+    (d : Device) (e : Event) (place : ℕ) → rule d e .store ≡ Marked place
+    → (e ≡ step) × ((w : Removal) × At Work3 w d × (place < size (d .table)) × (w .element .0 ≡ identifierAt (d .table) place))
 
 abbrev pub Setting-store : Type 0
 Setting-store = (d : Device) (e : Event) → rule d e .store ≡ FailedTo Set → (e ≡ step) × ((w : Removal) × At Wind3 w d)
@@ -75,30 +78,30 @@ Setting-store = (d : Device) (e : Event) → rule d e .store ≡ FailedTo Set �
 
 -- k steps are done: the removal is under way, and the next step answers 0 and makes the store of its turn
 pub record On-its-way (stores : ℕ → Store) (w : Removal) (k : ℕ) (d : Device) : Type 0 where
-  pub note : d .note ≡ Full w
+  pub note : d .cells .note ≡ Full w
   pub answer : told d step .number ≡ 0
   pub store : rule d step .store ≡ stores k
 
--- document 01's list, counted from 0: the marking store is the third
-abbrev pub workStore : Removal → ℕ → Store
-workStore w zero = NativeTo (w .new)
-workStore w (suc zero) = AccessibleTo (w .new)
-workStore w (suc (suc zero)) = Marked (w .element)
-workStore w (suc (suc (suc zero))) = FailedTo Clear
-workStore w (suc (suc (suc (suc n)))) = NoteEmptied
+-- document 01's list, counted from 0: the marking store is the third, at the noted element's place (`Marking-store`)
+abbrev pub workStore : ℕ → Removal → ℕ → Store
+workStore place w zero = NativeTo (w .new)
+workStore place w (suc zero) = AccessibleTo (w .new)
+workStore place w (suc (suc zero)) = Marked place
+workStore place w (suc (suc (suc zero))) = FailedTo Clear
+workStore place w (suc (suc (suc (suc n)))) = NoteEmptied
 
 -- after an event that made the note
 abbrev pub Five-steps : Type 0
 Five-steps =
     (d : Device) (e : Event) (w : Removal) → rule d e .store ≡ Noted w
     → (s : Script) → calm s ≡ true → steps s ≤ 4
-    → On-its-way (workStore w) w (steps s) (after d (begin ▸ e ▸▸ s))
+    → On-its-way (workStore (see d (w .element) .place) w) w (steps s) (after d (begin ▸ e ▸▸ s))
 
 abbrev pub Fifth-ends : Type 0
 Fifth-ends =
     (d : Device) (e : Event) (w : Removal) → rule d e .store ≡ Noted w
     → (s : Script) → calm s ≡ true → steps s ≡ 4
-    → after d (begin ▸ e ▸▸ (s ▸ step)) .note ≡ Empty
+    → after d (begin ▸ e ▸▸ (s ▸ step)) .cells .note ≡ Empty
 
 -- ## Winding up
 
@@ -114,7 +117,7 @@ stops softwareReset = false
 stops (grade i h) = false
 
 abbrev pub Stop-winds : Type 0
-Stop-winds = (d : Device) (w : Removal) → d .note ≡ Full w → (e : Event) → stops e ≡ true → (told d e .number ≡ 0) × At Wind1 w (told d e .state)
+Stop-winds = (d : Device) (w : Removal) → d .cells .note ≡ Full w → (e : Event) → stops e ≡ true → (told d e .number ≡ 0) × At Wind1 w (told d e .state)
 
 -- the list of winding up, to where it leads
 abbrev pub windStore : Lba → ℕ → Store
@@ -133,4 +136,4 @@ abbrev pub Fourth-ends : Type 0
 Fourth-ends =
     (d : Device) (w : Removal) → At Wind1 w d
     → (s : Script) → calm s ≡ true → steps s ≡ 3
-    → after d (s ▸ step) .note ≡ Empty
+    → after d (s ▸ step) .cells .note ≡ Empty

@@ -1,9 +1,10 @@
 -- Where a run may start, and that every accepted table makes such a start.
-use Prim.Native.Nat.{ℕ, _-_}
+use Prim.Native.Nat.{ℕ, _-_, _<_, _≤_}
 use mathlib.Core.Bool.{Bool, true, false, _||_}
-use mathlib.Core.List.{List, List·Memᴰ}
+use mathlib.Core.List.{map}
 use mathlib.Core.Path.{_≡_}
-use lib.ListN.{length}
+use lib.ListN.{length, take}
+use Rattle.device.specs.Cells.{healthAt}
 use Rattle.device.specs.Machine.{powerCut}
 use Rattle.device.specs.Making.{madeOf}
 use Rattle.device.specs.declared.Device.{Device}
@@ -11,51 +12,53 @@ use Rattle.device.specs.declared.Note.the-variants.{Empty, Full}
 use Rattle.device.specs.declared.Note.{Note}
 use Rattle.device.specs.declared.Position.the-variants.{Wind1}
 use Rattle.paper.specs.Answers.{numberOf}
-use Rattle.paper.specs.Elements.{gradedHealth}
+use Rattle.paper.specs.Elements.{removedHealth, gradedHealth}
 use Rattle.paper.specs.Told.{said}
 use Rattle.paper.specs.declared.Answer.{Answer}
 use Rattle.table.specs.Check.{ascending, good}
-use Rattle.table.specs.Elements.{live, isRemoved, blockSum}
-use Rattle.table.specs.declared.Element.{Element}
+use Rattle.table.specs.Elements.{offered, live, identifiers, size, identifierAt, partOf, healthOf, blockSum}
+use Rattle.table.specs.declared.Offer.{Offer}
 use Rattle.table.specs.declared.Table.{Table}
-use Rattle.words.specs.Lists.{all}
 use Rattle.history.specs.Ledger.{marked, address, failedIn}
 use Rattle.history.specs.Runs.{Script, _▸_, empty, after}
 
--- an element of this identifier is in the list
-abbrev pub Present : List Element → ℕ → Type 0
-Present es id = (e : Element) × List·Memᴰ e es × (e .id .0 ≡ id)
+-- an element of this identifier is in the table
+abbrev pub Present : Table → ℕ → Type 0
+Present t id = (place : ℕ) × (place < size t) × (identifierAt t place ≡ id)
 
 -- at FFh, or with a health up to CFh
-abbrev pub fit : Element → Bool
-fit e = isRemoved e || gradedHealth (e .health)
+abbrev pub fit : ℕ → Bool
+fit h = removedHealth h || gradedHealth h
 
 -- no removal under way, and equal addresses; or, as after a power cut, before the first winding-up step of the removal of an element of
 -- the table
 abbrev pub Begins : Device → Note → Type 0
-Begins d Empty = d .accessible .0 ≡ d .native .0
-Begins d (Full w) = Present (live (d .table)) (w .element .0) × (d .position ≡ Wind1)
+Begins d Empty = d .cells .accessible .0 ≡ d .cells .native .0
+Begins d (Full w) = Present (d .table) (w .element .0) × (d .position ≡ Wind1)
 
 pub record Startable (d : Device) : Type 0 where
-  pub ids : ascending 0 (live (d .table)) ≡ true
-  pub healths : all fit (live (d .table)) ≡ true
-  pub begins : Begins d (d .note)
+  pub ids : ascending 0 (identifiers (d .table)) ≡ true
+  -- each element has the cell of its health: a new device has them (`Accepted-starts`), and no call takes one away
+  pub celled : size (d .table) ≤ length (d .cells .healths)
+  pub healths : (place : ℕ) → place < size (d .table) → fit (healthAt d place) ≡ true
+  pub begins : Begins d (d .cells .note)
 
 -- a device that was made of a table: its elements, "the starting maximum address is the sum minus 1", nothing marked, no failed mark
-pub record Made-of (t : Table) (d : Device) : Type 0 where
+pub record Made-of (o : Offer) (d : Device) : Type 0 where
   pub startable : Startable d
-  pub elements : live (d .table) ≡ live t
-  pub count : d .table .count ≡ t .count
-  pub limit : d .table .limit ≡ t .limit
-  pub first : address d empty ≡ blockSum (live t) - 1
+  pub parts : live (d .table) ≡ map partOf (offered o)
+  pub healths : take (d .table .count) (d .cells .healths) ≡ map healthOf (offered o)
+  pub count : d .table .count ≡ o .count
+  pub limit : d .table .limit ≡ o .limit
+  pub first : address d empty ≡ blockSum (offered o) - 1
   pub unmarked : (id : ℕ) → marked d empty id ≡ false
   pub sound : failedIn d empty ≡ false
 
 -- "From any accepted table": whoever is answered 0 has such a device; and that is answered exactly to the tables that document 01 accepts
 abbrev pub Accepted-starts : Type 0
 Accepted-starts =
-    (there : Device) (t : Table) (a : Answer) (d : Device) → length (t .elements) ≡ 128 → said a d ≡ madeOf there t
-    → (numberOf a ≡ 0 → Made-of t d) × (good (t .count) (live t) (t .limit) ≡ true → numberOf a ≡ 0)
+    (there : Device) (o : Offer) (a : Answer) (d : Device) → length (o .elements) ≡ 128 → said a d ≡ madeOf there o
+    → (numberOf a ≡ 0 → Made-of o d) × (good (o .count) (offered o) (o .limit) ≡ true → numberOf a ≡ 0)
 
 -- what is left after a cut is such a start too
 abbrev pub Cut-starts : Type 0

@@ -12,23 +12,23 @@ use Rattle.history.specs.Runs.{begin, _▸_, _▸▸_, after, history}
 use Rattle.powerup.specs.Promises.{powerUp, Powered-up-rests}
 
 -- at rest a cut and a step leave the note empty
-cut-rests : (d : Device) → d .note ≡ Empty → told d powerCut .state .note ≡ Empty
-cut-rests d e = ap (λ (n : Note). carriedOut d (ruleStop d 0 n) .note) e ∙ e
+cut-rests : (d : Device) → d .cells .note ≡ Empty → told d powerCut .state .cells .note ≡ Empty
+cut-rests d e = ap (λ (n : Note). carriedOut d (ruleStop (d .position) 0 n) .cells .note) e ∙ e
 
-step-rests : (d : Device) → d .note ≡ Empty → told d step .state .note ≡ Empty
-step-rests d e = ap (λ (n : Note). carriedOut d (ruleStep d n) .note) e ∙ e
+step-rests : (d : Device) → d .cells .note ≡ Empty → told d step .state .cells .note ≡ Empty
+step-rests d e = ap (λ (n : Note). carriedOut d (ruleStep d n) .cells .note) e ∙ e
 
 pub powered-up-rests : Powered-up-rests
-powered-up-rests start can s = go (after start s .note) refl
+powered-up-rests start can s = go (after start s .cells .note) refl
   where
     d : Device
     d = after start s
 
-    idle : d .note ≡ Empty → after start (s ▸▸ powerUp) .note ≡ Empty
+    idle : d .cells .note ≡ Empty → after start (s ▸▸ powerUp) .cells .note ≡ Empty
     idle e =
         step-rests (after start (s ▸ powerCut ▸ step ▸ step ▸ step)) (step-rests (after start (s ▸ powerCut ▸ step ▸ step))
         (step-rests (after start (s ▸ powerCut ▸ step)) (step-rests (after start (s ▸ powerCut)) (cut-rests d e))))
 
-    go : (n : Note) → after start s .note ≡ n → (after start (s ▸▸ powerUp) .note ≡ Empty) × Promise start (history start (s ▸▸ powerUp)) (after start (s ▸▸ powerUp))
+    go : (n : Note) → after start s .cells .note ≡ n → (after start (s ▸▸ powerUp) .cells .note ≡ Empty) × Promise start (history start (s ▸▸ powerUp)) (after start (s ▸▸ powerUp))
     go Empty e = (idle e, demand-3 .kept start can (s ▸▸ powerUp) .at-rest (idle e))
     go (Full w) e = demand-3 .brought-about start can s w e powerCut refl (begin ▸ step ▸ step ▸ step) refl refl

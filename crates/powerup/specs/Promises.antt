@@ -14,4 +14,4 @@ powerUp = begin ▸ powerCut ▸ step ▸ step ▸ step ▸ step
 abbrev pub Powered-up-rests : Type 0
 Powered-up-rests =
     (start : Device) → Startable start → (s : Script)
-    → (after start (s ▸▸ powerUp) .note ≡ Empty) × Promise start (history start (s ▸▸ powerUp)) (after start (s ▸▸ powerUp))
+    → (after start (s ▸▸ powerUp) .cells .note ≡ Empty) × Promise start (history start (s ▸▸ powerUp)) (after start (s ▸▸ powerUp))

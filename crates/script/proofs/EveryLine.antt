@@ -120,7 +120,7 @@ gathered-len g [] h = omega arith
 gathered-len g (b ∷ l) h = gathered-len (pushed g b) l (omega (arith, pushed-len g b h)) ∙ omega (arith, pushed-len g b h)
 
 holding : List ℕ → Gathered
-holding l = record { bytes = padded 200 l; len = length l }
+holding l = record { bytes = padded 0 200 l; len = length l }
 
 holding-all : (p l : List ℕ) → length p + length l ≤ 200 → gathered (holding p) l ≡ holding (p ++ l)
 unfolding gathered holding
@@ -129,7 +129,7 @@ holding-all p (b ∷ l) h =
     let long : length p + 1 ≡ length (p ++ (b ∷ [])) = simp length-append in
     let room : length p < 200 = omega arith in
     let fits : length (p ++ (b ∷ [])) + length l ≤ 200 = omega arith in
-    let one : pushed (holding p) b ≡ holding (p ++ (b ∷ [])) = rw (lt-ltb _ _ room) (λ i. record { bytes = padded-more 200 p b room i; len = long i }) in
+    let one : pushed (holding p) b ≡ holding (p ++ (b ∷ [])) = rw (lt-ltb _ _ room) (λ i. record { bytes = padded-more 0 200 p b room i; len = long i }) in
     ap (λ (g : Gathered). gathered g l) one ∙ (holding-all (p ++ (b ∷ [])) l fits ∙ ap holding (append-snoc p b l))
 
 says-held : (l : List ℕ) → length l ≤ 200 → meaningOf (holding l) ≡ lineOf l

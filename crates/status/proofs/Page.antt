@@ -1,58 +1,60 @@
 -- The list, the descriptor and the page: a law for each way out, and the page put together from what its parts store.
-use Prim.Native.Nat.{ℕ, _+_, _-_, _*_, _≤_, _<_, min}
-use mathlib.Core.Bool.{Bool, true, false}
-use mathlib.Core.List.{List, _++_}
+use Prim.Native.Nat.{ℕ, zero, suc, _+_, _-_, _*_, _^_, _≤_, _<_, min}
+use mathlib.Core.Bool.{Bool, true, false, cond}
+use mathlib.Core.List.{List, [], _∷_, _++_, map, append-assoc, append-nil}
 use mathlib.Core.Path.{_≡_, refl, sym, ap, _∙_}
+use native.Mathlib.Numerals.{add-one}
 use native.Mathlib.Omega.{arith}
-use lib.ListN.{length, take, drop, getD, set, replicate, length-append, length-set}
-use lib.Seq.{length-take-le, take-take}
-use borrow.Author.Tests.{lt-ltb, le-ltb}
+use lib.Dec.{ltb}
+use lib.ListN.{length, take, drop, getD, set, replicate, length-append, length-map, length-replicate, List·getD-map}
+use lib.Seq.{length-take-le, take-length, take-suc-set, getD-take, drop-drop}
+use borrow.Author.Tests.{lt-ltb, le-ltb, ltb-false, le-leb, eq-eqb, ne-eqb}
 use borrow.Rule.Slice.PartMut.{putMid}
-use Rattle.device.specs.Remove.{aborts}
+use Rattle.device.specs.Cells.{healthAt}
+use Rattle.device.specs.Commands.{statusNumber}
+use Rattle.device.specs.Remove.{aborts, removedNumber}
 use Rattle.device.specs.declared.Command.the-variants.{Status}
 use Rattle.device.specs.declared.Device.{Device}
 use Rattle.device.specs.declared.Note.the-variants.{Empty, Full}
 use Rattle.device.specs.declared.Note.{Note}
 use Rattle.device.specs.declared.Removal.{Removal}
 use Rattle.layout.proofs.Requests.{accepted}
-use Rattle.layout.specs.Bytes.{headerBytes, roomOf, returnedOf}
+use Rattle.layout.specs.Bytes.{headerBytes, descriptorBytes, roomOf, returnedOf}
 use Rattle.layout.specs.Requests.{filterOf, reportTypeOf, pagesOf, takesId, takesType, takesHealth, refused}
+use Rattle.layout.specs.declared.Descriptor.{Descriptor}
 use Rattle.layout.specs.declared.Request.{Request}
+use Rattle.paper.specs.Answers.{numberOf}
 use Rattle.paper.specs.Told.{said}
-use Rattle.paper.specs.declared.Answer.the-variants.{Done, SecurityLocked, InvalidField, SmallBuffer}
+use Rattle.paper.specs.declared.Answer.{Answer}
 use Rattle.paper.specs.declared.ElementId.{ElementId}
 use Rattle.paper.specs.declared.Security.{Security}
-use Rattle.table.specs.Elements.{live, blank, removedCount}
-use Rattle.table.specs.declared.Element.{Element}
-use Rattle.words.proofs.Lists.{take-min, keep-yes, keep-no, stored-two, lay-part, length-flat}
-use Rattle.words.specs.Lists.{keep, flat, stored}
+use Rattle.table.proofs.Splits.{length-taken}
+use Rattle.table.specs.Elements.{live, blankPart, identifiers, size, identifierAt}
+use Rattle.table.specs.declared.Part.{Part}
+use Rattle.words.proofs.Lists.{take-min, keep-append, map-append, map-map, map-upTo, map-places, stored-front, stored-more, stored-each, length-flat}
+use Rattle.words.specs.Lists.{keep, upTo, Every, flat, stored}
 use Rattle.words.specs.declared.Order.the-variants.{Little}
-use Rattle.status.specs.Page.{shownHealth, isRestorable, capacityOf, descriptorOf, elementBytes, asks, listOf, busyOf, headerOf, pageOf, shown}
+use Rattle.status.specs.Page.{capacityOf, shownOf, shownAt, shownAll, asks, listOf, busyOf, headed, headerOf, pageOf, shown}
 
 -- ## An element
 
-pub health-shown : (e : Element) → e .health ≡ shownHealth e
-unfolding shownHealth
-health-shown e = refl
+pub shown-made : (p : Part) (h c : ℕ) → c ≡ capacityOf p → record { id = p .id; restorable = false; kind = p .kind; health = h; capacity = c } ≡ shownOf p h
+unfolding shownOf
+shown-made p h c is-c = λ i. record { id = p .id; restorable = false; kind = p .kind; health = h; capacity = is-c i }
 
-pub described : (e : Element) (h c : ℕ) → h ≡ shownHealth e → c ≡ capacityOf e
-    → record { id = e .id; restorable = false; kind = e .kind; health = h; capacity = c } ≡ descriptorOf e
-unfolding isRestorable
-described e h c is-h is-c = λ i. record { id = e .id; restorable = false; kind = e .kind; health = is-h i; capacity = is-c i }
-
-module _ (q : Request) (e : Element) (a : Bool) (is-a : a ≡ takesId q (e .id .0)) where
-  pub asks-id : a ≡ false → false ≡ asks q e
+module _ (q : Request) (x : Descriptor) (a : Bool) (is-a : a ≡ takesId q (x .id .0)) where
+  pub asks-id : a ≡ false → false ≡ asks q x
   unfolding asks
   asks-id n = sym (rw (sym is-a ∙ n))
 
-  module _ (yes-id : a ≡ true) (b : Bool) (is-b : b ≡ takesType (reportTypeOf q) (e .kind)) where
-    pub asks-type : b ≡ false → false ≡ asks q e
+  module _ (yes-id : a ≡ true) (b : Bool) (is-b : b ≡ takesType (reportTypeOf q) (x .kind)) where
+    pub asks-type : b ≡ false → false ≡ asks q x
     unfolding asks
     asks-type n = sym (rw (sym is-a ∙ yes-id, sym is-b ∙ n))
 
-    pub asks-health : b ≡ true → (x : ℕ) → x ≡ shownHealth e → (h : Bool) → h ≡ takesHealth (filterOf q) x → h ≡ asks q e
+    pub asks-health : b ≡ true → (h : Bool) → h ≡ takesHealth (filterOf q) (x .health) → h ≡ asks q x
     unfolding asks
-    asks-health y x is-x h is-h = is-h ∙ sym (rw (sym is-a ∙ yes-id, sym is-b ∙ y, sym is-x))
+    asks-health y h is-h = is-h ∙ sym (rw (sym is-a ∙ yes-id, sym is-b ∙ y))
 
 -- ## The noted element
 
@@ -65,81 +67,217 @@ busy-none n e = ap element (sym e)
 pub busy-noted : (n : Note) (w : Removal) → n ≡ Full w → w .element ≡ record { 0 = busyOf n }
 busy-noted n w e = ap element (sym e)
 
--- ## One pass over the table
+-- a page shows each element under its identifier
+shown-id : (d : Device) (place : ℕ) → shownAt d place .id .0 ≡ identifierAt (d .table) place
+unfolding shownOf
+shown-id d place = sym (List·getD-map (λ (p : Part). p .id .0) (live (d .table)) place blankPart)
 
-module _ (q : Request) (es list : List Element) (count m i n : ℕ) (so : take n list ≡ keep (asks q) (take i es)) (is-m : m ≡ min count 128)
-    (full : length es ≡ 128) (long : length list ≡ 128) where
-  module _ (less : i < m) (few : n ≤ i) (b : Bool) (is-b : b ≡ asks q (getD es i blank)) (k : ℕ) (out : List Element) where
-    pub collect-yes : b ≡ true → out ≡ set list n (getD es i blank) → k ≡ n + 1 → (take k out ≡ keep (asks q) (take (i + 1) es)) × (length out ≡ 128)
-    collect-yes y is-out is-k =
-        (rw (is-out, is-k) (keep-yes (asks q) es list i n blank so (omega arith) (sym is-b ∙ y) (omega arith)), rw is-out (simp length-set long))
+pub shown-ids : (d : Device) → map (λ (x : Descriptor). x .id .0) (shownAll d) ≡ identifiers (d .table)
+shown-ids d =
+    map-map (shownAt d) (λ (x : Descriptor). x .id .0) (upTo (size (d .table)))
+    ∙ map-upTo (λ (i : ℕ). shownAt d i .id .0) (identifierAt (d .table)) (size (d .table)) (λ i _. shown-id d i)
+    ∙ map-places (identifiers (d .table)) 0 (size (d .table)) (omega arith) ∙ take-length (identifiers (d .table))
 
-    pub collect-no : b ≡ false → out ≡ list → k ≡ n → (take k out ≡ keep (asks q) (take (i + 1) es)) × (length out ≡ 128)
-    collect-no z is-out is-k = (rw (is-out, is-k) (keep-no (asks q) es list i n blank so (omega arith) (sym is-b ∙ z)), rw is-out long)
+-- ## The list, by places
 
-  pub collected : m ≤ i → i ≤ m → take n list ≡ keep (asks q) (take count es)
-  collected h g =
-      let end : i ≡ min count (length es) = omega arith in
-      so ∙ rw (end, take-min count es)
+module _ (ps : List Part) (hs : List ℕ) where
+  unfoldable pub show : ℕ → Descriptor
+  show place = shownOf (getD ps place blankPart) (getD hs place 0)
 
-pub listed : (d : Device) (q : Request) (list : List Element) (n : ℕ) → take n list ≡ keep (asks q) (live (d .table)) → take n list ≡ listOf d q
-unfolding listOf
-listed d q list n so = so
+  -- those at the first n of the places
+  unfoldable pub at-places : List ℕ → ℕ → List Descriptor
+  at-places places n = map show (take n places)
+
+  pub length-places : (places : List ℕ) (n : ℕ) → length places ≡ 128 → n ≤ 128 → length (at-places places n) ≡ n
+  unfolding at-places
+  length-places places n long few = length-map (take n places) show ∙ length-take-le n places (omega arith)
+
+  pub at-place : (places : List ℕ) (n k : ℕ) → k < n → show (getD places k 0) ≡ getD (at-places places n) k (show 0)
+  unfolding at-places
+  at-place places n k h = sym (List·getD-map show (take n places) k 0 ∙ ap show (getD-take n places k 0 h))
+
+  module _ (q : Request) where
+    -- what is asked for of the first i
+    unfoldable pub asked : ℕ → List Descriptor
+    asked i = keep (asks q) (map show (upTo i))
+
+    asked-more : (i : ℕ) → asked (i + 1) ≡ asked i ++ cond (asks q (show i)) (show i ∷ []) []
+    unfolding asked
+    asked-more i = rw (add-one i, map-append show (upTo i) (i ∷ [])) (keep-append (asks q) (map show (upTo i)) (show i ∷ []))
+
+    pub list-none : (places : List ℕ) → at-places places 0 ≡ asked 0
+    unfolding at-places asked
+    list-none places = refl
+
+    -- a turn of the loop: the place is put down, or not
+    module _ (places : List ℕ) (n i : ℕ) (so : at-places places n ≡ asked i) (x : Descriptor)
+        (is-x : x ≡ shownOf (getD ps i blankPart) (getD hs i 0)) (b : Bool) (is-b : b ≡ asks q x) where
+      known : asks q (show i) ≡ b
+      unfolding show
+      known = ap (asks q) (sym is-x) ∙ sym is-b
+
+      pub list-yes : n < length places → b ≡ true → (k : ℕ) (out : List ℕ) → out ≡ set places n i → k ≡ n + 1 → at-places out k ≡ asked (i + 1)
+      unfolding at-places
+      list-yes room y k out is-out is-k =
+          rw (is-out, is-k, add-one n, take-suc-set places n i room, map-append show (take n places) (i ∷ []), asked-more i, known, y, so)
+
+      pub list-no : b ≡ false → (k : ℕ) (out : List ℕ) → out ≡ places → k ≡ n → at-places out k ≡ asked (i + 1)
+      list-no z k out is-out is-k = rw (is-out, is-k, asked-more i, known, z, append-nil) so
+
+-- each place is an index of the arrays
+abbrev pub Slots : List ℕ → Type 0
+Slots places = Every (λ (j : ℕ). j < 128) places
+
+module _ (places : List ℕ) (slots : Slots places) (k : ℕ) where
+  pub slot-below : getD places k 0 < 128
+  slot-below = go places k slots
+    where
+      go : (l : List ℕ) (i : ℕ) → Slots l → getD l i 0 < 128
+      go [] i s = omega arith
+      go (x ∷ xs) zero s = s .0
+      go (x ∷ xs) (suc i) s = go xs i (s .1)
+
+  pub slot-fits : getD places k 0 < 2 ^ 64
+  slot-fits = omega (arith, slot-below)
+
+  pub slot-times : getD places k 0 * 16 < 2 ^ 64
+  slot-times = omega (arith, slot-below)
+
+module _ (r number pages : ℕ) (is-r : r ≡ returnedOf number pages) (few : number ≤ 128) where
+  pub returned-few : r ≤ 128
+  returned-few = omega arith
+
+  pub returned-fits : 1 ≤ pages → 32 + 32 * r ≤ 512 * pages
+  returned-fits some = omega arith
+
+  pub turn-below : (k : ℕ) → k < r → k < 128
+  turn-below k h = omega arith
+
+  pub turn-few : (k : ℕ) → k < r → k ≤ 128
+  turn-few k h = omega arith
+
+-- the whole table's
+all-asked : (d : Device) (q : Request) (n : ℕ) → length (d .table .parts) ≡ 128 → n ≡ min (d .table .count) 128 → asked (d .table .parts) (d .cells .healths) q n ≡ listOf d q
+unfolding show asked listOf
+all-asked d q n full is-n =
+    let long : size (d .table) ≡ n = length-map (live (d .table)) (λ (p : Part). p .id .0) ∙ length-taken (d .table .parts) (d .table .count) n full is-n in
+    let same : (i : ℕ) → i < n → show (d .table .parts) (d .cells .healths) i ≡ shownAt d i =
+    λ i h. ap (λ (p : Part). shownOf p (healthAt d i)) (sym (getD-take (d .table .count) (d .table .parts) i blankPart (omega arith))) in
+    ap (keep (asks q)) (map-upTo (show (d .table .parts) (d .cells .healths)) (shownAt d) n same ∙ ap (λ (m : ℕ). map (shownAt d) (upTo m)) (sym long))
+
+-- what the first loop has put down when it ends
+pub all-listed : (d : Device) (q : Request) (places : List ℕ) (number i n : ℕ) → length (d .table .parts) ≡ 128 → n ≡ min (d .table .count) 128 → i ≤ n → n ≤ i
+    → at-places (d .table .parts) (d .cells .healths) places number ≡ asked (d .table .parts) (d .cells .healths) q i
+    → at-places (d .table .parts) (d .cells .healths) places number ≡ listOf d q
+all-listed d q places number i n full is-n low high so =
+    let end : i ≡ n = omega arith in
+    so ∙ ap (asked (d .table .parts) (d .cells .healths) q) end ∙ all-asked d q n full is-n
 
 -- ## The bytes
 
-pub wide : (e : Element) → length (elementBytes e) ≡ 32
-wide e = refl
+abbrev pub bytesOf : Descriptor → List ℕ
+bytesOf x = descriptorBytes Little x
 
--- what the calls ensure, put together
-module _ (d : Device) (q : Request) (list : List Element) (n r : ℕ) (so : take n list ≡ listOf d q) (few : n ≤ 128) (long : length list ≡ 128)
-    (is-r : r ≡ returnedOf n (pagesOf q)) (some : 1 ≤ pagesOf q) where
+pub wide : (x : Descriptor) → length (bytesOf x) ≡ 32
+wide x = refl
+
+module _ (d out b : List ℕ) where
+  pub put-there : (e : List ℕ) (at : ℕ) → out ≡ stored d at b → b ≡ e → out ≡ stored d at e
+  put-there e at is-out is-b = is-out ∙ ap (stored d at) is-b
+
+  -- the header, of what the code counts
+  pub put-headed : (number pages limit removed r : ℕ) (note : Note) (x : ElementId) → out ≡ stored d 0 b
+      → b ≡ headerBytes Little (record { number = number; returned = r; busy = x; limit = limit; removed = removed }) → r ≡ returnedOf number pages → x ≡ element note
+      → out ≡ stored d 0 (headerBytes Little (headed number pages note limit removed))
+  put-headed number pages limit removed r note x is-out is-b is-r is-x =
+      put-there _ 0 is-out
+      (is-b ∙ (λ i. headerBytes Little (record { number = number; returned = is-r i; busy = is-x i; limit = limit; removed = removed })))
+
+-- zeros over a part, as a store
+pub cleared : (d z : List ℕ) (end size m : ℕ) → end ≤ size → size ≤ length d → z ≡ replicate m 0 → m ≡ size - end
+    → putMid end (size - end) d z ≡ stored d end (replicate (size - end) 0)
+cleared d z end size m low fits is-z is-m =
+    let room : end + (size - end) ≤ length d = omega arith in
+    rw (is-z, is-m, length-replicate, le-leb _ _ room, drop-drop (size - end) end d) (sym (append-assoc (take end d) (replicate (size - end) 0) (drop (end + (size - end)) d)))
+
+-- what is stored, put together
+module _ (d : Device) (q : Request) (list : List Descriptor) (n r : ℕ) (so : list ≡ listOf d q) (long : length list ≡ n)
+    (is-r : r ≡ returnedOf n (pagesOf q)) (some : 1 ≤ pagesOf q) (g : ℕ) (is-g : g ≡ removedNumber d) where
   count : n ≡ length (listOf d q)
-  count = sym (ap length (sym so) ∙ length-take-le n list (omega arith))
+  count = sym long ∙ ap length so
 
   cut : take (roomOf (pagesOf q)) (listOf d q) ≡ take r list
   cut =
       let less : r ≡ min (roomOf (pagesOf q)) (length (listOf d q)) = omega (arith, count) in
-      sym (take-min (roomOf (pagesOf q)) (listOf d q)) ∙ rw (← less, ← so) (take-take r n list (omega arith))
+      sym (take-min (roomOf (pagesOf q)) (listOf d q)) ∙ rw (← less, ← so)
 
-  module _ (x : ElementId) (is-x : x ≡ element (d .note)) (g : ℕ) (is-g : g ≡ removedCount (live (d .table)))
-      (h : List ℕ) (is-h : h ≡ headerBytes Little (record { number = n; returned = r; busy = x; limit = d .table .limit; removed = g })) where
-    header : h ≡ headerBytes Little (headerOf d q)
-    header = is-h ∙ rw (is-x, is-g, is-r, count)
+  pub filled : (b b₁ b₂ b₃ : List ℕ) → 512 * pagesOf q ≤ length b → b₁ ≡ stored b 0 (headerBytes Little (headed n (pagesOf q) (d .cells .note) (d .table .limit) g))
+      → b₂ ≡ stored b₁ 32 (flat bytesOf (take r list)) → b₃ ≡ stored b₂ (32 + 32 * r) (replicate (512 * pagesOf q - (32 + 32 * r)) 0)
+      → b₃ ≡ pageOf d q ++ drop (512 * pagesOf q) b
+  unfolding pageOf
+  filled b b₁ b₂ b₃ large is-b₁ is-b₂ is-b₃ =
+      let h : List ℕ = headerBytes Little (headed n (pagesOf q) (d .cells .note) (d .table .limit) g) in
+      let l : List ℕ = flat bytesOf (take r list) in
+      let z : List ℕ = replicate (512 * pagesOf q - (32 + 32 * r)) 0 in
+      let wide-list : length l ≡ 32 * r = length-flat bytesOf 32 wide (take r list) ∙ rw (length-take-le r list (omega (arith, long))) in
+      let wide-both : length (h ++ l) ≡ 32 + 32 * r = length-append h l ∙ rw wide-list in
+      let wide-all : length ((h ++ l) ++ z) ≡ 512 * pagesOf q = rw (length-append (h ++ l) z, wide-both, length-replicate) (omega arith) in
+      let first : _≡_ {A = ℕ} 32 (0 + length h) = refl in
+      let second : 32 + 32 * r ≡ 0 + length (h ++ l) = omega (arith, wide-both) in
+      let two : b₂ ≡ stored b 0 (h ++ l) = is-b₂ ∙ (λ i. stored (is-b₁ i) (first i) l) ∙ stored-more b 0 h l (omega (arith, wide-both)) in
+      let three : b₃ ≡ stored b 0 ((h ++ l) ++ z) = is-b₃ ∙ (λ i. stored (two i) (second i) z) ∙ stored-more b 0 (h ++ l) z (omega (arith, wide-all)) in
+      let zeros : 512 * pagesOf q - 32 * (headerOf d q .returned + 1) ≡ 512 * pagesOf q - (32 + 32 * r) = rw (is-r, count) (omega arith) in
+      let whole : (h ++ l) ++ z ≡ pageOf d q =
+      λ i. (headerBytes Little (headed (count i) (pagesOf q) (d .cells .note) (d .table .limit) (is-g i)) ++ flat bytesOf (sym cut i)) ++ replicate (sym zeros i) 0 in
+      three ∙ stored-front b ((h ++ l) ++ z) (omega (arith, wide-all)) ∙ (λ i. whole i ++ drop (wide-all i) b)
 
-    pub filled : (b b₁ b₂ z : List ℕ) (m : ℕ) → 512 * pagesOf q ≤ length b → b₁ ≡ stored b 0 h → b₂ ≡ stored b₁ 32 (flat elementBytes (take r list))
-        → z ≡ replicate m 0 → m ≡ 512 * pagesOf q - (32 + 32 * r)
-        → putMid (32 + 32 * r) (512 * pagesOf q - (32 + 32 * r)) b₂ z ≡ pageOf d q ++ drop (512 * pagesOf q) b
-    unfolding pageOf
-    filled b b₁ b₂ z m large is-b₁ is-b₂ is-z is-m =
-        let list-bytes : List ℕ = flat elementBytes (take r list) in
-        let wide-header : length h ≡ 32 = rw is-h in
-        let wide-list : length list-bytes ≡ 32 * r = length-flat elementBytes 32 wide (take r list) ∙ rw (length-take-le r list (omega arith)) in
-        let wide-both : length (h ++ list-bytes) ≡ 32 + 32 * r = length-append h list-bytes ∙ omega (arith, wide-header, wide-list) in
-        let front : b₂ ≡ h ++ list-bytes ++ drop (32 + 32 * r) b =
-        stored-two b h list-bytes b₁ b₂ 32 (omega (arith, wide-both)) (omega (arith, wide-header)) is-b₁ is-b₂ ∙ rw wide-both in
-        let returned : headerOf d q .returned ≡ r = rw (is-r, count) in
-        let zeros : 512 * pagesOf q - 32 * (headerOf d q .returned + 1) ≡ m = rw returned (omega arith) in
-        let whole : 32 + 32 * r + (512 * pagesOf q - (32 + 32 * r)) ≡ 512 * pagesOf q = omega arith in
-        rw front
-        (lay-part (h ++ list-bytes) z b (32 + 32 * r) (512 * pagesOf q - (32 + 32 * r)) wide-both
-        ∙ rw (cut, zeros, whole, is-z, header))
+-- ## What the loops come to
+
+module _ (ps : List Part) (hs places : List ℕ) (number r pages : ℕ) (b : List ℕ) (long : length places ≡ 128) (few : number ≤ 128)
+    (is-r : r ≡ returnedOf number pages) (some : 1 ≤ pages) (large : 512 * pages ≤ length b) where
+  pub put-next : (k : ℕ) (x y : List ℕ) (d : Descriptor) → k < r → x ≡ stored b 32 (flat bytesOf (take k (at-places ps hs places number)))
+      → d ≡ shownOf (getD ps (getD places k 0) blankPart) (getD hs (getD places k 0) 0) → y ≡ stored x (32 + 32 * k) (bytesOf d) → y ≡ stored b 32 (flat bytesOf (take (k + 1) (at-places ps hs places number)))
+  unfolding show
+  put-next k x y d less is-x is-d is-y =
+      stored-each bytesOf 32 wide (at-places ps hs places number) b x y 32 k (show ps hs 0) (omega arith) (omega (arith, length-places ps hs places number long few)) is-x
+      (is-y ∙ ap (λ (z : Descriptor). stored x (32 + 32 * k) (bytesOf z)) (is-d ∙ at-place ps hs places number k (omega arith)))
 
 -- ## The answer, and the buffer
 
-pub some-pages : (q : Request) (b : Bool) → b ≡ refused q → b ≡ false → 1 ≤ pagesOf q
-some-pages q b is-b n = accepted q (sym is-b ∙ n) .2
-
-module _ (d : Device) (s : Security) (q : Request) (buf : List ℕ) (a : Bool) (is-a : a ≡ aborts Status s) where
-  pub shown-locked : a ≡ true → said SecurityLocked buf ≡ shown d s q buf
-  shown-locked y = sym (rw (sym is-a ∙ y))
+module _ (s : Security) (q : Request) (room : ℕ) (a : Bool) (is-a : a ≡ aborts Status s) where
+  pub judge-locked : a ≡ true → 1 ≡ statusNumber s q room
+  judge-locked y = sym (rw (sym is-a ∙ y))
 
   module _ (n : a ≡ false) (b : Bool) (is-b : b ≡ refused q) where
-    pub shown-refused : b ≡ true → said InvalidField buf ≡ shown d s q buf
-    shown-refused y = sym (rw (sym is-a ∙ n, sym is-b ∙ y))
+    pub judge-refused : b ≡ true → 4 ≡ statusNumber s q room
+    judge-refused y = sym (rw (sym is-a ∙ n, sym is-b ∙ y))
 
-    pub shown-small : b ≡ false → length buf < 512 * pagesOf q → said SmallBuffer buf ≡ shown d s q buf
-    shown-small m h = sym (rw (sym is-a ∙ n, sym is-b ∙ m, lt-ltb _ _ h))
+    pub judge-small : b ≡ false → room < 512 * pagesOf q → 7 ≡ statusNumber s q room
+    judge-small m h = sym (rw (sym is-a ∙ n, sym is-b ∙ m, lt-ltb _ _ h))
 
-    pub shown-done : b ≡ false → 512 * pagesOf q ≤ length buf → (out : List ℕ) → out ≡ pageOf d q ++ drop (512 * pagesOf q) buf → said Done out ≡ shown d s q buf
-    shown-done m h out is-out = rw is-out (sym (rw (sym is-a ∙ n, sym is-b ∙ m, le-ltb _ _ h)))
+    pub judge-done : b ≡ false → 512 * pagesOf q ≤ room → 0 ≡ statusNumber s q room
+    judge-done m h = sym (rw (sym is-a ∙ n, sym is-b ∙ m, le-ltb _ _ h))
+
+-- a request that is answered 0 is for some pages, and they fit
+answered : (s : Security) (q : Request) (room : ℕ) → statusNumber s q room ≡ 0 → (1 ≤ pagesOf q) × (512 * pagesOf q ≤ room)
+answered s q room e = go (aborts Status s) (refused q) (ltb room (512 * pagesOf q)) refl refl e
+  where
+    go : (a b c : Bool) → refused q ≡ b → ltb room (512 * pagesOf q) ≡ c → _≡_ {A = ℕ} (cond a 1 (cond b 4 (cond c 7 0))) 0 → (1 ≤ pagesOf q) × (512 * pagesOf q ≤ room)
+    go true b c p r z = absurd (omega arith)
+    go false true c p r z = absurd (omega arith)
+    go false false true p r z = absurd (omega arith)
+    go false false false p r z = (accepted q p .2, ltb-false room (512 * pagesOf q) r)
+
+module _ (s : Security) (q : Request) (room n : ℕ) (a : Answer) (is-a : numberOf a ≡ statusNumber s q room) (is-n : n ≡ numberOf a) (z : n ≡ 0) where
+  pub some-pages : 1 ≤ pagesOf q
+  some-pages = answered s q room (sym is-a ∙ sym is-n ∙ z) .0
+
+  pub pages-fit : 512 * pagesOf q ≤ room
+  pages-fit = answered s q room (sym is-a ∙ sym is-n ∙ z) .1
+
+module _ (d : Device) (s : Security) (q : Request) (buf : List ℕ) (a : Answer) (is-a : numberOf a ≡ statusNumber s q (length buf)) (n : ℕ) (is-n : n ≡ numberOf a) where
+  pub shown-done : n ≡ 0 → (out : List ℕ) → ((x : Device) → x .table ≡ d .table → x .cells ≡ d .cells → out ≡ pageOf x q ++ drop (512 * pagesOf q) buf) → said a out ≡ shown d s q buf
+  shown-done z out is-out = rw (is-a, is-out d refl refl, eq-eqb _ _ (sym is-a ∙ sym is-n ∙ z))
+
+  pub shown-refused : (n ≡ 0 → ⊥) → said a buf ≡ shown d s q buf
+  shown-refused ne = rw (is-a, ne-eqb _ _ (λ z. ne (is-n ∙ is-a ∙ z)))

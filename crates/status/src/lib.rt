@@ -1,15 +1,16 @@
 // GET PHYSICAL ELEMENT STATUS: the list and the filled page. The device is only read.
 ghost use mathlib.Core.Path.{_≡_};
 ghost use mathlib.Core.List.{_++_};
-ghost use Prim.Native.Nat.{_+_, _*_, _≤_, min};
-ghost use lib.ListN.{length, take, drop, replicate};
+ghost use Prim.Native.Nat.{_+_, _-_, _*_, _≤_, min};
+ghost use lib.ListN.{length, drop, replicate};
 ghost use Rattle.paper.specs.Answers.{numberOf};
 ghost use Rattle.paper.specs.Told.{said};
-ghost use Rattle.words.specs.Lists.{flat, keep, stored};
+ghost use Rattle.words.specs.Lists.{stored};
 ghost use Rattle.device.specs.Commands.{statusNumber};
+ghost use Rattle.layout.specs.Bytes.{headerBytes, descriptorBytes, returnedOf};
 ghost use Rattle.layout.specs.Requests.{pagesOf};
-ghost use Rattle.status.specs.Page.{shownHealth, capacityOf, asks, listOf, busyOf, headerOf, pageOf, shown};
-ghost use Rattle.status.specs.Page as page;
+ghost use Rattle.status.specs.Page.{capacityOf, shownOf, asks, busyOf, headed, pageOf, shown};
+use device::Cells;
 use device::Command;
 use device::Device;
 use device::Note;
@@ -18,15 +19,11 @@ use layout::Header;
 use layout::Request;
 use paper::Answer;
 use paper::ElementId;
+use paper::PageCount;
 use paper::Security;
-use table::Element;
+use table::Part;
+use table::Table;
 use words::Order;
-
-// The elements that a request asks for: the first `count` of the array.
-struct Listed {
-    elements: [Element; 128],
-    count: usize,
-}
 
 fn smaller(a: usize, b: usize) -> usize
     ensures { λ r. ⌜ r ≡ min a b ⌝ }
@@ -34,67 +31,40 @@ fn smaller(a: usize, b: usize) -> usize
     if a < b { a } else { b }
 }
 
-fn shown_health(e: Element) -> u8
-    ensures { λ r. ⌜ r ≡ shownHealth e ⌝ }
+fn capacity(p: Part) -> u64
+    ensures { λ r. ⌜ r ≡ capacityOf p ⌝ }
 {
-    e.health
-}
-
-fn capacity(e: Element) -> u64
-    ensures { λ r. ⌜ r ≡ capacityOf e ⌝ }
-{
-    if e.unreported {
+    if p.unreported {
         0xFFFF_FFFF_FFFF_FFFF
     } else {
-        e.blocks
+        p.blocks
     }
 }
 
-fn descriptor_of(e: Element) -> Descriptor
-    ensures { λ r. ⌜ r ≡ page.descriptorOf e ⌝ }
+// What a page shows of an element: its part, and the health of its place.
+fn shown_of(p: Part, health: u8) -> Descriptor
+    ensures { λ r. ⌜ r ≡ shownOf p health ⌝ }
 {
-    let id = e.id;
+    let id = p.id;
     Descriptor {
         id,
         restorable: false,
-        kind: e.kind,
-        health: shown_health(e),
-        capacity: capacity(e),
+        kind: p.kind,
+        health,
+        capacity: capacity(p),
     }
 }
 
-fn does_ask(request: Request, e: Element) -> bool
-    ensures { λ r. ⌜ r ≡ asks request e ⌝ }
+fn does_ask(request: Request, x: Descriptor) -> bool
+    ensures { λ r. ⌜ r ≡ asks request x ⌝ }
 {
-    if !request.takes_id(e.id) {
+    if !request.takes_id(x.id) {
         return false;
     }
-    if !request.takes_type(e.kind) {
+    if !request.takes_type(x.kind) {
         return false;
     }
-    request.takes_health(shown_health(e))
-}
-
-// One pass over the first `count`.
-fn collect(es: [Element; 128], count: usize, request: Request) -> Listed
-    ensures { λ r. ⌜ (take (r .count) (r .elements) ≡ keep (asks request) (take count es)) × (r .count ≤ 128) × (length (r .elements) ≡ 128) ⌝ }
-{
-    let m = smaller(count, 128);
-    let mut list = es;
-    let mut n: usize = 0;
-    let mut i: usize = 0;
-    while i < m {
-        let e = es[i];
-        if does_ask(request, e) {
-            list[n] = e;
-            n += 1;
-        }
-        i += 1;
-    }
-    Listed {
-        elements: list,
-        count: n,
-    }
+    request.takes_health(x.health)
 }
 
 fn busy(note: Note) -> ElementId
@@ -116,51 +86,91 @@ fn clear(part: &mut [u8])
     }
 }
 
-// Stores the descriptors of the first `returned` elements, behind the header.
-fn put_list(es: [Element; 128], returned: usize, buf: &mut [u8])
-    requires { ⌜ (returned ≤ 128) × (32 + 32 * returned ≤ length (now buf)) ⌝ }
-    ensures { λ _. ⌜ now (buf .exit) ≡ stored (now (buf .entry)) 32 (flat page.elementBytes (take returned es)) ⌝ }
+// Stores the header of a list of this number, and gives how many of them it returns.
+fn put_header(
+    number: usize,
+    count: PageCount,
+    note: Note,
+    limit: u16,
+    removed: u16,
+    buf: &mut [u8],
+) -> usize
+    requires { ⌜ (number ≤ 128) × (1 ≤ count .0) ⌝ }
+    ensures { λ r. ⌜ (r ≡ returnedOf number (count .0)) × (now (buf .exit) ≡ stored (now (buf .entry)) 0 (headerBytes Order.Little (headed number (count .0) note limit removed))) ⌝ }
 {
-    let mut k = 0;
-    while k < returned {
-        let e = es[k];
-        let d = descriptor_of(e);
-        let bytes = d.bytes(Order::Little);
-        words::put(buf, 32 + 32 * k, &bytes);
-        k += 1;
-    }
-}
-
-// Fills the page in ascending order, each byte once: the header, the descriptors, the zeros.
-fn fill(d: Device, request: Request, buf: &mut [u8])
-    requires { ⌜ (1 ≤ pagesOf request) × (512 * pagesOf request ≤ length (now buf)) ⌝ }
-    ensures { λ _. ⌜ now (buf .exit) ≡ pageOf d request ++ drop (512 * pagesOf request) (now (buf .entry)) ⌝ }
-{
-    let t = d.table;
-    let es = t.elements;
-    let note = d.note;
-    let pages = request.count.0 as usize;
-    let list = collect(es, t.count, request);
-    let listed = list.elements;
-    let returned = smaller(list.count, 16 * pages - 1);
+    let returned = smaller(number, 16 * (count.0 as usize) - 1);
     let header = Header {
-        number: list.count as u32,
+        number: number as u32,
         returned: returned as u32,
         busy: busy(note),
-        limit: t.limit,
-        removed: t.removed(),
+        limit,
+        removed,
     };
-    let first = header.bytes(Order::Little);
+    let bytes = header.bytes(Order::Little);
+    words::put(buf, 0, &bytes);
+    returned
+}
+
+// Stores a descriptor behind the header and the k before it.
+fn put_descriptor(x: Descriptor, k: usize, buf: &mut [u8])
+    requires { ⌜ k ≤ 128 ⌝ }
+    ensures { λ _. ⌜ now (buf .exit) ≡ stored (now (buf .entry)) (32 + 32 * k) (descriptorBytes Order.Little x) ⌝ }
+{
+    let bytes = x.bytes(Order::Little);
+    words::put(buf, 32 + 32 * k, &bytes);
+}
+
+// Stores zeros behind the header and the descriptors.
+fn put_zeros(returned: usize, count: PageCount, buf: &mut [u8])
+    requires { ⌜ (returned ≤ 128) × (32 + 32 * returned ≤ 512 * count .0) × (512 * count .0 ≤ length (now buf)) ⌝ }
+    ensures { λ _. ⌜ now (buf .exit) ≡ stored (now (buf .entry)) (32 + 32 * returned) (replicate (512 * count .0 - (32 + 32 * returned)) 0) ⌝ }
+{
     let end = 32 + 32 * returned;
-    let size = 512 * pages;
-    words::put(buf, 0, &first);
-    put_list(listed, returned, buf);
+    let size = 512 * (count.0 as usize);
     clear(&mut buf[end..size]);
 }
 
-// The answer, and the page if it is 0.
-pub fn show(d: Device, security: Security, request: Request, buf: &mut [u8]) -> Answer
-    ensures { λ r. ⌜ said r (now (buf .exit)) ≡ shown d security request (now (buf .entry)) ⌝ }
+// Fills the page of a device of this table and these cells, in ascending order, each byte once: the header, the descriptors, the zeros.
+// The places of what is asked for are put down first, so that each element is judged once.
+fn fill(t: Table, c: Cells, request: Request, buf: &mut [u8])
+    requires { ⌜ (1 ≤ pagesOf request) × (512 * pagesOf request ≤ length (now buf)) ⌝ }
+    ensures { λ _.
+        ⌜ ((d : Device) → d .table ≡ t → d .cells ≡ c
+        → now (buf .exit) ≡ pageOf d request ++ drop (512 * pagesOf request) (now (buf .entry))) ⌝ }
+{
+    let ps = t.parts;
+    let hs = c.healths;
+    let note = c.note;
+    let count = request.count;
+    let n = smaller(t.count, 128);
+    let mut places: [u8; 128] = [0; 128];
+    let mut number: usize = 0;
+    let mut i: usize = 0;
+    while i < n {
+        let p = ps[i];
+        let x = shown_of(p, hs[i]);
+        if does_ask(request, x) {
+            places[number] = i as u8;
+            number += 1;
+        }
+        i += 1;
+    }
+    let removed = table::removed(hs, t.count);
+    let returned = put_header(number, count, note, t.limit, removed, buf);
+    let mut k: usize = 0;
+    while k < returned {
+        let j = places[k] as usize;
+        let p = ps[j];
+        let x = shown_of(p, hs[j]);
+        put_descriptor(x, k, buf);
+        k += 1;
+    }
+    put_zeros(returned, count, buf);
+}
+
+// What a request is answered, over the length of the lent buffer.
+pub fn judge(security: Security, request: Request, room: usize) -> Answer
+    ensures { λ r. ⌜ numberOf r ≡ statusNumber security request room ⌝ }
 {
     if device::is_aborted(Command::Status, security) {
         return Answer::SecurityLocked;
@@ -168,9 +178,21 @@ pub fn show(d: Device, security: Security, request: Request, buf: &mut [u8]) -> 
     if request.is_refused() {
         return Answer::InvalidField;
     }
-    if buf.len() < 512 * (request.count.0 as usize) {
+    if room < 512 * (request.count.0 as usize) {
         return Answer::SmallBuffer;
     }
-    fill(d, request, buf);
     Answer::Done
+}
+
+// The answer, and the page if it is 0.
+pub fn show(d: Device, security: Security, request: Request, buf: &mut [u8]) -> Answer
+    ensures { λ r. ⌜ said r (now (buf .exit)) ≡ shown d security request (now (buf .entry)) ⌝ }
+{
+    let answer = judge(security, request, buf.len());
+    if paper::number_of(answer) == 0 {
+        let t = d.table;
+        let c = d.cells;
+        fill(t, c, request, buf);
+    }
+    answer
 }

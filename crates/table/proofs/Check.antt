@@ -9,15 +9,15 @@ use native.Mathlib.Omega.{arith}
 use lib.Dec.{eqb, leb, ltb}
 use lib.ListN.{length, take, drop, getD, length-take, drop-of-length-le}
 use lib.Seq.{drop-cons, getD-take}
-use borrow.Author.Tests.{le-leb, lt-leb, lt-ltb, le-ltb, eq-eqb, ne-eqb, leb-true, leb-false}
+use borrow.Author.Tests.{ltb-true, le-leb, lt-leb, lt-ltb, le-ltb, eq-eqb, ne-eqb, leb-true, leb-false}
 use Rattle.paper.specs.Told.{Told, tells}
 use Rattle.words.specs.Lists.{all}
 use Rattle.table.specs.Check.{sized, ascending, sound, summed, good, checkOf, verdict, mayFollow, walkFrom}
-use Rattle.table.specs.Elements.{live, blank, blockSum}
+use Rattle.table.specs.Elements.{offered, blank, elementIds, blockSum}
 use Rattle.table.specs.declared.Checked.the-variants.{Refused, Blocks}
 use Rattle.table.specs.declared.Checked.{Checked}
 use Rattle.table.specs.declared.Element.{Element}
-use Rattle.table.specs.declared.Table.{Table}
+use Rattle.table.specs.declared.Offer.{Offer}
 
 -- ## The tests
 
@@ -68,6 +68,15 @@ module _ (e : Element) (last total : ℕ) where
       leb-same (e .blocks) (2 ^ 48 - total) (total + e .blocks) (2 ^ 48) (λ g. omega arith) (λ g. omega arith)
       ∙ sym (rw (lt-ltb last (e .id .0) h, sym is-s ∙ y))
 
+-- ## Ascending identifiers
+
+pub both : (a b : Bool) → (a && b) ≡ true → (a ≡ true) × (b ≡ true)
+both true b e = (refl, e)
+both false b e = absurd (true≢false (sym e))
+
+pub ascending-both : (low x : ℕ) (xs : List ℕ) → ascending low (x ∷ xs) ≡ true → (low < x) × (ascending x xs ≡ true)
+ascending-both low x xs q = let two = both (ltb low x) (ascending x xs) q in (ltb-true low x (two .0), two .1)
+
 -- ## The walk
 
 last-true : (a b c : Bool) → (a && (b && c)) ≡ true → c ≡ true
@@ -109,7 +118,7 @@ module _ (es : List Element) (n i last total : ℕ) (whole : Checked) (so : walk
 -- ## The walk is the check
 
 abbrev judged : ℕ → ℕ → List Element → Checked
-judged last total es = cond (ascending last es && (all sound es && summed (total + blockSum es))) (Blocks (total + blockSum es)) Refused
+judged last total es = cond (ascending last (elementIds es) && (all sound es && summed (total + blockSum es))) (Blocks (total + blockSum es)) Refused
 
 walk-checks : (last total : ℕ) (es : List Element) → total ≤ 2 ^ 48 → walkFrom last total es ≡ judged last total es
 walk-checks last total [] h = simp (add-zero, le-leb total (2 ^ 48) h, and-true)
@@ -120,7 +129,7 @@ walk-checks last total (e ∷ es) h =
     go : (a s b : Bool) → leb (total + e .blocks) (2 ^ 48) ≡ b
         → (total + e .blocks ≤ 2 ^ 48 → walkFrom (e .id .0) (total + e .blocks) es ≡ judged (e .id .0) (total + e .blocks) es)
         → cond (a && (s && b)) (walkFrom (e .id .0) (total + e .blocks) es) Refused
-        ≡ cond ((a && ascending (e .id .0) es) && ((s && all sound es) && summed (total + e .blocks + blockSum es))) (Blocks (total + e .blocks + blockSum es)) Refused
+        ≡ cond ((a && ascending (e .id .0) (elementIds es)) && ((s && all sound es) && summed (total + e .blocks + blockSum es))) (Blocks (total + e .blocks + blockSum es)) Refused
     go true true true q later = later (leb-true (total + e .blocks) (2 ^ 48) q)
     go true true false q later =
         let over : 2 ^ 48 < total + e .blocks + blockSum es = omega (arith, leb-false (total + e .blocks) (2 ^ 48) q) in
@@ -128,18 +137,18 @@ walk-checks last total (e ∷ es) h =
     go true false b q later = simp and-false
     go false s b q later = refl
 
-module _ (t : Table) (b : Bool) (is-b : b ≡ sized (t .count) (t .limit)) where
-  pub check-unsized : b ≡ false → verdict Refused ≡ checkOf t
+module _ (o : Offer) (b : Bool) (is-b : b ≡ sized (o .count) (o .limit)) where
+  pub check-unsized : b ≡ false → verdict Refused ≡ checkOf o
   unfolding good checkOf
   check-unsized n = sym (rw (sym is-b ∙ n))
 
-  pub check-walked : b ≡ true → (r : Checked) → r ≡ walkFrom 0 0 (take (t .count) (t .elements)) → verdict r ≡ checkOf t
+  pub check-walked : b ≡ true → (r : Checked) → r ≡ walkFrom 0 0 (take (o .count) (o .elements)) → verdict r ≡ checkOf o
   unfolding good checkOf
   check-walked y r is-r =
-      rw (is-r, walk-checks 0 0 (live t) (omega arith), zero-add (blockSum (live t)), sym is-b ∙ y)
-      (told (ascending 0 (live t) && (all sound (live t) && summed (blockSum (live t)))))
+      rw (is-r, walk-checks 0 0 (offered o) (omega arith), zero-add (blockSum (offered o)), sym is-b ∙ y)
+      (told (ascending 0 (elementIds (offered o)) && (all sound (offered o) && summed (blockSum (offered o)))))
     where
-      told : (g : Bool) → verdict (cond g (Blocks (blockSum (live t))) Refused) ≡ cond g (tells 0 (blockSum (live t) ∷ [])) (tells 8 [])
+      told : (g : Bool) → verdict (cond g (Blocks (blockSum (offered o))) Refused) ≡ cond g (tells 0 (blockSum (offered o) ∷ [])) (tells 8 [])
       told true = refl
       told false = refl
 

@@ -1,131 +1,203 @@
--- The search, a turn of the loop at a time; what it finds; the store at the place where it stops.
-use Prim.Native.Nat.{ℕ, suc, _+_, _≤_, _<_, min}
+-- The search: what it finds among identifiers, and a turn of its loop at a time, over any list whose elements have one.
+use Prim.Native.Nat.{ℕ, zero, suc, _+_, _≤_, _<_, min}
 use mathlib.Core.Bool.{Bool, true, false, cond, true≢false}
-use mathlib.Core.List.{List, _∷_, _++_, append-nil}
+use mathlib.Core.List.{List, [], _∷_, map}
 use mathlib.Core.Path.{_≡_, refl, sym, ap, _∙_}
 use native.Mathlib.Numerals.{add-one}
 use native.Mathlib.Omega.{arith}
-use lib.Dec.{eqb}
-use lib.ListN.{length, take, drop, getD, set, length-take, take-append-drop, drop-of-length-le}
-use lib.Seq.{drop-cons, getD-take, take-all, set-split, set-getD, set-append-left}
-use borrow.Author.Tests.{lt-ltb, le-ltb}
-use Rattle.table.specs.Elements.{live, blank, withHealth, withElements}
-use Rattle.table.specs.Search.{place, find, change, storeIn, storeHealth, Spotted}
+use lib.Dec.{eqb, ltb}
+use lib.ListN.{length, take, drop, getD, length-map, length-take, drop-of-length-le, List·getD-eq-default, List·getD-map}
+use lib.Seq.{drop-cons, getD-take}
+use borrow.Author.Tests.{lt-ltb, le-ltb, eq-eqb, ne-eqb, eqb-true}
+use Rattle.table.specs.Check.{ascending}
+use Rattle.table.specs.Elements.{blank, blankPart, elementIds, partIds}
+use Rattle.table.specs.Search.{place, hits, find, sightIn}
 use Rattle.table.specs.declared.Element.{Element}
 use Rattle.table.specs.declared.Found.the-variants.{Missing, One}
-use Rattle.table.specs.declared.Table.{Table}
-use Rattle.table.proofs.Elements.{taken, length-taken}
+use Rattle.table.specs.declared.Found.{Found}
+use Rattle.table.specs.declared.Part.{Part}
+use Rattle.table.proofs.Check.{ascending-both}
+use Rattle.table.proofs.Splits.{taken, length-taken}
 
--- ## What is found, and what is changed, at the place where the search stops
+-- ## What is found
 
-module _ (id : ℕ) (l : List Element) where
-  stops-at : place id l < length l → drop (place id l) l ≡ getD l (place id l) blank ∷ drop (suc (place id l)) l
-  stops-at h = drop-cons l (place id l) blank h
+-- a hit is there, where the search stops
+pub hits-there : (id : ℕ) (ids : List ℕ) → hits id ids ≡ true → (place id ids < length ids) × (getD ids (place id ids) 0 ≡ id)
+hits-there id [] q = absurd (true≢false (sym q))
+hits-there id (x ∷ xs) q = go (ltb x id) q (hits-there id xs)
+  where
+    go : (b : Bool) → cond b (hits id xs) (eqb x id) ≡ true → (hits id xs ≡ true → (place id xs < length xs) × (getD xs (place id xs) 0 ≡ id))
+        → (cond b (suc (place id xs)) 0 < suc (length xs)) × (getD (x ∷ xs) (cond b (suc (place id xs)) 0) 0 ≡ id)
+    go true r later = let w = later r in (omega (arith, w .0), w .1)
+    go false r later = (omega arith, eqb-true x id r)
 
-  find-past : length l ≤ place id l → find id l ≡ Missing
-  unfolding find
-  find-past h = rw (drop-of-length-le l h)
+-- on an ascending list the identifier at a place lies above those before it
+pub ascending-low : (low : ℕ) (ids : List ℕ) (i : ℕ) → ascending low ids ≡ true → i < length ids → low < getD ids i 0
+ascending-low low [] i q h = absurd (omega arith)
+ascending-low low (x ∷ xs) zero q h = ascending-both low x xs q .0
+ascending-low low (x ∷ xs) (suc i) q h =
+    let two = ascending-both low x xs q in
+    let above : x < getD xs i 0 = ascending-low x xs i (two .1) (omega arith) in
+    let up : low < x = two .0 in
+    omega arith
 
-  find-at : place id l < length l → find id l ≡ cond (eqb (getD l (place id l) blank .id .0) id) (One (getD l (place id l) blank)) Missing
-  unfolding find
-  find-at h = rw (stops-at h)
+-- and so each is found, at its place
+pub hits-member : (low : ℕ) (ids : List ℕ) (i : ℕ) → ascending low ids ≡ true → i < length ids → (hits (getD ids i 0) ids ≡ true) × (place (getD ids i 0) ids ≡ i)
+hits-member low [] i q h = absurd (omega arith)
+hits-member low (x ∷ xs) zero q h = rw (le-ltb x x (omega arith)) (eq-eqb x x refl, refl)
+hits-member low (x ∷ xs) (suc i) q h =
+    let two = ascending-both low x xs q in
+    let later = hits-member x xs i (two .1) (omega arith) in
+    rw (lt-ltb x (getD xs i 0) (ascending-low x xs i (two .1) (omega arith))) (later .0, ap suc (later .1))
 
-  pub change-past : (f : Element → Element) → length l ≤ place id l → change id f l ≡ l
-  unfolding change
-  change-past f h = rw (drop-of-length-le l h, take-all (place id l) l h, append-nil)
+abbrev element : Found → Element
+element Missing = blank
+element (One e) = e
 
-  pub change-at : (f : Element → Element) → place id l < length l
-      → change id f l ≡ set l (place id l) (cond (eqb (getD l (place id l) blank .id .0) id) (f (getD l (place id l) blank)) (getD l (place id l) blank))
-  unfolding change
-  change-at f h = rw (stops-at h) (sym (set-split l (place id l) _ h))
+-- so an element that is found is in the list, under its identifier
+pub find-sound : (id : ℕ) (es : List Element) (e : Element) → find id es ≡ One e → (i : ℕ) × (i < length es) × (getD es i blank ≡ e) × (e .id .0 ≡ id)
+unfolding find
+find-sound id es e q = go (hits id (elementIds es)) q (hits-there id (elementIds es))
+  where
+    go : (b : Bool) → cond b (One (getD es (place id (elementIds es)) blank)) Missing ≡ One e
+        → (b ≡ true → (place id (elementIds es) < length (elementIds es)) × (getD (elementIds es) (place id (elementIds es)) 0 ≡ id))
+        → (i : ℕ) × (i < length es) × (getD es i blank ≡ e) × (e .id .0 ≡ id)
+    go true r there =
+        let w = there refl in
+        let same : getD es (place id (elementIds es)) blank ≡ e = ap element r in
+        (place id (elementIds es), simp length-map at (w .0), same, ap (λ (x : Element). x .id .0) (sym same) ∙ sym (List·getD-map (λ (x : Element). x .id .0) es _ blank) ∙ w .1)
+    go false r there = absurd (let z : _≡_ {A = ℕ} 0 1 = cc in omega arith)
 
-pub set-front : (es : List Element) (count i : ℕ) (x : Element) → i < length (take count es) → set (take count es) i x ++ drop count es ≡ set es i x
-set-front es count i x h =
-    sym (set-append-left (take count es) (drop count es) i x h) ∙ ap (λ (l : List Element). set l i x) (take-append-drop count es)
+-- and on an ascending list each is found
+pub find-member : (low : ℕ) (es : List Element) (i : ℕ) → ascending low (elementIds es) ≡ true → i < length es → find (getD es i blank .id .0) es ≡ One (getD es i blank)
+unfolding find
+find-member low es i q h =
+    let name : getD (elementIds es) i 0 ≡ getD es i blank .id .0 = List·getD-map (λ (x : Element). x .id .0) es i blank in
+    let w = hits-member low (elementIds es) i q (simp length-map h) in
+    rw (← name, w .0, w .1)
 
 -- ## The loop over the first n, n being the count or 128; `so` is its invariant
 
-module _ (es : List Element) (count n i id : ℕ) (full : length es ≡ 128) (is-n : n ≡ min count 128) (so : i + place id (drop i (take n es)) ≡ place id (take n es)) where
-  all-taken : take n es ≡ take count es
-  all-taken = taken es count n full is-n
+module _ {A : Type 0} (key : A → ℕ) (l : List A) (z : A) (count n i id : ℕ) (full : length l ≡ 128) (is-n : n ≡ min count 128) where
+  abbrev ids : List ℕ
+  ids = map key (take n l)
 
-  taken-length : length (take count es) ≡ n
-  taken-length = length-taken es count n full is-n
+  abbrev rest : ℕ → List ℕ
+  rest k = map key (drop k (take n l))
 
-  module _ (less : i < n) where
-    here : drop i (take n es) ≡ getD es i blank ∷ drop (suc i) (take n es)
-    here =
-        let inside : i < length (take n es) = simp length-take (omega arith) in
-        rw (drop-cons (take n es) i blank inside, getD-take n es i blank less)
+  module _ (so : i + place id (rest i) ≡ place id ids) (so-hits : hits id (rest i) ≡ hits id ids) where
+    all-ids : ids ≡ map key (take count l)
+    all-ids = ap (map key) (taken l count n full is-n)
 
-    pub seek-pass : getD es i blank .id .0 < id → i + 1 + place id (drop (i + 1) (take n es)) ≡ place id (take n es)
-    seek-pass h =
-        let one : place id (drop i (take n es)) ≡ suc (place id (drop (suc i) (take n es))) = rw (here, lt-ltb _ _ h) in
-        rw (add-one i) (omega arith)
+    module _ (less : i < n) where
+      here : drop i (take n l) ≡ getD l i z ∷ drop (i + 1) (take n l)
+      here =
+          let inside : i < length (take n l) = simp length-take (omega arith) in
+          rw (drop-cons (take n l) i z inside, add-one i, getD-take n l i z less)
 
-    module _ (h : id ≤ getD es i blank .id .0) where
-      stopped : place id (take count es) ≡ i
-      stopped =
-          let none : place id (drop i (take n es)) ≡ 0 = rw (here, le-ltb _ _ h) in
-          let at-i : place id (take n es) ≡ i = omega arith in
-          rw (sym all-taken) at-i
+      pub seek-pass : key (getD l i z) < id → (i + 1 + place id (rest (i + 1)) ≡ place id ids) × (hits id (rest (i + 1)) ≡ hits id ids)
+      seek-pass h =
+          let one : place id (rest i) ≡ suc (place id (rest (i + 1))) = rw (here, lt-ltb _ _ h) in
+          let same : hits id (rest i) ≡ hits id (rest (i + 1)) = rw (here, lt-ltb _ _ h) in
+          (omega arith, sym same ∙ so-hits)
 
-      inside : place id (take count es) < length (take count es)
-      inside = rw (stopped, taken-length) less
+      module _ (h : id ≤ key (getD l i z)) where
+        pub seek-place : i ≡ place id (map key (take count l))
+        seek-place =
+            let none : place id (rest i) ≡ 0 = rw (here, le-ltb _ _ h) in
+            let at-i : i ≡ place id ids = omega arith in
+            at-i ∙ ap (place id) all-ids
 
-      element : getD (take count es) (place id (take count es)) blank ≡ getD es i blank
-      element = rw stopped (getD-take count es i blank (omega arith))
+        pub seek-hits : eqb (key (getD l i z)) id ≡ hits id (map key (take count l))
+        seek-hits =
+            let there : hits id (rest i) ≡ eqb (key (getD l i z)) id = rw (here, le-ltb _ _ h) in
+            sym there ∙ so-hits ∙ ap (hits id) all-ids
 
-      changed : (f : Element → Element) (b : Bool) → eqb (getD es i blank .id .0) id ≡ b → change id f (take count es) ++ drop count es ≡ cond b (set es i (f (getD es i blank))) es
-      changed f b is-b = rw (change-at id (take count es) f inside, element, stopped, is-b) (set-front es count i _ (rw taken-length less) ∙ store b)
-        where
-          store : (b : Bool) → set es i (cond b (f (getD es i blank)) (getD es i blank)) ≡ cond b (set es i (f (getD es i blank))) es
-          store true = refl
-          store false = set-getD es i blank
+        pub seek-at : getD l i z ≡ getD (take count l) (place id (map key (take count l))) z
+        seek-at = sym (getD-take count l i z (omega arith)) ∙ ap (λ (k : ℕ). getD (take count l) k z) seek-place
 
-      pub seek-stop : Spotted es count id i (eqb (getD es i blank .id .0) id)
-      seek-stop = record {
-        stops = sym stopped;
-        within = λ _. omega arith;
-        found = rw (find-at id (take count es) inside, element);
-        changed = λ f. changed f (eqb (getD es i blank .id .0) id) refl;
+    module _ (done : n ≤ i) where
+      nothing : drop i (take n l) ≡ []
+      nothing = drop-of-length-le (take n l) {i = i} (simp length-take (omega arith))
+
+      pub end-place : i ≡ place id (map key (take count l))
+      end-place =
+          let none : place id (rest i) ≡ 0 = rw nothing in
+          let at-i : i ≡ place id ids = omega arith in
+          at-i ∙ ap (place id) all-ids
+
+      pub end-hits : false ≡ hits id (map key (take count l))
+      end-hits =
+          let none : hits id (rest i) ≡ false = rw nothing in
+          sym none ∙ so-hits ∙ ap (hits id) all-ids
+
+      pub end-at : z ≡ getD (take count l) (place id (map key (take count l))) z
+      end-at =
+          sym (List·getD-eq-default (take count l) z {n = place id (map key (take count l))} (rw (sym end-place, length-taken l count n full is-n) done))
+
+-- ## What the two searches answer
+
+module _ (es : List Element) (count n i id : ℕ) (full : length es ≡ 128) (is-n : n ≡ min count 128)
+    (so : i + place id (elementIds (drop i (take n es))) ≡ place id (elementIds (take n es)))
+    (so-hits : hits id (elementIds (drop i (take n es))) ≡ hits id (elementIds (take n es))) where
+  abbrev key : Element → ℕ
+  key e = e .id .0
+
+  pub found-pass : i < n → (id ≡ getD es i blank .id .0 → ⊥) → getD es i blank .id .0 ≤ id
+      → i + 1 + place id (elementIds (drop (i + 1) (take n es))) ≡ place id (elementIds (take n es))
+  found-pass less ne le = seek-pass key es blank count n i id full is-n so so-hits less (omega arith) .0
+
+  pub found-still : i < n → (id ≡ getD es i blank .id .0 → ⊥) → getD es i blank .id .0 ≤ id
+      → hits id (elementIds (drop (i + 1) (take n es))) ≡ hits id (elementIds (take n es))
+  found-still less ne le = seek-pass key es blank count n i id full is-n so so-hits less (omega arith) .1
+
+  pub found-one : i < n → id ≡ getD es i blank .id .0 → One (getD es i blank) ≡ find id (take count es)
+  unfolding find
+  found-one less e =
+      let low : id ≤ getD es i blank .id .0 = omega arith in
+      let hit : hits id (elementIds (take count es)) ≡ true =
+      sym (seek-hits key es blank count n i id full is-n so so-hits less low) ∙ eq-eqb _ _ (sym e) in
+      rw (hit, ← seek-at key es blank count n i id full is-n so so-hits less low)
+
+  pub found-none : i < n → (id ≡ getD es i blank .id .0 → ⊥) → id < getD es i blank .id .0 → Missing ≡ find id (take count es)
+  unfolding find
+  found-none less ne h =
+      let low : id ≤ getD es i blank .id .0 = omega arith in
+      let miss : hits id (elementIds (take count es)) ≡ false =
+      sym (seek-hits key es blank count n i id full is-n so so-hits less low) ∙ ne-eqb _ _ (λ q. ne (sym q)) in
+      sym (rw miss)
+
+  pub found-end : n ≤ i → Missing ≡ find id (take count es)
+  unfolding find
+  found-end done = sym (rw (← end-hits key es blank count n i id full is-n so so-hits done))
+
+module _ (ps : List Part) (count n i id : ℕ) (full : length ps ≡ 128) (is-n : n ≡ min count 128)
+    (so : i + place id (partIds (drop i (take n ps))) ≡ place id (partIds (take n ps)))
+    (so-hits : hits id (partIds (drop i (take n ps))) ≡ hits id (partIds (take n ps))) where
+  abbrev partKey : Part → ℕ
+  partKey p = p .id .0
+
+  pub sight-pass : i < n → getD ps i blankPart .id .0 < id → i + 1 + place id (partIds (drop (i + 1) (take n ps))) ≡ place id (partIds (take n ps))
+  sight-pass less h = seek-pass partKey ps blankPart count n i id full is-n so so-hits less h .0
+
+  pub sight-still : i < n → getD ps i blankPart .id .0 < id → hits id (partIds (drop (i + 1) (take n ps))) ≡ hits id (partIds (take n ps))
+  sight-still less h = seek-pass partKey ps blankPart count n i id full is-n so so-hits less h .1
+
+  pub sight-stop : i < n → id ≤ getD ps i blankPart .id .0
+      → record { part = getD ps i blankPart; place = i; hit = eqb (getD ps i blankPart .id .0) id } ≡ sightIn id (take count ps)
+  unfolding sightIn
+  sight-stop less h =
+      λ j. record {
+        part = seek-at partKey ps blankPart count n i id full is-n so so-hits less h j;
+        place = seek-place partKey ps blankPart count n i id full is-n so so-hits less h j;
+        hit = seek-hits partKey ps blankPart count n i id full is-n so so-hits less h j;
       }
 
-  module _ (done : n ≤ i) where
-    past : length (take count es) ≤ place id (take count es)
-    past = rw (taken-length, sym all-taken) (omega arith)
-
-    at-end : i ≡ place id (take n es)
-    at-end =
-        let none : place id (drop i (take n es)) ≡ 0 = rw (drop-of-length-le (take n es) {i = i} (simp length-take (omega arith))) in
-        omega arith
-
-    pub seek-end : Spotted es count id i false
-    seek-end = record {
-      stops = rw (sym all-taken) at-end;
-      within = λ q. absurd (true≢false (sym q));
-      found = find-past id (take count es) past;
-      changed = λ f. rw (change-past id (take count es) f past) (take-append-drop count es);
-    }
-
--- ## The table's own calls
-
-module _ (t : Table) (id at : ℕ) (hit : Bool) (spot : Spotted (t .elements) (t .count) id at hit) where
-  on-hit : (slot : ℕ) → slot ≡ min at 127 → hit ≡ true → slot ≡ at
-  on-hit slot is-slot e = omega (arith, spot .within e)
-
-  pub found-one : (slot : ℕ) → slot ≡ min at 127 → hit ≡ true → One (getD (t .elements) slot blank) ≡ find id (live t)
-  found-one slot is-slot e = sym (spot .found ∙ rw (e, on-hit slot is-slot e))
-
-  pub found-none : hit ≡ false → Missing ≡ find id (live t)
-  found-none e = sym (spot .found ∙ rw e)
-
-  pub stored : (h slot new : ℕ) → slot ≡ min at 127 → new ≡ cond hit h (getD (t .elements) slot blank .health)
-      → withElements (set (t .elements) slot (withHealth new (getD (t .elements) slot blank))) t ≡ storeHealth id h t
-  unfolding storeIn
-  stored h slot new is-slot is-new = ap (λ (es : List Element). withElements es t) (store hit refl ∙ sym (spot .changed (withHealth h)))
-    where
-      store : (b : Bool) → hit ≡ b
-          → set (t .elements) slot (withHealth new (getD (t .elements) slot blank)) ≡ cond b (set (t .elements) at (withHealth h (getD (t .elements) at blank))) (t .elements)
-      store true e = rw (is-new, e, on-hit slot is-slot e)
-      store false e = rw (is-new, e) (set-getD (t .elements) slot blank)
+  pub sight-end : n ≤ i → (p : Part) → p ≡ blankPart → record { part = p; place = i; hit = false } ≡ sightIn id (take count ps)
+  unfolding sightIn
+  sight-end done p is-p =
+      λ j. record {
+        part = (is-p ∙ end-at partKey ps blankPart count n i id full is-n so so-hits done) j;
+        place = end-place partKey ps blankPart count n i id full is-n so so-hits done j;
+        hit = end-hits partKey ps blankPart count n i id full is-n so so-hits done j;
+      }

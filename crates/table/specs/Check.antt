@@ -3,27 +3,27 @@ use Prim.Native.Nat.{ℕ, _+_, _^_}
 use mathlib.Core.Bool.{Bool, true, cond, _&&_, _||_}
 use mathlib.Core.List.{List, [], _∷_}
 use lib.Dec.{eqb, leb, ltb}
-use Rattle.paper.specs.Elements.{gradedHealth}
+use Rattle.paper.specs.Elements.{storageType, gradedHealth}
 use Rattle.paper.specs.Told.{Told, tells}
 use Rattle.words.specs.Lists.{all}
-use Rattle.table.specs.Elements.{live, isStorage, blockSum}
+use Rattle.table.specs.Elements.{offered, elementIds, blockSum}
 use Rattle.table.specs.declared.Checked.the-variants.{Refused, Blocks}
 use Rattle.table.specs.declared.Checked.{Checked}
 use Rattle.table.specs.declared.Element.{Element}
-use Rattle.table.specs.declared.Table.{Table}
+use Rattle.table.specs.declared.Offer.{Offer}
 
 -- "1 to 128 elements"; "A removal limit, 0 to 128"
 abbrev pub sized : ℕ → ℕ → Bool
 sized count limit = leb 1 count && leb count 128 && leb limit 128
 
 -- "identifiers 1 to FFFF_FFFFh, strictly ascending": each above the one before, the first above `low`; a u32 has no higher ones
-abbrev pub ascending : ℕ → List Element → Bool
+abbrev pub ascending : ℕ → List ℕ → Bool
 ascending low [] = true
-ascending low (e ∷ es) = ltb low (e .id .0) && ascending (e .id .0) es
+ascending low (id ∷ ids) = ltb low id && ascending id ids
 
 -- "a health 00h to CFh"; "A type other than 01h has block count 0"
 abbrev pub sound : Element → Bool
-sound e = gradedHealth (e .health) && (isStorage e || eqb (e .blocks) 0)
+sound e = gradedHealth (e .health) && (storageType (e .kind) || eqb (e .blocks) 0)
 
 -- "The blocks sum to between 2 and 2^48"
 abbrev pub summed : ℕ → Bool
@@ -31,11 +31,11 @@ summed total = leb 2 total && leb total (2 ^ 48)
 
 -- the tables that are not refused; the count is tested itself, since a list of 129 records has no more than 128 in the array
 unfoldable pub good : ℕ → List Element → ℕ → Bool
-good count es limit = sized count limit && (ascending 0 es && (all sound es && summed (blockSum es)))
+good count es limit = sized count limit && (ascending 0 (elementIds es) && (all sound es && summed (blockSum es)))
 
 -- what the check tells: 0 and the blocks of all, or 8
-unfoldable pub checkOf : Table → Told (List ℕ)
-checkOf t = cond (good (t .count) (live t) (t .limit)) (tells 0 (blockSum (live t) ∷ [])) (tells 8 [])
+unfoldable pub checkOf : Offer → Told (List ℕ)
+checkOf o = cond (good (o .count) (offered o) (o .limit)) (tells 0 (blockSum (offered o) ∷ [])) (tells 8 [])
 
 -- the number and values of each answer
 abbrev pub verdict : Checked → Told (List ℕ)

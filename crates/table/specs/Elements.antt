@@ -1,49 +1,71 @@
--- The elements of a table, and what is measured of them.
+-- The elements of an offered table, the table as built of it, and what is measured of them.
 use Prim.Native.Nat.{ℕ, _-_}
 use mathlib.Core.Bool.{Bool, false}
-use mathlib.Core.List.{List, _++_}
-use lib.ListN.{take, replicate}
+use mathlib.Core.List.{List, _++_, map}
+use lib.ListN.{length, take, getD, replicate}
 use Rattle.paper.specs.Elements.{storageType, removedHealth}
 use Rattle.words.specs.Lists.{sum, one}
 use Rattle.table.specs.declared.Element.{Element}
+use Rattle.table.specs.declared.Offer.{Offer}
+use Rattle.table.specs.declared.Part.{Part}
 use Rattle.table.specs.declared.Table.{Table}
 
 -- the elements that count: the first `count`, or all 128 where the count is larger
-abbrev pub live : Table → List Element
-live t = take (t .count) (t .elements)
+abbrev pub offered : Offer → List Element
+offered o = take (o .count) (o .elements)
+
+abbrev pub live : Table → List Part
+live t = take (t .count) (t .parts)
 
 -- what fills an unused slot
 abbrev pub blank : Element
 blank = record { id = record { 0 = 0 }; kind = 0; health = 0; unreported = false; blocks = 0 }
 
-abbrev pub isStorage : Element → Bool
-isStorage e = storageType (e .kind)
+abbrev pub blankPart : Part
+blankPart = record { id = record { 0 = 0 }; kind = 0; unreported = false; blocks = 0 }
 
-abbrev pub isRemoved : Element → Bool
-isRemoved e = removedHealth (e .health)
+-- ## Identifiers
 
-abbrev pub withHealth : ℕ → Element → Element
-withHealth h e = record { id = e .id; kind = e .kind; health = h; unreported = e .unreported; blocks = e .blocks }
+abbrev pub elementIds : List Element → List ℕ
+elementIds es = map (λ (e : Element). e .id .0) es
 
--- an element after its marking store
-abbrev pub atFFh : Element → Element
-atFFh e = withHealth 0xFF e
+abbrev pub partIds : List Part → List ℕ
+partIds ps = map (λ (p : Part). p .id .0) ps
 
--- what of an element is no cell
-abbrev pub bare : Element → Element
-bare e = withHealth 0 e
+abbrev pub identifiers : Table → List ℕ
+identifiers t = partIds (live t)
 
--- how many are at FFh
-abbrev pub removedCount : List Element → ℕ
-removedCount es = sum (λ (e : Element). one (isRemoved e)) es
+-- how many elements there are, and the identifier at a place
+abbrev pub size : Table → ℕ
+size t = length (identifiers t)
+
+abbrev pub identifierAt : Table → ℕ → ℕ
+identifierAt t place = getD (identifiers t) place 0
+
+-- ## An offered table, split: what is built, and the health that the cell of each place starts with
+
+abbrev pub partOf : Element → Part
+partOf e = record { id = e .id; kind = e .kind; unreported = e .unreported; blocks = e .blocks }
+
+abbrev pub healthOf : Element → ℕ
+healthOf e = e .health
+
+-- unused places hold blanks and 00h
+abbrev pub tableOf : Offer → Table
+tableOf o = record { parts = map partOf (offered o) ++ replicate (128 - o .count) blankPart; count = o .count; limit = o .limit }
+
+abbrev pub healthsOf : Offer → List ℕ
+healthsOf o = map healthOf (offered o) ++ replicate (128 - o .count) 0
+
+-- ## Measures
+
+abbrev pub isStorage : Part → Bool
+isStorage p = storageType (p .kind)
+
+-- how many healths are at FFh
+abbrev pub removedCount : List ℕ → ℕ
+removedCount hs = sum (λ (h : ℕ). one (removedHealth h)) hs
 
 -- the blocks of all
 abbrev pub blockSum : List Element → ℕ
 blockSum es = sum (λ (e : Element). e .blocks) es
-
-abbrev pub withElements : List Element → Table → Table
-withElements es t = record { elements = es; count = t .count; limit = t .limit }
-
--- the table with blanks in its unused slots
-abbrev pub tidied : Table → Table
-tidied t = withElements (live t ++ replicate (128 - t .count) blank) t

@@ -5,7 +5,7 @@ use mathlib.Core.List.{List, _∷_}
 use lib.ListN.{replicate}
 use Rattle.table.specs.Elements.{blank}
 use Rattle.table.specs.declared.Element.{Element}
-use Rattle.table.specs.declared.Table.{Table}
+use Rattle.table.specs.declared.Offer.{Offer}
 
 abbrev pub element : ℕ → ℕ → ℕ → ℕ → Element
 element id kind health blocks = record { id = record { 0 = id }; kind = kind; health = health; unreported = false; blocks = blocks }
@@ -14,5 +14,5 @@ element id kind health blocks = record { id = record { 0 = id }; kind = kind; he
 abbrev pub elementsA : List Element
 elementsA = element 1 1 0x20 1000 ∷ element 3 1 0x10 1500 ∷ element 0x0001_0003 1 0x70 500 ∷ element 0x0002_0000 2 0 0 ∷ replicate 124 blank
 
-abbrev pub tableA : ℕ → Table
-tableA limit = record { elements = elementsA; count = 4; limit = limit }
+abbrev pub offerA : ℕ → Offer
+offerA limit = record { elements = elementsA; count = 4; limit = limit }

@@ -1,4 +1,4 @@
--- The element table: its elements, which tables are good, the search, the store of a health, the counts.
+-- The element table: its elements, offered and as built; which tables are good; the search; the counts.
 pub mod Check
 pub mod Elements
 pub mod Examples

@@ -1,16 +1,16 @@
-// The element table by value: the check of an offered table, the search, the count at FFh, the store of one health.
+// The element table: the check and the search of an offered one, and how it is split; the table as built, which no call changes, and its
+// search; the healths, a cell for each place.
 ghost use mathlib.Core.Path.{_≡_};
 ghost use Prim.Native.Nat.{_-_, _≤_, _^_, min};
-ghost use mathlib.Core.Bool.{cond};
-ghost use lib.ListN.{take, replicate};
-ghost use mathlib.Core.List.{_++_};
+ghost use mathlib.Core.List.{_++_, map};
+ghost use lib.ListN.{take, replicate, getD, set};
 ghost use Rattle.table.specs.Check.{sized, sound, mayFollow, walkFrom, checkOf, verdict};
-ghost use Rattle.table.specs.Elements.{live, blank, removedCount, tidied};
-ghost use Rattle.table.specs.Search.{find, storeHealth, Spotted};
+ghost use Rattle.table.specs.Elements as elements;
+ghost use Rattle.table.specs.Elements.{offered, partOf, blankPart, removedCount};
+ghost use Rattle.table.specs.Search as search;
 use paper::ElementId;
 
-// An element as document 01 has it; `kind` is its type, a word that the language keeps. The flag stands before the blocks, so that an
-// element takes 16 bytes.
+// An element as document 01 has it in an offered table; `kind` is its type, a word that the language keeps.
 pub struct Element {
     pub id: ElementId,
     pub kind: u8,
@@ -19,8 +19,24 @@ pub struct Element {
     pub blocks: u64,
 }
 
-pub struct Table {
+// What of an element is no cell. The flag stands before the blocks, so that a part takes 16 bytes.
+pub struct Part {
+    pub id: ElementId,
+    pub kind: u8,
+    pub unreported: bool,
+    pub blocks: u64,
+}
+
+// An offered table.
+pub struct Offer {
     pub elements: [Element; 128],
+    pub count: usize,
+    pub limit: u16,
+}
+
+// The table as built.
+pub struct Table {
+    pub parts: [Part; 128],
     pub count: usize,
     pub limit: u16,
 }
@@ -36,18 +52,21 @@ pub enum Found {
     One(Element),
 }
 
-// Where the search stopped, and whether the identifier there is the one sought.
-struct Spot {
-    at: usize,
-    hit: bool,
+// Where the search stopped, the part there, and whether it is the one sought; past the end a blank one.
+pub struct Sight {
+    pub part: Part,
+    pub place: usize,
+    pub hit: bool,
 }
 
-// How many of the array's elements a count takes.
+// How many of an array's 128 a count takes.
 fn bounded(count: usize) -> usize
     ensures { λ r. ⌜ r ≡ min count 128 ⌝ }
 {
     if count < 128 { count } else { 128 }
 }
+
+// ---- The check of an offered table
 
 fn is_sized(count: usize, limit: u16) -> bool
     ensures { λ r. ⌜ r ≡ sized count limit ⌝ }
@@ -110,83 +129,84 @@ fn walk(es: [Element; 128], n: usize) -> Checked
     Checked::Blocks(total)
 }
 
-// How many of the first `count` are at FFh.
-fn tally(es: [Element; 128], count: usize) -> u16
-    ensures { λ r. ⌜ r ≡ removedCount (take count es) ⌝ }
-{
-    let n = bounded(count);
-    let mut i: usize = 0;
-    let mut k: u16 = 0;
-    while i < n {
-        let e = es[i];
-        if e.health == 0xFF {
-            k += 1;
-        }
-        i += 1;
-    }
-    k
-}
+// ---- The search of an offered table
 
-// The search among the first `count`: it stops at the first identifier that is not below the one sought.
-fn seek(es: [Element; 128], count: usize, id: ElementId) -> Spot
-    ensures { λ r. ⌜ Spotted es count (id .0) (r .at) (r .hit) ⌝ }
+// Among the first `count`: it stops at the first identifier that is not below the one sought.
+fn found_in(es: [Element; 128], count: usize, id: ElementId) -> Found
+    ensures { λ r. ⌜ r ≡ search.find (id .0) (take count es) ⌝ }
 {
     let n = bounded(count);
     let want = id.0;
     let mut i: usize = 0;
     while i < n {
         let e = es[i];
-        if want <= e.id.0 {
-            return Spot {
-                at: i,
-                hit: e.id.0 == want,
-            };
+        if want == e.id.0 {
+            return Found::One(e);
+        }
+        if want < e.id.0 {
+            return Found::Missing;
         }
         i += 1;
     }
-    Spot { at: i, hit: false }
+    Found::Missing
 }
 
-// A place as an index of the array.
-fn slot(place: usize) -> usize
-    ensures { λ r. ⌜ r ≡ min place 127 ⌝ }
+// ---- An offered table, split
+
+fn part_of(e: Element) -> Part
+    ensures { λ r. ⌜ r ≡ partOf e ⌝ }
 {
-    if place < 127 { place } else { 127 }
+    let id = e.id;
+    Part {
+        id,
+        kind: e.kind,
+        unreported: e.unreported,
+        blocks: e.blocks,
+    }
 }
 
-fn chosen(hit: bool, health: u8, old: u8) -> u8
-    ensures { λ r. ⌜ r ≡ cond hit health old ⌝ }
+fn blank_part() -> Part
+    ensures { λ r. ⌜ r ≡ blankPart ⌝ }
 {
-    if hit { health } else { old }
-}
-
-fn blank_element() -> Element
-    ensures { λ r. ⌜ r ≡ blank ⌝ }
-{
-    Element {
+    Part {
         id: ElementId(0),
         kind: 0,
-        health: 0,
         unreported: false,
         blocks: 0,
     }
 }
 
-// The array with blanks past the first `count`.
-fn cleared(es: [Element; 128], count: usize) -> [Element; 128]
-    ensures { λ r. ⌜ r ≡ take count es ++ replicate (128 - count) blank ⌝ }
+// The parts of the first `count`, then blanks.
+fn parts_of(es: [Element; 128], count: usize) -> [Part; 128]
+    ensures { λ r. ⌜ r ≡ map partOf (take count es) ++ replicate (128 - count) blankPart ⌝ }
 {
-    let e = blank_element();
-    let mut out = es;
-    let mut i = bounded(count);
-    while i < 128 {
-        out[i] = e;
+    let n = bounded(count);
+    let mut ps = [blank_part(); 128];
+    let mut i: usize = 0;
+    while i < n {
+        let e = es[i];
+        ps[i] = part_of(e);
         i += 1;
     }
-    out
+    ps
 }
 
-impl Table {
+// The healths of the first `count`, then zeros.
+fn healths_of(es: [Element; 128], count: usize) -> [u8; 128]
+    ensures { λ r. ⌜ r ≡ map elements.healthOf (take count es) ++ replicate (128 - count) 0 ⌝ }
+{
+    let n = bounded(count);
+    let mut hs: [u8; 128] = [0; 128];
+    let mut i: usize = 0;
+    while i < n {
+        let e = es[i];
+        hs[i] = e.health;
+        i += 1;
+    }
+    hs
+}
+
+impl Offer {
     // Whether document 01 accepts the table, and then its blocks in all.
     pub fn check(self) -> Checked
         ensures { λ r. ⌜ verdict r ≡ checkOf self ⌝ }
@@ -201,49 +221,107 @@ impl Table {
 
     // The element of an identifier.
     pub fn find(self, id: ElementId) -> Found
-        ensures { λ r. ⌜ r ≡ find (id .0) (live self) ⌝ }
+        ensures { λ r. ⌜ r ≡ search.find (id .0) (offered self) ⌝ }
     {
         let es = self.elements;
-        let s = seek(es, self.count, id);
-        let at = slot(s.at);
-        if s.hit {
-            let e = es[at];
-            return Found::One(e);
+        found_in(es, self.count, id)
+    }
+
+    // The table as it is built of the offer.
+    pub fn table(self) -> Table
+        ensures { λ r. ⌜ r ≡ elements.tableOf self ⌝ }
+    {
+        let es = self.elements;
+        let parts = parts_of(es, self.count);
+        Table {
+            parts,
+            count: self.count,
+            limit: self.limit,
         }
-        Found::Missing
     }
 
-    // The table with this health at the element of an identifier; no such element, no change.
-    pub fn with_health(self, id: ElementId, health: u8) -> Table
-        ensures { λ r. ⌜ r ≡ storeHealth (id .0) health self ⌝ }
+    // The healths that its cells start with.
+    pub fn healths(self) -> [u8; 128]
+        ensures { λ r. ⌜ r ≡ elements.healthsOf self ⌝ }
     {
         let es = self.elements;
-        let s = seek(es, self.count, id);
-        let at = slot(s.at);
-        let mut t = self;
-        let mut e = t.elements[at];
-        let h = chosen(s.hit, health, e.health);
-        e.health = h;
-        t.elements[at] = e;
-        t
+        healths_of(es, self.count)
     }
+}
 
-    // The table with blanks in its unused slots.
-    pub fn tidied(self) -> Table
-        ensures { λ r. ⌜ r ≡ tidied self ⌝ }
-    {
-        let es = self.elements;
-        let blanked = cleared(es, self.count);
-        let mut t = self;
-        t.elements = blanked;
-        t
-    }
+// ---- The table as built
 
-    // How many elements are at FFh.
-    pub fn removed(self) -> u16
-        ensures { λ r. ⌜ r ≡ removedCount (live self) ⌝ }
-    {
-        let es = self.elements;
-        tally(es, self.count)
+// The search among the first `count`.
+fn seek(ps: [Part; 128], count: usize, id: ElementId) -> Sight
+    ensures { λ r. ⌜ r ≡ search.sightIn (id .0) (take count ps) ⌝ }
+{
+    let n = bounded(count);
+    let want = id.0;
+    let mut i: usize = 0;
+    while i < n {
+        let part = ps[i];
+        if want <= part.id.0 {
+            return Sight {
+                part,
+                place: i,
+                hit: part.id.0 == want,
+            };
+        }
+        i += 1;
     }
+    Sight {
+        part: blank_part(),
+        place: i,
+        hit: false,
+    }
+}
+
+impl Table {
+    // The search for an identifier.
+    pub fn sight(self, id: ElementId) -> Sight
+        ensures { λ r. ⌜ r ≡ search.sight (id .0) self ⌝ }
+    {
+        let ps = self.parts;
+        seek(ps, self.count, id)
+    }
+}
+
+// ---- The healths, by place
+
+// The health of a place.
+pub fn health_at(healths: [u8; 128], place: usize) -> u8
+    ensures { λ r. ⌜ r ≡ getD healths place 0 ⌝ }
+{
+    if 128 <= place {
+        return 0;
+    }
+    healths[place]
+}
+
+// The healths with this one at a place.
+pub fn with_health(healths: [u8; 128], place: usize, health: u8) -> [u8; 128]
+    ensures { λ r. ⌜ r ≡ set healths place health ⌝ }
+{
+    if 128 <= place {
+        return healths;
+    }
+    let mut hs = healths;
+    hs[place] = health;
+    hs
+}
+
+// How many of the first `count` are at FFh.
+pub fn removed(healths: [u8; 128], count: usize) -> u16
+    ensures { λ r. ⌜ r ≡ removedCount (take count healths) ⌝ }
+{
+    let n = bounded(count);
+    let mut i: usize = 0;
+    let mut k: u16 = 0;
+    while i < n {
+        if healths[i] == 0xFF {
+            k += 1;
+        }
+        i += 1;
+    }
+    k
 }

@@ -48,12 +48,12 @@ word-all t s i h = sym (ap (λ (l : List ℕ). written t l) (drop-of-length-le s
 
 -- the text that holds some bytes
 abbrev pub holding : List ℕ → Text
-holding l = record { bytes = padded 160 l; len = length l }
+holding l = record { bytes = padded 0 160 l; len = length l }
 
 holding-more : (l : List ℕ) (b : ℕ) → length l < 160 → pushed (holding l) b ≡ holding (l ++ (b ∷ []))
 holding-more l b h =
     let long : length l + 1 ≡ length (l ++ (b ∷ [])) = simp length-append in
-    rw (lt-ltb _ _ h) (λ i. record { bytes = padded-more 160 l b h i; len = long i })
+    rw (lt-ltb _ _ h) (λ i. record { bytes = padded-more 0 160 l b h i; len = long i })
 
 holding-all : (l m : List ℕ) → length l + length m ≤ 160 → written (holding l) m ≡ holding (l ++ m)
 unfolding written

@@ -1,16 +1,16 @@
--- Laws of kept, flattened, stored and summed lists; most say what a turn of a loop adds.
+-- Laws of kept, counted, flattened, stored and summed lists; most say what a turn of a loop adds.
 use Prim.Native.Nat.{ℕ, zero, suc, _+_, _-_, _*_, _≤_, _<_, min}
 use mathlib.Core.Bool.{Bool, true, false, cond}
-use mathlib.Core.List.{List, [], _∷_, _++_, append-assoc, append-nil}
-use mathlib.Core.Path.{_≡_, refl, sym, ap, _∙_, subst}
-use native.Mathlib.Nat.{zero-add, zero-min, min-zero, suc-min-suc, mul-zero, mul-suc, add-comm, mul-add, mul-one, add-zero, add-assoc}
+use mathlib.Core.List.{List, [], _∷_, _++_, map, append-assoc, append-nil}
+use mathlib.Core.Path.{_≡_, refl, sym, ap, _∙_, subst, subst⁻¹}
+use native.Mathlib.Nat.{zero-add, zero-min, min-zero, suc-min-suc, mul-zero, mul-suc, add-comm, mul-add, mul-one, add-zero, add-assoc, not-suc-le-zero, le-of-suc-le-suc}
 use native.Mathlib.Numerals.{add-one}
 use native.Mathlib.Omega.{arith}
 use lib.Dec.{leb}
 use lib.ListN.{length, getD, take, drop, set, length-append, length-take, length-drop, drop-of-length-le, take-append-drop, replicate}
-use lib.Seq.{take-suc, take-suc-set, drop-cons, getD-take, drop-append-add, drop-drop, take-at, drop-at, length-take-le, paste, take-all, set-append-seam, append-snoc}
+use lib.Seq.{take-suc, drop-cons, getD-take, drop-append-add, drop-drop, take-at, length-take-le, paste, take-all, set-append-seam, append-snoc}
 use borrow.Author.Tests.{le-leb, lt-leb, leb-true, leb-false}
-use Rattle.words.specs.Lists.{keep, flat, fits, stored, sum}
+use Rattle.words.specs.Lists.{keep, upTo, Every, flat, fits, stored, sum}
 
 -- ## A count above the length
 
@@ -23,16 +23,13 @@ module _ {A : Type 0} where
 -- ## Kept
 
 module _ {A : Type 0} (f : A → Bool) where
-  keep-append : (xs ys : List A) → keep f (xs ++ ys) ≡ keep f xs ++ keep f ys
+  pub keep-append : (xs ys : List A) → keep f (xs ++ ys) ≡ keep f xs ++ keep f ys
   keep-append [] ys = refl
   keep-append (x ∷ xs) ys = rw (keep-append xs ys) (kept (f x))
     where
       kept : (b : Bool) → cond b (x ∷ (keep f xs ++ keep f ys)) (keep f xs ++ keep f ys) ≡ cond b (x ∷ keep f xs) (keep f xs) ++ keep f ys
       kept true = refl
       kept false = refl
-
-  keep-more : (l : List A) (i : ℕ) (d : A) → i < length l → keep f (take (i + 1) l) ≡ keep f (take i l) ++ cond (f (getD l i d)) (getD l i d ∷ []) []
-  keep-more l i d h = rw (add-one, take-suc l i d h) (keep-append (take i l) (getD l i d ∷ []))
 
   pub length-keep : (l : List A) → length (keep f l) ≤ length l
   length-keep [] = omega arith
@@ -42,13 +39,82 @@ module _ {A : Type 0} (f : A → Bool) where
       shorter true h = omega arith
       shorter false h = omega arith
 
-  -- a loop that copies what it keeps of l to the front of out
-  module _ (l out : List A) (i n : ℕ) (d : A) (so : take n out ≡ keep f (take i l)) (h : i < length l) where
-    pub keep-yes : f (getD l i d) ≡ true → n < length out → take (n + 1) (set out n (getD l i d)) ≡ keep f (take (i + 1) l)
-    keep-yes e k = rw (keep-more l i d h, e, add-one, take-suc-set out n (getD l i d) k, so)
+-- ## The numbers below n, and what f makes of them
 
-    pub keep-no : f (getD l i d) ≡ false → take n out ≡ keep f (take (i + 1) l)
-    keep-no e = rw (keep-more l i d h, e, append-nil) so
+module _ {A B : Type 0} (f : A → B) where
+  pub map-append : (xs ys : List A) → map f (xs ++ ys) ≡ map f xs ++ map f ys
+  map-append [] ys = refl
+  map-append (x ∷ xs) ys = ap (λ (l : List B). f x ∷ l) (map-append xs ys)
+
+pub map-map : {A B C : Type 0} (f : A → B) (g : B → C) (l : List A) → map g (map f l) ≡ map (λ (x : A). g (f x)) l
+map-map f g [] = refl
+map-map {C = C} f g (x ∷ xs) = ap (λ (l : List C). g (f x) ∷ l) (map-map f g xs)
+
+pub length-upTo : (n : ℕ) → length (upTo n) ≡ n
+length-upTo zero = refl
+length-upTo (suc n) = length-append (upTo n) (n ∷ []) ∙ omega (arith, length-upTo n)
+
+module _ {A : Type 0} where
+  -- what stands at each of the first n places
+  pub map-places : (l : List A) (z : A) (n : ℕ) → n ≤ length l → map (λ (i : ℕ). getD l i z) (upTo n) ≡ take n l
+  map-places l z zero h = refl
+  map-places l z (suc n) h =
+      map-append (λ (i : ℕ). getD l i z) (upTo n) (n ∷ []) ∙ rw (map-places l z n (omega arith)) (sym (take-suc l n z (omega arith)))
+
+  pub map-upTo : (f g : ℕ → A) (n : ℕ) → ((i : ℕ) → i < n → f i ≡ g i) → map f (upTo n) ≡ map g (upTo n)
+  map-upTo f g zero same = refl
+  map-upTo f g (suc n) same =
+      map-append f (upTo n) (n ∷ [])
+      ∙ (λ i. map-upTo f g n (λ k h. same k (omega arith)) i ++ (same n (omega arith) i ∷ []))
+      ∙ sym (map-append g (upTo n) (n ∷ []))
+
+-- ## Every element
+
+module _ {A : Type 0} (P : A → Type 0) where
+  pub every-take : (n : ℕ) (l : List A) → Every P l → Every P (take n l)
+  every-take zero l e = tt
+  every-take (suc n) [] e = tt
+  every-take (suc n) (x ∷ xs) (p, e) = (p, every-take n xs e)
+
+  pub every-keep : (f : A → Bool) (l : List A) → Every P l → Every P (keep f l)
+  every-keep f [] e = tt
+  every-keep f (x ∷ xs) (p, e) = one (f x) (every-keep f xs e)
+    where
+      one : (b : Bool) → Every P (keep f xs) → Every P (cond b (x ∷ keep f xs) (keep f xs))
+      one true r = (p, r)
+      one false r = r
+
+  pub every-at : (l : List A) (k : ℕ) (z : A) → k < length l → Every P l → P (getD l k z)
+  every-at [] k z h e = absurd (not-suc-le-zero h)
+  every-at (x ∷ xs) zero z h (p, e) = p
+  every-at (x ∷ xs) (suc k) z h (p, e) = every-at xs k z (le-of-suc-le-suc h) e
+
+  pub every-set : (l : List A) (k : ℕ) (a : A) → Every P l → P a → Every P (set l k a)
+  every-set [] k a e q = tt
+  every-set (x ∷ xs) zero a (p, e) q = (q, e)
+  every-set (x ∷ xs) (suc k) a (p, e) q = (p, every-set xs k a e q)
+
+  every-append : (xs ys : List A) → Every P xs → Every P ys → Every P (xs ++ ys)
+  every-append [] ys e q = q
+  every-append (x ∷ xs) ys (p, e) q = (p, every-append xs ys e q)
+
+  pub every-below : (f : ℕ → A) (n : ℕ) → ((i : ℕ) → i < n → P (f i)) → Every P (map f (upTo n))
+  every-below f zero all = tt
+  every-below f (suc n) all =
+      subst⁻¹ (Every P) (map-append f (upTo n) (n ∷ []))
+      (every-append (map f (upTo n)) (f n ∷ []) (every-below f n (λ i h. all i (omega arith))) (all n (omega arith), tt))
+
+  pub every-same : (n : ℕ) (a : A) → P a → Every P (replicate n a)
+  every-same zero a q = tt
+  every-same (suc n) a q = (q, every-same n a q)
+
+pub kept-all : {A : Type 0} (f : A → Bool) (l : List A) → Every (λ (x : A). f x ≡ true) (keep f l)
+kept-all f [] = tt
+kept-all {A} f (x ∷ xs) = one (f x) refl (kept-all f xs)
+  where
+    one : (b : Bool) → f x ≡ b → Every (λ (y : A). f y ≡ true) (keep f xs) → Every (λ (y : A). f y ≡ true) (cond b (x ∷ keep f xs) (keep f xs))
+    one true e r = (e, r)
+    one false e r = r
 
 -- ## Flattened
 
@@ -78,7 +144,7 @@ fits-rest n at room h = by-test (leb at (room - n)) refl
     by-test false e = e ∙ sym (lt-leb (at + n) room (omega (arith, leb-false at (room - n) e)))
 
 module _ {A : Type 0} (d b : List A) where
-  stored-front : length b ≤ length d → stored d 0 b ≡ b ++ drop (length b) d
+  pub stored-front : length b ≤ length d → stored d 0 b ≡ b ++ drop (length b) d
   stored-front h = rw (zero-add (length b), le-leb _ _ h)
 
 module _ {A : Type 0} (d b : List A) (at : ℕ) where
@@ -107,10 +173,6 @@ module _ {A : Type 0} where
   -- P lies over the front of d, and b is stored right after it
   lay : (P b d : List A) (n k : ℕ) → length P ≡ n → take n (P ++ drop n d) ++ b ++ drop (n + k) (P ++ drop n d) ≡ P ++ b ++ drop (n + k) d
   lay P b d n k e = rw (take-at P (drop n d) n e, drop-laid P d n k e)
-
-  -- the same, where b is what a part from a on, of k elements, holds after a call
-  pub lay-part : (P b d : List A) (a k : ℕ) → length P ≡ a → take a (P ++ drop a d) ++ (b ++ drop k (drop a (P ++ drop a d))) ≡ P ++ b ++ drop (a + k) d
-  lay-part P b d a k e = rw (take-at P (drop a d) a e, drop-at P (drop a d) a e, drop-drop k a d) (sym (append-assoc P b (drop (a + k) d)))
 
 -- ## Stored one after another
 
@@ -152,16 +214,17 @@ stored-each {A} {B} f w each es d x y at k z room less is-x is-y =
 
 -- ## Filled up from the front
 
--- room for n: a list, then zeros
-abbrev pub padded : ℕ → List ℕ → List ℕ
-padded n l = l ++ replicate (n - length l) 0
+-- room for n: a list, then z in the other places
+module _ {A : Type 0} (z : A) (n : ℕ) where
+  abbrev pub padded : List A → List A
+  padded l = l ++ replicate (n - length l) z
 
-pub padded-more : (n : ℕ) (l : List ℕ) (b : ℕ) → length l < n → set (padded n l) (length l) b ≡ padded n (l ++ (b ∷ []))
-padded-more n l b h =
-    let m : ℕ = n - (length l + 1) in
-    let room : n - length l ≡ suc m = omega arith in
-    let less : n - length (l ++ (b ∷ [])) ≡ m = simp length-append (omega arith) in
-    rw (room, less) (set-append-seam l 0 (replicate m 0) b ∙ sym (append-snoc l b (replicate m 0)))
+  pub padded-more : (l : List A) (b : A) → length l < n → set (padded l) (length l) b ≡ padded (l ++ (b ∷ []))
+  padded-more l b h =
+      let m : ℕ = n - (length l + 1) in
+      let room : n - length l ≡ suc m = omega arith in
+      let less : n - length (l ++ (b ∷ [])) ≡ m = simp length-append (omega arith) in
+      rw (room, less) (set-append-seam l z (replicate m z) b ∙ sym (append-snoc l b (replicate m z)))
 
 -- ## Summed
 

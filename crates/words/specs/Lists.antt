@@ -1,5 +1,5 @@
 -- Lists kept and tested, laid end to end, stored at a place, and added up.
-use Prim.Native.Nat.{ℕ, _+_}
+use Prim.Native.Nat.{ℕ, zero, suc, _+_}
 use mathlib.Core.Bool.{Bool, true, false, cond, _&&_, _||_}
 use mathlib.Core.List.{List, [], _∷_, _++_}
 use lib.Dec.{eqb, leb}
@@ -9,6 +9,11 @@ use lib.ListN.{length, take, drop}
 abbrev pub keep : {A : Type 0} → (A → Bool) → List A → List A
 keep f [] = []
 keep f (x ∷ xs) = cond (f x) (x ∷ keep f xs) (keep f xs)
+
+-- the numbers below n
+abbrev pub upTo : ℕ → List ℕ
+upTo zero = []
+upTo (suc n) = upTo n ++ (n ∷ [])
 
 -- whether the test holds for every element
 abbrev pub all : {A : Type 0} → (A → Bool) → List A → Bool

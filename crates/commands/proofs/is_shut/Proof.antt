@@ -9,6 +9,5 @@ is-shut-spec =
     tie.close
     (tie.spec
     (λ c κs. search needs)
-    (λ c κs. search needs)
     (λ c. search (shut-busy))
     (λ c. search (shut-idle)))

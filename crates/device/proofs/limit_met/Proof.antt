@@ -1,5 +1,4 @@
 -- `device::limit_met`: a law for each way out.
-use borrow.Author.Needs.{needs}
 use Rattle.device.proofs.Rules.{limit-none, limit-some}
 use Rattle.device.proofs.limit_met.Statement.{statement}
 use Rattle.device.proofs.limit_met.Tie as tie
@@ -9,5 +8,4 @@ limit-met-spec =
     tie.close
     (tie.spec
     (λ c. search (limit-none))
-    (λ c κs. search needs)
     (λ c. search (limit-some)))

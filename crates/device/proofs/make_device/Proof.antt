@@ -12,6 +12,7 @@ make-device-spec =
     (λ c. search needs)
     (λ c. search needs)
     (λ c. search (made-refused))
-    (λ c κs. search needs)
     (λ c. search (made-fits))
+    (λ c κs. search needs)
+    (λ c κs. search needs)
     (λ c. search (made-done)))

@@ -5,10 +5,10 @@ use Rattle.bench.proofs.print.print_elements.Statement.{statement}
 use Rattle.bench.proofs.print.print_elements.Tie as tie
 
 abbrev Inv-loop : tie.InvT-loop
-Inv-loop count es n i₀ i = (i ≤ n) × (n ≤ 128)
+Inv-loop count ps healths n i₀ i = (i ≤ n) × (n ≤ 128)
 
 abbrev μ-loop : tie.MeasureT-loop
-μ-loop count es n i₀ i = n - i
+μ-loop count ps healths n i₀ i = n - i
 
 pub print-elements-spec : {M : Type 1} → statement M
 print-elements-spec =
@@ -17,6 +17,7 @@ print-elements-spec =
     Inv-loop
     μ-loop
     (λ c κs. search needs)
+    (λ c. search needs)
     (λ c. search needs)
     (λ c. search needs)
     (λ c. search needs)

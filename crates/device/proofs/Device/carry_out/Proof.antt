@@ -1,6 +1,6 @@
--- `device::Device::carry_out`: the cells are those of the device with the store made.
+-- `device::Device::carry_out`: the device with the cells after the store.
 use borrow.Author.Needs.{needs}
-use Rattle.device.proofs.Cells.{carried}
+use Rattle.device.proofs.Stores.{carried}
 use Rattle.device.proofs.Device.carry_out.Statement.{statement}
 use Rattle.device.proofs.Device.carry_out.Tie as tie
 
@@ -8,9 +8,5 @@ pub carry-out-spec : {M : Type 1} → statement M
 carry-out-spec =
     tie.close
     (tie.spec
-    (λ c κs. search needs)
-    (λ c κs. search needs)
-    (λ c κs. search needs)
-    (λ c κs. search needs)
     (λ c κs. search needs)
     (λ c. search (carried)))

@@ -1,6 +1,6 @@
 -- `device::Device::is_failed`: in each arm the mark is told.
 use borrow.Author.Needs.{needs}
-use Rattle.device.proofs.Cells.{mark-clear, mark-set}
+use Rattle.device.proofs.Stores.{mark-clear, mark-set}
 use Rattle.device.proofs.Device.is_failed.Statement.{statement}
 use Rattle.device.proofs.Device.is_failed.Tie as tie
 

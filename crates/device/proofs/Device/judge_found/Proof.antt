@@ -1,6 +1,7 @@
 -- `device::Device::judge_found`: a law for each way out.
+use borrow.Author.Tests.{not-true, not-false}
 use borrow.Author.Needs.{needs}
-use Rattle.device.proofs.Rules.{found-missing, found-other, found-gone, found-room}
+use Rattle.device.proofs.Rules.{found-missing, found-other, found-gone, found-limit, found-room}
 use Rattle.device.proofs.Device.judge_found.Statement.{statement}
 use Rattle.device.proofs.Device.judge_found.Tie as tie
 
@@ -8,13 +9,15 @@ pub judge-found-spec : {M : Type 1} → statement M
 judge-found-spec =
     tie.close
     (tie.spec
-    (λ c. search needs)
-    (λ c. search needs)
     (λ c κs. search needs)
-    (λ c. search (found-missing))
+    (λ c. search (found-missing, not-true))
     (λ c κs. search needs)
-    (λ c. search (found-other))
+    (λ c. search (found-other, not-false))
     (λ c κs. search needs)
-    (λ c. search (found-gone))
+    (λ c. search (found-gone, not-false))
     (λ c κs. search needs)
-    (λ c. search (found-room)))
+    (λ c κs. search needs)
+    (λ c κs. search needs)
+    (λ c. search (found-limit, not-false))
+    (λ c κs. search needs)
+    (λ c. search (found-room, not-false)))

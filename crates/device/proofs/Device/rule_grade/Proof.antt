@@ -1,4 +1,5 @@
 -- `device::Device::rule_grade`: a law for each way out.
+use borrow.Author.Tests.{not-true, not-false}
 use borrow.Author.Needs.{needs}
 use Rattle.device.proofs.Rules.{grade-unknown, grade-gone, grade-high, graded}
 use Rattle.device.proofs.Device.rule_grade.Statement.{statement}
@@ -9,13 +10,11 @@ rule-grade-spec =
     tie.close
     (tie.spec
     (λ c κs. search needs)
-    (λ c. search needs)
-    (λ c. search needs)
     (λ c κs. search needs)
-    (λ c. search (grade-unknown))
+    (λ c. search (grade-unknown, not-true))
     (λ c κs. search needs)
-    (λ c. search (grade-gone))
+    (λ c. search (grade-gone, not-false))
     (λ c κs. search needs)
-    (λ c. search (grade-high))
+    (λ c. search (grade-high, not-false))
     (λ c κs. search needs)
-    (λ c. search (graded)))
+    (λ c. search (graded, not-false)))

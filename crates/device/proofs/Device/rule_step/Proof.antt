@@ -14,5 +14,6 @@ rule-step-spec =
     (λ c κs. search needs)
     (λ c κs. search needs)
     (λ c κs. search needs)
+    (λ c κs. search needs)
     (λ c. search (step-idle))
     (λ c. search (step-full)))

@@ -1,0 +1,19 @@
+-- `commands::judge`: a law for each way out.
+use borrow.Author.Needs.{needs}
+use borrow.Author.Tests.{not-true, not-false}
+use Rattle.commands.proofs.Judgement.{other-shut, other-unknown, other-media, other-done}
+use Rattle.commands.proofs.judge.Statement.{statement}
+use Rattle.commands.proofs.judge.Tie as tie
+
+pub judge-spec : {M : Type 1} → statement M
+judge-spec =
+    tie.close
+    (tie.spec
+    (λ c κs. search needs)
+    (λ c. search (other-shut))
+    (λ c κs. search needs)
+    (λ c. search (other-unknown, not-true))
+    (λ c κs. search needs)
+    (λ c κs. search needs)
+    (λ c. search (other-media, not-false))
+    (λ c. search (other-done, not-false)))

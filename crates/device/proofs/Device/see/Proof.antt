@@ -1,0 +1,13 @@
+-- `device::Device::see`: what the table and the cell of the place say.
+use borrow.Author.Needs.{needs}
+use Rattle.device.proofs.Rules.{seen}
+use Rattle.device.proofs.Device.see.Statement.{statement}
+use Rattle.device.proofs.Device.see.Tie as tie
+
+pub see-spec : {M : Type 1} → statement M
+see-spec =
+    tie.close
+    (tie.spec
+    (λ c κs. search needs)
+    (λ c κs. search needs)
+    (λ c. search (seen)))

@@ -1,0 +1,11 @@
+-- `device::marking`: a law for each way out.
+use Rattle.device.proofs.Rules.{marks-hit, marks-none}
+use Rattle.device.proofs.marking.Statement.{statement}
+use Rattle.device.proofs.marking.Tie as tie
+
+pub marking-spec : {M : Type 1} → statement M
+marking-spec =
+    tie.close
+    (tie.spec
+    (λ c. search (marks-hit))
+    (λ c. search (marks-none)))

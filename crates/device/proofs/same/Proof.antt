@@ -1,0 +1,15 @@
+-- `device::same`: in each arm the note is told.
+use borrow.Author.Needs.{needs}
+use Rattle.device.proofs.Stores.{note-full}
+use Rattle.device.proofs.same.Statement.{statement}
+use Rattle.device.proofs.same.Tie as tie
+
+pub same-spec : {M : Type 1} → statement M
+same-spec =
+    tie.close
+    (tie.spec
+    (λ c. search needs)
+    (λ c. search needs)
+    (λ c κs. search needs)
+    (λ c. search needs)
+    (λ c. search (note-full)))

@@ -1,0 +1,36 @@
+-- `table::found_in`. The invariant: the search has passed i elements, and goes on behind them.
+use Prim.Native.Nat.{_+_, _-_, _≤_, min}
+use mathlib.Core.Path.{_≡_, refl}
+use lib.ListN.{length, take, drop}
+use borrow.Author.Needs.{needs}
+use Rattle.table.specs.Elements.{elementIds}
+use Rattle.table.specs.Search.{place, hits}
+use Rattle.table.proofs.Search.{found-pass, found-still, found-one, found-none, found-end}
+use Rattle.table.proofs.found_in.Statement.{statement}
+use Rattle.table.proofs.found_in.Tie as tie
+
+abbrev Inv-loop : tie.InvT-loop
+Inv-loop count es n want i₀ i =
+    (i ≤ n) × (n ≡ min count 128) × (length es ≡ 128)
+    × (i + place want (elementIds (drop i (take n es))) ≡ place want (elementIds (take n es)))
+    × (hits want (elementIds (drop i (take n es))) ≡ hits want (elementIds (take n es)))
+
+abbrev μ-loop : tie.MeasureT-loop
+μ-loop count es n want i₀ i = n - i
+
+pub found-in-spec : {M : Type 1} → statement M
+found-in-spec =
+    tie.close
+    (tie.spec
+    Inv-loop
+    μ-loop
+    (λ c κs. search needs)
+    (λ c. (search needs, search needs, c .before .good .0 .1 .0 .1, search needs, refl))
+    (λ c. search needs)
+    (λ c. search needs)
+    (λ c. search (found-one))
+    (λ c. search (found-none))
+    (λ c. search needs)
+    (λ c. search needs)
+    (λ c. (search needs, search needs, search needs, search (found-pass), search (found-still)))
+    (λ c. search (found-end)))
