@@ -1,0 +1,371 @@
+// Makes the call of each case twice, the proved one and the one in plain C, counts both by single steps and compares what they leave.
+// Exit status: 0 within the limits, 1 a figure is over its limit, 2 trouble, a difference among it.
+#define _GNU_SOURCE
+#include "plain.h"
+#include "record.h"
+#include <signal.h>
+#include <stdio.h>
+#include <string.h>
+#include <sys/mman.h>
+#include <sys/ptrace.h>
+#include <sys/user.h>
+#include <sys/wait.h>
+#include <unistd.h>
+
+// ---- The cases
+
+enum call { STEP, MEDIA_ERROR, POWER_CUT, COMRESET, HARDWARE_RESET, SOFTWARE_RESET, REMOVE, GRADE, OTHER_ANSWER, COMMAND, SHOW };
+
+static const char *const names[] = {"step",   "media_error", "power_cut",    "comreset", "hardware_reset", "software_reset",
+                                    "remove", "grade",       "other_answer", "command",  "show"};
+
+enum { IDLE = -1 };
+enum which { NONE, FIRST, SECOND, LAST, UNKNOWN };
+
+struct asked {
+    enum security security;
+    uint8_t code, health;
+    enum which element; // Of a call that names one; its identifier is then in COUNT.
+    uint16_t feature, count;
+    uint64_t lba;
+    size_t room;
+};
+
+struct kase {
+    enum call call;
+    const char *path;
+    int removed, step;
+    struct asked asked;
+    struct {
+        long tables;
+        struct {
+            long number, percent; // One of them; the other is 0.
+        } own;
+        long stack;
+    } limit;
+};
+
+#include "cases.h"
+
+static struct device proved;
+static struct plain_device plain;
+static uint8_t proved_page[4608], plain_page[sizeof proved_page];
+
+static uint32_t identifier(enum which element, int elements)
+{
+    switch (element) {
+    case FIRST:
+        return 2;
+    case SECOND:
+        return 4;
+    case LAST:
+        return 2 * elements;
+    default:
+        return 2 * elements + 1;
+    }
+}
+
+static void take_steps(int steps)
+{
+    for (; steps > 0; steps--)
+        plain_step(&plain);
+}
+
+// The device of a case, brought there by plain C's calls, and a copy of it in the proved record.
+static void set_up(const struct kase *k, int elements)
+{
+    plain.count = elements;
+    plain.limit = 2;
+    for (int i = 0; i < elements; i++)
+        plain.elements[i] = (struct element){.id = 2 * i + 2, .kind = i == 0 ? 2 : 1, .health = 0x70, .blocks = i == 0 ? 0 : 1000};
+    plain.native = plain.accessible = 1000 * (elements - 1) - 1;
+    for (int i = 1; i <= k->removed; i++) {
+        plain_remove(&plain, UNLOCKED, 0, plain.elements[i].id, 0);
+        take_steps(5);
+    }
+    if (k->step != IDLE) {
+        plain_remove(&plain, UNLOCKED, 0, identifier(LAST, elements), 0);
+        if (k->step >= WIND_1)
+            plain_power_cut(&plain);
+        take_steps(k->step - plain.position);
+    }
+
+    proved.table.count = plain.count;
+    proved.table.limit = plain.limit;
+    for (int i = 0; i < elements; i++) {
+        const struct element *e = &plain.elements[i];
+        proved.table.parts[i] = (struct part){e->id, e->kind, e->unreported, e->blocks};
+        proved.cells.healths[i] = e->health;
+    }
+    proved.cells.native = plain.native;
+    proved.cells.accessible = plain.accessible;
+    proved.cells.failed = plain.failed;
+    proved.cells.note = (struct note){plain.under_way, {plain.noted, plain.old, plain.new}};
+    proved.position = plain.position;
+    memset(proved_page, 0xA5, sizeof proved_page);
+    memset(plain_page, 0xA5, sizeof plain_page);
+}
+
+static int call_proved(enum call call, const struct asked *a, uint16_t count)
+{
+    uint8_t answer, security = a->security;
+    uint32_t id = count;
+    struct request request = {a->feature, count, a->lba};
+    struct buffer buf = {proved_page, a->room};
+    switch (call) {
+    case STEP:
+        calls_step(&answer, &proved);
+        break;
+    case MEDIA_ERROR:
+        calls_media_error(&answer, &proved);
+        break;
+    case POWER_CUT:
+        calls_power_cut(&answer, &proved);
+        break;
+    case COMRESET:
+        calls_comreset(&answer, &proved);
+        break;
+    case HARDWARE_RESET:
+        calls_hardware_reset(&answer, &proved);
+        break;
+    case SOFTWARE_RESET:
+        calls_software_reset(&answer, &proved);
+        break;
+    case REMOVE:
+        calls_remove(&answer, &proved, &security, a->feature, count, &a->lba);
+        break;
+    case GRADE:
+        calls_grade(&answer, &proved, &id, a->health);
+        break;
+    case OTHER_ANSWER:
+        calls_other_answer(&answer, &proved, a->code, a->feature, count, &a->lba);
+        break;
+    case COMMAND:
+        calls_command(&answer, &proved, &security, a->code, a->feature, count, &a->lba, &buf);
+        break;
+    case SHOW:
+        calls_show(&answer, &proved, &security, &request, &buf);
+    }
+    return answer < sizeof numbers ? numbers[answer] : -1;
+}
+
+static int call_plain(enum call call, const struct asked *a, uint16_t count)
+{
+    switch (call) {
+    case STEP:
+        return plain_step(&plain);
+    case MEDIA_ERROR:
+        return plain_media_error(&plain);
+    case POWER_CUT:
+        return plain_power_cut(&plain);
+    case REMOVE:
+        return plain_remove(&plain, a->security, a->feature, count, a->lba);
+    case GRADE:
+        return plain_grade(&plain, count, a->health);
+    case OTHER_ANSWER:
+        return plain_other_answer(&plain, a->code, a->feature, count, a->lba);
+    case COMMAND:
+        return plain_command(&plain, a->security, a->code, a->feature, count, a->lba, plain_page, a->room);
+    case SHOW:
+        return plain_show(&plain, a->feature, count, a->lba, plain_page, a->room);
+    default:
+        return plain_reset(&plain);
+    }
+}
+
+// What the proved call has left otherwise than plain C, if anything.
+static const char *difference(void)
+{
+    const struct note *note = &proved.cells.note;
+    if (proved.table.count != plain.count || proved.table.limit != plain.limit)
+        return "another count or limit than plain C";
+    for (size_t i = 0; i < 128; i++) {
+        const struct part *p = &proved.table.parts[i];
+        const struct element *e = &plain.elements[i];
+        if (p->id != e->id || p->kind != e->kind || p->unreported != e->unreported || p->blocks != e->blocks)
+            return "another element than plain C";
+        if (proved.cells.healths[i] != e->health)
+            return "another health than plain C";
+    }
+    if (proved.cells.native != plain.native || proved.cells.accessible != plain.accessible)
+        return "another address than plain C";
+    if (proved.cells.failed != plain.failed)
+        return "another failed mark than plain C";
+    if (note->full != plain.under_way)
+        return "another note than plain C";
+    if (note->full && (note->removal.element != plain.noted || note->removal.old != plain.old || note->removal.new != plain.new))
+        return "another note than plain C";
+    if (proved.position != plain.position)
+        return "another position than plain C";
+    if (memcmp(proved_page, plain_page, sizeof plain_page) != 0)
+        return "another page than plain C";
+    return NULL;
+}
+
+// ---- The counting
+
+struct figures {
+    long own, stack;
+    long tables, table_bytes, copies, copy_bytes, clears, clear_bytes;
+};
+
+// What a case has come to. Shared between the process that makes the calls and the one that follows it.
+struct row {
+    struct figures proved, plain;
+    const char *trouble;
+};
+
+static struct figures *counted;
+
+// Both objects copy and clear through these. 1 KB and more can only be the table, alone or with the rest of the device.
+void *counted_memcpy(void *to, const void *from, size_t size)
+{
+    *(size >= 1024 ? &counted->tables : &counted->copies) += 1;
+    *(size >= 1024 ? &counted->table_bytes : &counted->copy_bytes) += size;
+    return memmove(to, from, size);
+}
+
+void *counted_memmove(void *to, const void *from, size_t size)
+{
+    return counted_memcpy(to, from, size);
+}
+
+void *counted_memset(void *to, int byte, size_t size)
+{
+    counted->clears += 1;
+    counted->clear_bytes += size;
+    return memset(to, byte, size);
+}
+
+// The code of the two objects: `measure` has given each a section of its own.
+extern char __start_proved_text[], __stop_proved_text[], __start_plain_text[], __stop_plain_text[];
+
+// Where single steps end.
+__attribute__((noinline)) static void called(void)
+{
+    __asm__ volatile("");
+}
+
+static void make_calls(const struct kase *k, int elements, struct row *row)
+{
+    uint16_t count = k->asked.element == NONE ? k->asked.count : identifier(k->asked.element, elements);
+    set_up(k, elements);
+    counted = &row->proved;
+    raise(SIGTRAP);
+    int proved_answer = call_proved(k->call, &k->asked, count);
+    called();
+    counted = &row->plain;
+    raise(SIGTRAP);
+    int plain_answer = call_plain(k->call, &k->asked, count);
+    called();
+    row->trouble = proved_answer == plain_answer ? difference() : "another answer than plain C";
+}
+
+// Steps through one call, from the trap before it. 0 if the process has ended.
+static int follow(pid_t child, const char *start, const char *stop, struct figures *f)
+{
+    struct user_regs_struct regs = {0};
+    unsigned long top = 0;
+    int status;
+    while (regs.rip != (unsigned long)called) {
+        if (waitpid(child, &status, 0) < 0 || !WIFSTOPPED(status))
+            return 0;
+        int other = WSTOPSIG(status) == SIGTRAP ? 0 : WSTOPSIG(status); // A signal that is none of ours is handed on.
+        if (ptrace(PTRACE_GETREGS, child, 0, &regs) != 0)
+            kill(child, SIGKILL);
+        if (!other && regs.rip >= (unsigned long)start && regs.rip < (unsigned long)stop) {
+            f->own++;
+            if (top == 0)
+                top = regs.rsp;
+            if (f->stack < (long)(top - regs.rsp))
+                f->stack = top - regs.rsp;
+        }
+        if (ptrace(regs.rip == (unsigned long)called ? PTRACE_CONT : PTRACE_SINGLESTEP, child, 0, other) != 0)
+            kill(child, SIGKILL);
+    }
+    return 1;
+}
+
+// Counts a case in a process of its own.
+static void measure(const struct kase *k, int elements, struct row *row)
+{
+    *row = (struct row){.trouble = "the calls did not return"};
+    pid_t child = fork();
+    if (child == 0) {
+        if (ptrace(PTRACE_TRACEME, 0, 0, 0) == 0)
+            make_calls(k, elements, row);
+        else
+            row->trouble = "single steps (ptrace) are not allowed here";
+        _exit(0);
+    }
+    if (child > 0 && follow(child, __start_proved_text, __stop_proved_text, &row->proved) &&
+        follow(child, __start_plain_text, __stop_plain_text, &row->plain))
+        waitpid(child, NULL, 0);
+}
+
+// ---- The table
+
+static void print_names(void)
+{
+    printf("%-14s %-16s %8s %5s %6s %11s %6s %10s %6s %11s %5s %5s %7s %7s %7s\n", "call", "path", "elements", "own", "tables",
+           "table_bytes", "copies", "copy_bytes", "clears", "clear_bytes", "stack", "c_own", "c_bytes", "c_stack", "times_c");
+}
+
+static void print(const struct kase *k, int elements, const struct row *row)
+{
+    const struct figures *p = &row->proved, *c = &row->plain;
+    printf("%-14s %-16s %8d %5ld %6ld %11ld %6ld %10ld %6ld %11ld %5ld %5ld %7ld %7ld %7.2f\n", names[k->call], k->path, elements, p->own,
+           p->tables, p->table_bytes, p->copies, p->copy_bytes, p->clears, p->clear_bytes, p->stack, c->own,
+           c->table_bytes + c->copy_bytes + c->clear_bytes, c->stack, (double)p->own / c->own);
+}
+
+static void say(const struct kase *k, int elements, const char *words)
+{
+    fprintf(stderr, "speed: %s %s, %d elements: %s", names[k->call], k->path, elements, words);
+}
+
+// Says so if a figure is over its limit.
+static int is_over(const struct kase *k, int elements, const char *what, long figure, long limit)
+{
+    if (figure <= limit)
+        return 0;
+    say(k, elements, what);
+    fprintf(stderr, " %ld, limit %ld\n", figure, limit);
+    return 1;
+}
+
+static int does_exceed(const struct kase *k, int elements, const struct row *row)
+{
+    const struct figures *p = &row->proved;
+    int over = is_over(k, elements, "copies of the table", p->tables, k->limit.tables);
+    over |= is_over(k, elements, "bytes of stack", p->stack, k->limit.stack);
+    if (k->limit.own.number > 0)
+        over |= is_over(k, elements, "instructions", p->own, k->limit.own.number);
+    else if (elements == 128)
+        over |= is_over(k, elements, "instructions", p->own, k->limit.own.percent * row->plain.own / 100);
+    return over;
+}
+
+int main(void)
+{
+    static const int sizes[] = {4, 128};
+    int over = 0;
+    struct row *row = mmap(NULL, sizeof *row, PROT_READ | PROT_WRITE, MAP_SHARED | MAP_ANONYMOUS, -1, 0);
+    if (row == MAP_FAILED) {
+        perror("speed: mmap");
+        return 2;
+    }
+    print_names();
+    for (size_t s = 0; s < sizeof sizes / sizeof *sizes; s++)
+        for (size_t i = 0; i < sizeof cases / sizeof *cases; i++) {
+            measure(&cases[i], sizes[s], row);
+            if (row->trouble) {
+                say(&cases[i], sizes[s], row->trouble);
+                fputc('\n', stderr);
+                return 2;
+            }
+            print(&cases[i], sizes[s], row);
+            over |= does_exceed(&cases[i], sizes[s], row);
+        }
+    return over;
+}
