@@ -11,7 +11,6 @@ use lib.Seq.{take-all, take-at}
 use borrow.Author.Tests.{leb-true, leb-false, le-leb, lt-leb}
 use Rattle.device.specs.Making.{fresh, madeOf}
 use Rattle.device.specs.Promises.{Leaves}
-use Rattle.device.specs.declared.Device.{Device}
 use Rattle.paper.specs.Told.{tells}
 use Rattle.table.proofs.Laws.{good-count}
 use Rattle.table.specs.Check.{good, checkOf}
@@ -22,7 +21,7 @@ use Rattle.table.specs.declared.Found.the-variants.{Missing}
 use Rattle.table.specs.declared.Found.{Found}
 use Rattle.words.proofs.Lists.{take-min}
 use Rattle.calls.specs.Offered.{checkList, findList, arrayOf, offerOf, madeFrom}
-use Rattle.calls.specs.Promises.{Long-list-refused, Refused-list-leaves, Copied-whole}
+use Rattle.calls.specs.Promises.{Long-list-refused, Refused-list-leaves, Made-alike, Copied-whole}
 
 -- ## The array
 
@@ -58,10 +57,6 @@ module _ (es : List Element) (limit : ℕ) where
   unfolding checkOf checkList
   check-offer = alike (λ (l : List Element). tells 0 (blockSum l ∷ [])) (tells 8 [])
 
-  pub make-offer : (d : Device) → madeOf d (offerOf es limit) ≡ madeFrom d es limit
-  unfolding madeOf madeFrom
-  make-offer d = alike (λ (l : List Element). tells 0 (fresh (offerOf es limit))) (tells 8 d)
-
 pub find-offer : (es : List Element) (id : ℕ) → cond (leb (length es) 128) (find id (take (length es) (arrayOf es))) Missing ≡ findList id es
 unfolding findList
 find-offer es id = go (leb (length es) 128) refl
@@ -84,6 +79,10 @@ module _ (count : ℕ) (f : Found) where
 pub long-list-refused : Long-list-refused
 unfolding checkList findList madeFrom
 long-list-refused d es limit id h = rw (long-bad (length es) es limit h, lt-leb (length es) 128 h) (refl, refl, refl)
+
+pub made-alike : Made-alike
+unfolding madeOf madeFrom
+made-alike d es limit = sym (alike es limit (λ (l : List Element). tells 0 (fresh (offerOf es limit))) (tells 8 d))
 
 pub refused-list-leaves : Refused-list-leaves
 unfolding madeFrom

@@ -7,6 +7,7 @@ use lib.ListN.{length, take}
 use Rattle.commands.specs.Lent.{lent}
 use Rattle.device.specs.Commands.{otherNumber}
 use Rattle.device.specs.Machine.{command, told}
+use Rattle.device.specs.Making.{madeOf}
 use Rattle.device.specs.Promises.{One-answer, Leaves}
 use Rattle.device.specs.declared.Device.{Device}
 use Rattle.paper.specs.Answers.{numberOf}
@@ -21,7 +22,7 @@ use Rattle.table.specs.declared.Checked.{Checked}
 use Rattle.table.specs.declared.Element.{Element}
 use Rattle.table.specs.declared.Found.the-variants.{Missing}
 use Rattle.table.specs.declared.Found.{Found}
-use Rattle.calls.specs.Offered.{checkList, findList, madeFrom}
+use Rattle.calls.specs.Offered.{checkList, findList, offerOf, madeFrom}
 
 -- ## No second answer fits, no second device and no second buffer
 
@@ -76,6 +77,10 @@ Long-list-refused =
 -- "Every number but 0 leaves the device .. untouched."
 abbrev pub Refused-list-leaves : Type 0
 Refused-list-leaves = (d : Device) (es : List Element) (limit : ℕ) → Leaves d (madeFrom d es limit)
+
+-- a device made of a list is the one made of its offer, from which demand 3 starts (history/specs/Starts)
+abbrev pub Made-alike : Type 0
+Made-alike = (d : Device) (es : List Element) (limit : ℕ) → madeFrom d es limit ≡ madeOf d (offerOf es limit)
 
 -- "then copied into the device": the parts of a new device, and the healths at their places, are those of the records of its list
 abbrev pub Copied-whole : Type 0

@@ -1,13 +1,13 @@
 -- `calls::make_device`, over `make_in`.
 use mathlib.Core.List.{[], _∷_}
-use mathlib.Core.Path.{_≡_, _∙_}
+use mathlib.Core.Path.{_≡_, sym, _∙_}
 use mir.Syntax.{w16}
 use Rattle.datum.proofs.Datum.{number}
 use Rattle.datum.proofs.Made.{made}
 use Rattle.device.specs.Making.{madeOf}
 use Rattle.paper.specs.Told.{said}
 use Rattle.calls.proofs.Data.{device, element, answer, stepped}
-use Rattle.calls.proofs.Lists.{make-offer}
+use Rattle.calls.proofs.Lists.{made-alike}
 use Rattle.calls.proofs.copied.Met as copied
 use Rattle.calls.proofs.copied.Symbol as copied-symbol
 use Rattle.calls.proofs.make_device.Code as code
@@ -21,6 +21,6 @@ pub make-device-spec : {M : Type 1} → statement M
 unfolding code.routine
 make-device-spec 𝓤 H 𝓜 𝓖 𝓡 =
     made device element 128 answer stepped (number w16 ∷ []) arrayOf (λ d es x a e. said a e ≡ madeFrom d es (x .0))
-    (λ d es n x a e. said a e ≡ madeOf d (record { elements = es; count = n; limit = x .0 })) (λ d es x a e q. q ∙ make-offer es (x .0) d)
+    (λ d es n x a e. said a e ≡ madeOf d (record { elements = es; count = n; limit = x .0 })) (λ d es x a e q. q ∙ sym (made-alike d es (x .0)))
     _ 𝓤 H 𝓜 𝓖 𝓡 code.env name copied-symbol.name symbol.name (code.unfolded 𝓤 H 𝓜 𝓡)
     copied-symbol.routine code.calls-calls·copied (copied.met 𝓤 H 𝓜 𝓖 𝓡) symbol.routine code.calls-calls·make-in (callee.met 𝓤 H 𝓜 𝓖 𝓡)
