@@ -23,8 +23,8 @@ use Rattle.reader.proofs.LayoutTheorem.{and-both, type-to, health-to, takes-exa
 use Rattle.reader.proofs.Rules.{each-both, each-below}
 use Rattle.reader.specs.Checks as checks
 use Rattle.reader.specs.Checks.{baseOf, lastBefore}
+use Rattle.reader.specs.Judgement.{header, slotOf}
 use Rattle.reader.specs.Layout.{Rule, Each, below, descriptorRules, rulesAt, paddingRules, pageRules}
-use Rattle.reader.specs.Reading.{header, slotOf}
 use Rattle.reader.specs.declared.Slot.the-variants.{Holds}
 use Rattle.status.proofs.EveryPage.{whole-pages}
 use Rattle.status.proofs.Page.{bytesOf, wide, shown-ids}

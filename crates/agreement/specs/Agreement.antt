@@ -7,7 +7,7 @@ use Rattle.device.specs.declared.Device.{Device}
 use Rattle.layout.specs.Requests.{refused}
 use Rattle.layout.specs.declared.Request.{Request}
 use Rattle.paper.specs.Told.{tells}
-use Rattle.reader.specs.Reading.{header, readOf, slotOf}
+use Rattle.reader.specs.Judgement.{header, readOf, slotOf}
 use Rattle.reader.specs.declared.Slot.the-variants.{Holds}
 use Rattle.status.specs.Page.{shownOf, listOf, busyOf, headerOf, pageOf}
 use Rattle.table.specs.Check.{ascending}

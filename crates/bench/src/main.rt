@@ -20,9 +20,9 @@ use paper::ElementId;
 use paper::Lba;
 use print::print_answer;
 use print::print_cells;
+use print::print_judgement;
 use print::print_number;
 use print::print_page;
-use print::print_reading;
 use print::print_touched;
 use print::print_words;
 use script::Command;
@@ -296,8 +296,8 @@ impl Bench {
 
     fn read(self, request: Request, page: &[u8]) {
         let kept = head(page, self.kept);
-        let reading = reader::read(kept, request);
-        print_reading(kept, reading);
+        let judgement = reader::read(kept, request);
+        print_judgement(kept, judgement);
     }
 
     fn call(self, line: Line, page: &mut [u8]) -> Bench {

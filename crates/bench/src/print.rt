@@ -11,7 +11,7 @@ use layout::Header;
 use libc::STDOUT_FILENO;
 use paper::Answer;
 use paper::Sensed;
-use reader::Reading;
+use reader::Judgement;
 use reader::Slot;
 use table::Part;
 use text::Text;
@@ -214,9 +214,9 @@ fn print_contents(page: &[u8], h: Header) {
     }
 }
 
-pub fn print_reading(page: &[u8], reading: Reading) {
-    match reading {
-        Reading::Accepted(h) => print_contents(page, h),
-        Reading::Refused(place) => print_number(b"9 at ", place),
+pub fn print_judgement(page: &[u8], judgement: Judgement) {
+    match judgement {
+        Judgement::Accepted(h) => print_contents(page, h),
+        Judgement::Refused(place) => print_number(b"9 at ", place),
     }
 }

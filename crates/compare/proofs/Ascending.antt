@@ -11,8 +11,8 @@ use Rattle.layout.specs.Bytes.{headerIn, returnedOf}
 use Rattle.layout.specs.Requests.{pagesOf}
 use Rattle.layout.specs.declared.Request.{Request}
 use Rattle.reader.proofs.LayoutTheorem.{takes-exactly}
+use Rattle.reader.specs.Judgement.{readOf}
 use Rattle.reader.specs.Layout.{Rule, Each, below, rulesAt, pageRules}
-use Rattle.reader.specs.Reading.{readOf}
 use Rattle.words.specs.declared.Order.the-variants.{Little}
 use Rattle.compare.specs.Opening.{accepted}
 use Rattle.compare.specs.Pages.{countOf, elementAt}

@@ -14,9 +14,9 @@ use Rattle.layout.specs.declared.Request.{Request}
 use Rattle.paper.specs.Told.{tells}
 use Rattle.paper.specs.declared.ElementId.{ElementId}
 use Rattle.reader.specs.Checks.{lastBefore}
-use Rattle.reader.specs.Reading as reading
-use Rattle.reader.specs.declared.Reading.the-variants as says
-use Rattle.reader.specs.declared.Reading.{Reading}
+use Rattle.reader.specs.Judgement as judgement
+use Rattle.reader.specs.declared.Judgement.the-variants as says
+use Rattle.reader.specs.declared.Judgement.{Judgement}
 use Rattle.words.specs.declared.Order.the-variants.{Little}
 use Rattle.compare.specs.Opening.{openOf, accepted, bound, turn}
 use Rattle.compare.specs.Pages.{countOf, elementAt, reachOf, smallest, boundOf}
@@ -26,7 +26,7 @@ use Rattle.compare.specs.declared.Turn.the-variants.{Older, Newer}
 
 -- ## A page judged
 
-module _ (s : List ℕ) (q : Request) (r : Reading) (is-r : reading.heard r ≡ reading.readOf s q) where
+module _ (s : List ℕ) (q : Request) (r : Judgement) (is-r : judgement.heard r ≡ judgement.readOf s q) where
   pub accepted-yes : (h : Header) → r ≡ says.Accepted h → true ≡ accepted s q
   unfolding accepted
   accepted-yes h e = sym (rw (← is-r, e))

@@ -5,7 +5,7 @@ use mathlib.Core.List.{List}
 use lib.Dec.{eqb}
 use Rattle.layout.specs.declared.Request.{Request}
 use Rattle.paper.specs.Told.{Told, tells}
-use Rattle.reader.specs.Reading.{readOf}
+use Rattle.reader.specs.Judgement.{readOf}
 use Rattle.compare.specs.Pages.{boundOf}
 use Rattle.compare.specs.declared.Bound.{Bound}
 use Rattle.compare.specs.declared.Opening.the-variants.{Accepted, Refused}

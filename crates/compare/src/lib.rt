@@ -6,15 +6,15 @@ ghost use Rattle.compare.specs.Differences.{alike};
 ghost use Rattle.compare.specs.Opening.{heard, openOf, accepted};
 ghost use Rattle.compare.specs.Pages.{elementAt, reachOf, smallest, boundOf, endOf};
 ghost use Rattle.compare.specs.Parts.{descriptorPart, partOf};
-ghost use Rattle.compare.specs.Walk.{first, idWithin, agreeAt, stepAt, nextOf};
 ghost use Rattle.compare.specs.Walk as paper;
+ghost use Rattle.compare.specs.Walk.{first, idWithin, agreeAt, stepAt, nextOf};
 ghost use Rattle.reader.specs.Checks.{lastBefore};
 ghost use Rattle.words.specs.declared.Order.the-variants.{Little};
 use layout::Descriptor;
 use layout::Header;
 use layout::Request;
 use paper::ElementId;
-use reader::Reading;
+use reader::Judgement;
 use words::Order;
 
 // Which of the two pages is meant.
@@ -65,10 +65,10 @@ pub enum Step {
 fn is_accepted(page: &[u8], request: Request) -> bool
     ensures { λ r. ⌜ r ≡ accepted (now (page .entry)) request ⌝ }
 {
-    let reading = reader::read(page, request);
-    match reading {
-        Reading::Accepted(_) => true,
-        Reading::Refused(_) => false,
+    let judgement = reader::read(page, request);
+    match judgement {
+        Judgement::Accepted(_) => true,
+        Judgement::Refused(_) => false,
     }
 }
 

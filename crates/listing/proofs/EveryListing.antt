@@ -12,7 +12,7 @@ use Rattle.layout.specs.Bytes.{headerIn, returnedOf}
 use Rattle.layout.specs.declared.Header.{Header}
 use Rattle.paper.specs.Told.{tells}
 use Rattle.reader.proofs.LayoutTheorem.{takes-exactly, with-header}
-use Rattle.reader.specs.Reading.{Values, header, place, readOf}
+use Rattle.reader.specs.Judgement.{Values, header, place, readOf}
 use Rattle.words.specs.declared.Order.the-variants.{Little}
 use Rattle.listing.specs.Listing.{linesBelow, requestOf, judged, firstLine, lineCount, listingOf}
 use Rattle.listing.specs.Promises.{Enough}

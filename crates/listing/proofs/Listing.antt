@@ -15,9 +15,9 @@ use Rattle.layout.specs.declared.Header.{Header}
 use Rattle.paper.specs.Told.{tells, said}
 use Rattle.paper.specs.declared.Answer.the-variants.{Done, SmallBuffer}
 use Rattle.reader.specs.Checks.{descriptorAt}
-use Rattle.reader.specs.Reading.{Values, header, place, heard, readOf}
-use Rattle.reader.specs.declared.Reading.the-variants.{Accepted, Refused}
-use Rattle.reader.specs.declared.Reading.{Reading}
+use Rattle.reader.specs.Judgement.{Values, header, place, heard, readOf}
+use Rattle.reader.specs.declared.Judgement.the-variants.{Accepted, Refused}
+use Rattle.reader.specs.declared.Judgement.{Judgement}
 use Rattle.text.proofs.Digits.{length-decimal}
 use Rattle.text.proofs.Written.{len-written, held-written}
 use Rattle.text.specs.Digits.{decimalOf}
@@ -38,7 +38,7 @@ module _ (t r : Text) (n : ℕ) where
   pub capacity-known : (n ≡ allOnes → ⊥) → r ≡ written t (decimalOf n) → r ≡ written t (capacityOf n)
   capacity-known e h = h ∙ sym (rw (ne-eqb n allOnes e))
 
-module _ (answer : Reading) (t : Text) where
+module _ (answer : Judgement) (t : Text) where
   pub first-accepted : (h : Header) → answer ≡ Accepted h → t ≡ written nothing (headerLine h) → t ≡ written nothing (firstLine (heard answer .state))
   first-accepted h e so = so ∙ rw e
 
@@ -55,7 +55,7 @@ module _ (s : List ℕ) where
   pub input-long : 65536 < length s → tells 9 (place 65536) ≡ judged s
   input-long h = sym (rw (lt-ltb _ _ h))
 
-  pub input-read : length s ≤ 65536 → (r : Reading) → heard r ≡ readOf s (requestOf s) → heard r ≡ judged s
+  pub input-read : length s ≤ 65536 → (r : Judgement) → heard r ≡ readOf s (requestOf s) → heard r ≡ judged s
   input-read h r e = e ∙ sym (rw (le-ltb _ _ h))
 
 -- ## How long
@@ -136,7 +136,7 @@ module _ (s : List ℕ) (k : ℕ) (line : Text) (is-line : line ≡ written noth
 
 -- ## The whole listing
 
-module _ (s : List ℕ) (r : Reading) (is-r : heard r ≡ judged s) (t : Text) (is-t : t ≡ written nothing (firstLine (heard r .state)))
+module _ (s : List ℕ) (r : Judgement) (is-r : heard r ≡ judged s) (t : Text) (is-t : t ≡ written nothing (firstLine (heard r .state)))
     (n : ℕ) (is-n : n ≡ lineCount (heard r .state)) (m : ℕ) (is-m : m ≡ length (linesBelow s n)) where
   first-len : t .len ≡ length (firstLine (heard r .state))
   first-len = ap (λ (x : Text). x .len) is-t ∙ len-written (firstLine (heard r .state)) (omega (arith, length-first (heard r .state)))

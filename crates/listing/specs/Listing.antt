@@ -10,7 +10,7 @@ use Rattle.layout.specs.declared.Header.{Header}
 use Rattle.layout.specs.declared.Request.{Request}
 use Rattle.paper.specs.Told.{Told, tells}
 use Rattle.reader.specs.Checks.{descriptorAt}
-use Rattle.reader.specs.Reading.{Values, header, place, readOf}
+use Rattle.reader.specs.Judgement.{Values, header, place, readOf}
 use Rattle.text.specs.Digits.{digits, decimalOf}
 use Rattle.text.specs.Text.{ascii}
 use Rattle.words.specs.declared.Order.the-variants.{Little}

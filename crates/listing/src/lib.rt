@@ -5,7 +5,7 @@ ghost use lib.ListN.{length};
 ghost use Rattle.io.specs.Counts.{Counts};
 ghost use Rattle.paper.specs.Told.{said};
 ghost use Rattle.reader.specs.Checks.{descriptorAt};
-ghost use Rattle.reader.specs.Reading.{heard};
+ghost use Rattle.reader.specs.Judgement.{heard};
 ghost use Rattle.text.specs.Text.{nothing, written};
 ghost use Rattle.words.specs.Lists.{stored};
 ghost use Rattle.words.specs.declared.Order.the-variants.{Little};
@@ -16,7 +16,7 @@ use layout::Request;
 use paper::Answer;
 use paper::Lba;
 use paper::PageCount;
-use reader::Reading;
+use reader::Judgement;
 use text::Text;
 use words::Order;
 
@@ -83,11 +83,11 @@ fn refused_line(place: usize) -> Text
 }
 
 // The reader's answer; a longer input does not reach it.
-fn judge(input: &[u8]) -> Reading
+fn judge(input: &[u8]) -> Judgement
     ensures { λ r. ⌜ heard r ≡ judged (now (input .entry)) ⌝ }
 {
     if 65536 < input.len() {
-        return Reading::Refused(65536);
+        return Judgement::Refused(65536);
     }
     let request = Request {
         feature: 0,
@@ -98,21 +98,21 @@ fn judge(input: &[u8]) -> Reading
 }
 
 // The line that every listing starts with.
-fn first_line(answer: Reading) -> Text
+fn first_line(answer: Judgement) -> Text
     ensures { λ r. ⌜ r ≡ written nothing (firstLine (heard answer .state)) ⌝ }
 {
     match answer {
-        Reading::Accepted(h) => header_line(h),
-        Reading::Refused(place) => refused_line(place),
+        Judgement::Accepted(h) => header_line(h),
+        Judgement::Refused(place) => refused_line(place),
     }
 }
 
-fn line_count(answer: Reading) -> u32
+fn line_count(answer: Judgement) -> u32
     ensures { λ r. ⌜ r ≡ lineCount (heard answer .state) ⌝ }
 {
     match answer {
-        Reading::Accepted(h) => h.returned,
-        Reading::Refused(_) => 0,
+        Judgement::Accepted(h) => h.returned,
+        Judgement::Refused(_) => 0,
     }
 }
 
@@ -157,9 +157,9 @@ pub fn list(input: &[u8], out: &mut [u8]) -> Printed
     ensures { λ r. ⌜ said (r .answer) (output (r .count) (now (out .exit))) ≡ listed (now (input .entry)) (now (out .entry)) ⌝ }
     ensures { λ r. ⌜ Counts (r .count) (now (out .exit)) ⌝ }
 {
-    let reading = judge(input);
-    let first = first_line(reading);
-    let count = line_count(reading);
+    let judgement = judge(input);
+    let first = first_line(judgement);
+    let count = line_count(judgement);
     let size = first.len + measure(input, count);
     if out.len() < size {
         return Printed {

@@ -20,10 +20,10 @@ use Rattle.words.specs.declared.Order.the-variants.{Little}
 use Rattle.words.specs.declared.Order.{Order}
 use Rattle.reader.specs.Checks.{baseOf, descriptorAt, lastBefore, inTurn, earned, checkOf, offenceAt, paddingAt, contentsOf}
 use Rattle.reader.specs.First.{firstBelow}
-use Rattle.reader.specs.Reading.{Values, heard, answerOf, readOf, slotOf}
+use Rattle.reader.specs.Judgement.{Values, heard, answerOf, readOf, slotOf}
+use Rattle.reader.specs.declared.Judgement.the-variants.{Accepted, Refused}
 use Rattle.reader.specs.declared.Offence.the-variants.{Clean, At}
 use Rattle.reader.specs.declared.Offence.{Offence}
-use Rattle.reader.specs.declared.Reading.the-variants.{Accepted, Refused}
 use Rattle.reader.specs.declared.Slot.the-variants.{Outside, Holds}
 
 -- ## A descriptor
@@ -66,15 +66,15 @@ module _ (q : Request) (last base : ℕ) (d : Descriptor) (t : Bool) (is-t : t �
 
 -- ## One turn over the descriptors
 
-module _ (o : Order) (s : List ℕ) (q : Request) (k : ℕ) (t : List ℕ) (is-t : t ≡ drop (baseOf k) s) (d : Descriptor) (is-d : d ≡ descriptorIn o t) where
-  read-here : d ≡ descriptorAt o s k
-  read-here = is-d ∙ ap (descriptorIn o) is-t
+pub descriptor-read : (o : Order) (s t : List ℕ) (k : ℕ) → t ≡ drop (32 + 32 * k) s → (d : Descriptor) → d ≡ descriptorIn o t → d ≡ descriptorAt o s k
+descriptor-read o s t k is-t d is-d = is-d ∙ ap (descriptorIn o) is-t
 
+module _ (o : Order) (s : List ℕ) (q : Request) (k : ℕ) (d : Descriptor) (is-d : d ≡ descriptorAt o s k) where
   pub judged-here : (last : ℕ) → last ≡ lastBefore o s k → (r : Offence) → r ≡ checkOf q last (baseOf k) d → r ≡ offenceAt o s q k
-  judged-here last is-last r is-r = is-r ∙ rw (is-last, read-here)
+  judged-here last is-last r is-r = is-r ∙ rw (is-last, is-d)
 
   pub last-next : d .id .0 ≡ lastBefore o s (k + 1)
-  last-next = rw add-one (ap (λ (x : Descriptor). x .id .0) read-here)
+  last-next = rw add-one (ap (λ (x : Descriptor). x .id .0) is-d)
 
 -- ## The page
 
@@ -125,5 +125,5 @@ module _ (s : List ℕ) (k : ℕ) (h : Header) (is-h : h ≡ headerIn Little s) 
   pub slot-outside : h .returned ≤ k → Outside ≡ slotOf s k
   slot-outside l = sym (rw (le-ltb _ _ (rw is-h at l)))
 
-  pub slot-holds : k < h .returned → (t : List ℕ) → t ≡ drop (baseOf k) s → (d : Descriptor) → d ≡ descriptorIn Little t → Holds d ≡ slotOf s k
-  slot-holds l t is-t d is-d = rw (is-d, is-t) (sym (rw (lt-ltb _ _ (rw is-h at l))))
+  pub slot-holds : k < h .returned → (d : Descriptor) → d ≡ descriptorAt Little s k → Holds d ≡ slotOf s k
+  slot-holds l d is-d = rw is-d (sym (rw (lt-ltb _ _ (rw is-h at l))))

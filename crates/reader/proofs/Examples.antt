@@ -7,7 +7,7 @@ use lib.ListN.{replicate, set, take}
 use Rattle.layout.specs.Requests.{refused, takesHealth}
 use Rattle.layout.specs.declared.Request.{Request}
 use Rattle.paper.specs.Told.{Told, tells}
-use Rattle.reader.specs.Reading.{Values, header, place, readOf, slotOf}
+use Rattle.reader.specs.Judgement.{Values, header, place, readOf, slotOf}
 use Rattle.reader.specs.declared.Slot.the-variants.{Outside, Holds}
 
 abbrev request : ℕ → ℕ → ℕ → Request

@@ -19,9 +19,9 @@ use Rattle.words.specs.declared.Order.the-variants.{Little}
 use Rattle.words.specs.declared.Order.{Order}
 use Rattle.reader.specs.Checks.{baseOf, descriptorAt, lastBefore, inTurn, earned, checkOf, offenceAt, paddingAt, pageOffence}
 use Rattle.reader.specs.First.{unless, _orElse_, firstBelow}
+use Rattle.reader.specs.Judgement.{Values, header, place, answerOf, readOf}
 use Rattle.reader.specs.Layout.{Rule, rule, below, Asked, InFilter, descriptorRules, rulesAt, paddingRules, pageRules}
 use Rattle.reader.specs.Promises.{Takes-exactly, Refuses-exactly}
-use Rattle.reader.specs.Reading.{Values, header, place, answerOf, readOf}
 use Rattle.reader.specs.declared.Offence.the-variants.{Clean, At}
 use Rattle.reader.specs.declared.Offence.{Offence}
 use Rattle.reader.proofs.Rules.{Decides, one, join, next, all-below, clean-if, at-if}

@@ -2,6 +2,6 @@
 
 pub mod Checks
 pub mod First
+pub mod Judgement
 pub mod Layout
 pub mod Promises
-pub mod Reading

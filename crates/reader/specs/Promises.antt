@@ -1,4 +1,4 @@
--- What holds of every reading. Each is a statement; proofs/ has the proof under the same name in lower case.
+-- What holds of every judgement. Each is a statement; proofs/ has the proof under the same name in lower case.
 use Prim.Native.Nat.{ℕ}
 use mathlib.Core.List.{List}
 use mathlib.Core.Path.{_≡_}
@@ -6,13 +6,13 @@ use Rattle.layout.specs.Bytes.{headerIn}
 use Rattle.layout.specs.declared.Request.{Request}
 use Rattle.paper.specs.Told.{tells}
 use Rattle.words.specs.declared.Order.the-variants.{Little}
+use Rattle.reader.specs.Judgement.{header, place, heard, readOf}
 use Rattle.reader.specs.Layout.{Each, FirstBroken, pageRules}
-use Rattle.reader.specs.Reading.{header, place, heard, readOf}
-use Rattle.reader.specs.declared.Reading.{Reading}
+use Rattle.reader.specs.declared.Judgement.{Judgement}
 
 -- no second answer fits
-abbrev pub One-reading : Type 0
-One-reading = (s : List ℕ) (q : Request) (a b : Reading) → heard a ≡ readOf s q → heard b ≡ readOf s q → a ≡ b
+abbrev pub One-judgement : Type 0
+One-judgement = (s : List ℕ) (q : Request) (a b : Judgement) → heard a ≡ readOf s q → heard b ≡ readOf s q → a ≡ b
 
 -- ## The layout theorem
 

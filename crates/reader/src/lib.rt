@@ -2,9 +2,9 @@
 ghost use mathlib.Core.Path.{_≡_};
 ghost use Prim.Native.Nat.{_+_, _-_, _*_, _^_, _≤_, _<_, min};
 ghost use lib.ListN.{length};
-ghost use Rattle.reader.specs.Checks.{inTurn, earned, checkOf, offenceAt, paddingAt, contentsOf};
+ghost use Rattle.reader.specs.Checks.{descriptorAt, inTurn, earned, checkOf, offenceAt, paddingAt, contentsOf};
 ghost use Rattle.reader.specs.First.{firstBelow};
-ghost use Rattle.reader.specs.Reading as paper;
+ghost use Rattle.reader.specs.Judgement as paper;
 use layout::Descriptor;
 use layout::Header;
 use layout::Request;
@@ -18,7 +18,7 @@ enum Offence {
 }
 
 // The header's numbers, or the place of the first offence.
-pub enum Reading {
+pub enum Judgement {
     Accepted(Header),
     Refused(usize),
 }
@@ -73,6 +73,14 @@ fn judge(d: Descriptor, request: Request, last: ElementId, base: usize) -> Offen
     Offence::Clean
 }
 
+// Descriptor k of a page, in an order. A byte past the end counts as 0.
+pub fn descriptor_at(page: &[u8], k: u32, o: Order) -> Descriptor
+    ensures { λ r. ⌜ r ≡ descriptorAt o (now (page .entry)) k ⌝ }
+{
+    let base = 32 + 32 * (k as usize);
+    Descriptor::read(words::tail(page, base), o)
+}
+
 // The first offence of the first `count` descriptors.
 fn check_list(page: &[u8], request: Request, count: u32, o: Order) -> Offence
     ensures { λ r. ⌜ r ≡ firstBelow count (offenceAt o (now (page .entry)) request) ⌝ }
@@ -80,9 +88,8 @@ fn check_list(page: &[u8], request: Request, count: u32, o: Order) -> Offence
     let mut last = ElementId(0);
     let mut k: u32 = 0;
     while k < count {
-        let base = 32 + 32 * (k as usize);
-        let d = Descriptor::read(words::tail(page, base), o);
-        let found = judge(d, request, last, base);
+        let d = descriptor_at(page, k, o);
+        let found = judge(d, request, last, 32 + 32 * (k as usize));
         if let Offence::At(place) = found {
             return Offence::At(place);
         }
@@ -126,28 +133,28 @@ fn smaller(a: u32, b: u32) -> u32
     if a < b { a } else { b }
 }
 
-fn answer(found: Offence, h: Header) -> Reading
+fn answer(found: Offence, h: Header) -> Judgement
     ensures { λ r. ⌜ paper.heard r ≡ paper.answerOf found h ⌝ }
 {
     match found {
-        Offence::Clean => Reading::Accepted(h),
-        Offence::At(place) => Reading::Refused(place),
+        Offence::Clean => Judgement::Accepted(h),
+        Offence::At(place) => Judgement::Refused(place),
     }
 }
 
 // A page as the answer to a request.
-pub fn read(page: &[u8], request: Request) -> Reading
+pub fn read(page: &[u8], request: Request) -> Judgement
     ensures { λ r. ⌜ paper.heard r ≡ paper.readOf (now (page .entry)) request ⌝ }
 {
     if request.is_refused() {
-        return Reading::Refused(0);
+        return Judgement::Refused(0);
     }
     if page.len() != 512 * (request.count.0 as usize) {
-        return Reading::Refused(0);
+        return Judgement::Refused(0);
     }
     let h = Header::read(page, Order::Little);
     if h.returned != smaller(h.number, 16 * (request.count.0 as u32) - 1) {
-        return Reading::Refused(4);
+        return Judgement::Refused(4);
     }
     answer(check_contents(page, request, h.returned, Order::Little), h)
 }
@@ -160,6 +167,5 @@ pub fn descriptor(page: &[u8], k: u32) -> Slot
     if h.returned <= k {
         return Slot::Outside;
     }
-    let base = 32 + 32 * (k as usize);
-    Slot::Holds(Descriptor::read(words::tail(page, base), Order::Little))
+    Slot::Holds(descriptor_at(page, k, Order::Little))
 }

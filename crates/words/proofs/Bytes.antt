@@ -10,36 +10,36 @@ use native.Mathlib.Omega.{arith}
 use lib.Dec.{lit<}
 use lib.ListN.{length, getD, take, drop, length-drop, length-reverse}
 use lib.Seq.{take-all, drop-drop, drop-at, getD-drop}
-use Rattle.words.specs.Bytes.{digits, value, ordered, bytesOf, number, front, numberAt, joined}
+use Rattle.words.specs.Bytes.{lowBytes, value, ordered, bytesOf, number, front, numberAt, joined}
 use Rattle.words.specs.declared.Order.the-variants.{Little, Big}
 use Rattle.words.specs.declared.Order.{Order}
 
 -- ## Bytes of a number, and back
 
-value-digits : (w x : ℕ) → x < 256 ^ w → value (digits w x) ≡ x
-value-digits zero x h = omega arith
-value-digits (suc w) x h =
+value-lowBytes : (w x : ℕ) → x < 256 ^ w → value (lowBytes w x) ≡ x
+value-lowBytes zero x h = omega arith
+value-lowBytes (suc w) x h =
     let high : x / 256 < 256 ^ w = div-lt-iff-lt-mul (lit< tt) .1 (rw (pow-suc 256 w) at h) in
-    ap (λ (n : ℕ). n * 256 + x % 256) (value-digits w (x / 256) high) ∙ div-add-mod' x 256
+    ap (λ (n : ℕ). n * 256 + x % 256) (value-lowBytes w (x / 256) high) ∙ div-add-mod' x 256
 
 ordered-twice : (o : Order) (bs : List ℕ) → ordered o (ordered o bs) ≡ bs
 ordered-twice Little bs = refl
 ordered-twice Big bs = reverse-reverse bs
 
 pub number-bytesOf : (o : Order) (w x : ℕ) → x < 256 ^ w → number o (bytesOf o w x) ≡ x
-number-bytesOf o w x h = ap value (ordered-twice o (digits w x)) ∙ value-digits w x h
+number-bytesOf o w x h = ap value (ordered-twice o (lowBytes w x)) ∙ value-lowBytes w x h
 
 -- an order that a `match` has told
 pub in-order : (w : ℕ) {o p : Order} (x : ℕ) → o ≡ p → bytesOf p w x ≡ bytesOf o w x
 in-order w x e = sym (ap (λ (q : Order). bytesOf q w x) e)
 
-length-digits : (w x : ℕ) → length (digits w x) ≡ w
-length-digits zero x = refl
-length-digits (suc w) x = ap suc (length-digits w (x / 256))
+length-lowBytes : (w x : ℕ) → length (lowBytes w x) ≡ w
+length-lowBytes zero x = refl
+length-lowBytes (suc w) x = ap suc (length-lowBytes w (x / 256))
 
 pub length-bytesOf : (o : Order) (w x : ℕ) → length (bytesOf o w x) ≡ w
-length-bytesOf Little w x = length-digits w x
-length-bytesOf Big w x = length-reverse (digits w x) ∙ length-digits w x
+length-bytesOf Little w x = length-lowBytes w x
+length-bytesOf Big w x = length-reverse (lowBytes w x) ∙ length-lowBytes w x
 
 -- ## Reading at a place
 

@@ -6,9 +6,9 @@ use Rattle.words.specs.declared.Order.the-variants.{Little, Big}
 use Rattle.words.specs.declared.Order.{Order}
 
 -- the w low bytes of a number, the lowest first
-abbrev pub digits : ℕ → ℕ → List ℕ
-digits zero x = []
-digits (suc w) x = x % 256 ∷ digits w (x / 256)
+abbrev pub lowBytes : ℕ → ℕ → List ℕ
+lowBytes zero x = []
+lowBytes (suc w) x = x % 256 ∷ lowBytes w (x / 256)
 
 -- the number of some bytes, the lowest first
 abbrev pub value : List ℕ → ℕ
@@ -22,7 +22,7 @@ ordered Big bs = reverse bs
 
 -- the w low bytes of a number, in an order
 abbrev pub bytesOf : Order → ℕ → ℕ → List ℕ
-bytesOf o w x = ordered o (digits w x)
+bytesOf o w x = ordered o (lowBytes w x)
 
 -- the number of some bytes, in an order
 abbrev pub number : Order → List ℕ → ℕ

@@ -1,7 +1,7 @@
 // Numbers as bytes, in either order, at widths 2, 4 and 8, and bytes at a place. Any place will do: past the end a byte is 0, and bytes
-// that do not fit are not stored.
+// that do not fit are not stored. And the smaller of two numbers.
 ghost use mathlib.Core.Path.{_≡_};
-ghost use Prim.Native.Nat.{_+_, _≤_};
+ghost use Prim.Native.Nat.{_+_, _≤_, min};
 ghost use lib.ListN.{length, getD, drop};
 ghost use lib.Seq.{paste};
 ghost use Rattle.words.specs.Bytes.{bytesOf, numberAt, joined};
@@ -79,6 +79,12 @@ pub fn number8(s: &[u8], at: usize, o: Order) -> u64
 {
     let t = tail(s, at);
     join8(number4(t, 0, o), number4(t, 4, o), o)
+}
+
+pub fn smaller(a: usize, b: usize) -> usize
+    ensures { λ r. ⌜ r ≡ min a b ⌝ }
+{
+    if a < b { a } else { b }
 }
 
 // What stands from a place on, nothing past the end.

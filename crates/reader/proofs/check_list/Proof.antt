@@ -25,36 +25,33 @@ check-list-spec =
     Inv-loop
     μ-loop
     (λ c. (search needs, refl, refl))
+    (λ c κs. search needs)
     (λ c. search needs)
     (λ c. search needs)
     (λ c. search needs)
     (λ c κs. search needs)
-    (λ c κs. search needs)
-    (λ c κs. search needs)
     (λ c. search needs)
-    (λ c. let s = c .before .before .before .before .before .before .before .before .before .args in
-    let l = c .before .before .before .before .before .before .before .loop in
-    let t = c .before .before .before .before .before .tail in
-    let d = c .before .before .before .before .read in
+    (λ c. let s = c .before .before .before .before .before .before .before .before .args in
+    let l = c .before .before .before .before .before .before .loop in
+    let d = c .before .before .before .before .descriptor-at in
     let j = c .before .before .before .judge in
     let f = offenceAt (s .o) (now (s .page)) (s .request) in
     let seen : f (l .k) ≡ At (c .before .found .given .0 .0) =
-    sym (judged-here (s .o) (now (s .page)) (s .request) (l .k) (now (t .result)) (t .ensures) (d .result) (d .ensures) (l .last .0) (l .inv .1) (j .result) (j .ensures))
+    sym (judged-here (s .o) (now (s .page)) (s .request) (l .k) (d .result) (d .ensures) (l .last .0) (l .inv .1) (j .result) (j .ensures))
     ∙ c .before .found .given .1 in
     sym (first-found f (s .count) (l .k) (c .before .found .given .0 .0) (l .inv .2) seen (omega arith)))
     (λ c. search needs)
     (λ c. search needs)
     (λ c. search needs)
-    (λ c. let s = c .before .before .before .before .before .before .before .before .before .args in
-    let l = c .before .before .before .before .before .before .before .loop in
-    let t = c .before .before .before .before .before .tail in
-    let d = c .before .before .before .before .read in
+    (λ c. let s = c .before .before .before .before .before .before .before .before .args in
+    let l = c .before .before .before .before .before .before .loop in
+    let d = c .before .before .before .before .descriptor-at in
     let j = c .before .before .before .judge in
     let f = offenceAt (s .o) (now (s .page)) (s .request) in
     let seen : f (l .k) ≡ Clean =
-    sym (judged-here (s .o) (now (s .page)) (s .request) (l .k) (now (t .result)) (t .ensures) (d .result) (d .ensures) (l .last .0) (l .inv .1) (j .result) (j .ensures))
+    sym (judged-here (s .o) (now (s .page)) (s .request) (l .k) (d .result) (d .ensures) (l .last .0) (l .inv .1) (j .result) (j .ensures))
     ∙ c .before .enum-told .given .1 in
-    (search needs, last-next (s .o) (now (s .page)) (s .request) (l .k) (now (t .result)) (t .ensures) (d .result) (d .ensures), first-more f (l .k) (l .inv .2) seen))
+    (search needs, last-next (s .o) (now (s .page)) (s .request) (l .k) (d .result) (d .ensures), first-more f (l .k) (l .inv .2) seen))
     (λ c. let s = c .before .before .before .args in
     let l = c .before .loop in
     sym (first-done (offenceAt (s .o) (now (s .page)) (s .request)) (s .count) (l .k) (omega arith) (omega arith) (l .inv .2))))

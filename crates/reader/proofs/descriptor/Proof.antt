@@ -10,8 +10,5 @@ descriptor-spec =
     (tie.spec
     (λ c κs. search needs)
     (λ c. search (slot-outside))
-    (λ c. search needs)
-    (λ c. search needs)
-    (λ c κs. search needs)
     (λ c κs. search needs)
     (λ c. search (slot-holds)))

@@ -9,10 +9,10 @@ use Rattle.layout.specs.declared.Request.{Request}
 use Rattle.paper.specs.Told.{Told, tells}
 use Rattle.words.specs.declared.Order.the-variants.{Little}
 use Rattle.reader.specs.Checks.{descriptorAt, pageOffence}
+use Rattle.reader.specs.declared.Judgement.the-variants.{Accepted, Refused}
+use Rattle.reader.specs.declared.Judgement.{Judgement}
 use Rattle.reader.specs.declared.Offence.the-variants.{Clean, At}
 use Rattle.reader.specs.declared.Offence.{Offence}
-use Rattle.reader.specs.declared.Reading.the-variants.{Accepted, Refused}
-use Rattle.reader.specs.declared.Reading.{Reading}
 use Rattle.reader.specs.declared.Slot.the-variants.{Outside, Holds}
 use Rattle.reader.specs.declared.Slot.{Slot}
 
@@ -22,7 +22,7 @@ pub data Values : Type 0 where
   place : ℕ → Values
 
 -- "9 page refused, with a byte place"
-abbrev pub heard : Reading → Told Values
+abbrev pub heard : Judgement → Told Values
 heard (Accepted h) = tells 0 (header h)
 heard (Refused p) = tells 9 (place p)
 
