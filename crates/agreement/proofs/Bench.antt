@@ -2,7 +2,7 @@
 use mathlib.Core.Bool.{true}
 use mathlib.Core.Path.{_≡_, refl}
 use Rattle.device.specs.Cells.{isSet}
-use Rattle.device.specs.Remove.{judgeRoom, judgeFound}
+use Rattle.removal.specs.Remove.{judgeRoom, judgeFound}
 use Rattle.device.specs.Sights.{see}
 use Rattle.layout.specs.Requests.{refused, takesHealth}
 use Rattle.status.specs.Page.{shownOf, asks, listOf, pageOf}

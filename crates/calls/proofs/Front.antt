@@ -5,7 +5,7 @@ use mathlib.Core.Path.{_≡_, sym, ap, _∙_}
 use lib.ListN.{length}
 use borrow.Author.Tests.{eq-eqb, ne-eqb}
 use Rattle.commands.specs.Lent.{lent}
-use Rattle.device.specs.Machine.{command, told}
+use Rattle.machine.specs.Machine.{command, told}
 use Rattle.device.specs.declared.Device.{Device}
 use Rattle.layout.specs.declared.Request.{Request}
 use Rattle.paper.specs.Told.{Told, said}

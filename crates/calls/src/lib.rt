@@ -7,9 +7,9 @@ ghost use lib.Dec.{leb};
 ghost use lib.ListN.{length, take, replicate};
 ghost use Rattle.commands.specs.Lent.{lent};
 ghost use Rattle.device.specs.Commands.{otherNumber};
-ghost use Rattle.device.specs.Machine as machine;
-ghost use Rattle.device.specs.Machine.{told};
-ghost use Rattle.device.specs.Making.{madeOf};
+ghost use Rattle.machine.specs.Machine as machine;
+ghost use Rattle.machine.specs.Machine.{told};
+ghost use Rattle.machine.specs.Making.{madeOf};
 ghost use Rattle.paper.specs.Answers.{numberOf};
 ghost use Rattle.paper.specs.Told.{said};
 ghost use Rattle.status.specs.Page.{shown};
@@ -34,7 +34,7 @@ use table::Offer;
 pub fn remove(d: &mut Device, security: Security, feature: u16, count: u16, lba: Lba) -> Answer
     ensures { λ r. ⌜ said r (now (d .exit)) ≡ told (now (d .entry)) (machine.command security 0x7C feature count lba 0) ⌝ }
 {
-    let r = (*d).remove(security, feature, count, lba);
+    let r = machine::remove(*d, security, feature, count, lba);
     *d = r.device;
     r.answer
 }
@@ -42,7 +42,7 @@ pub fn remove(d: &mut Device, security: Security, feature: u16, count: u16, lba:
 pub fn step(d: &mut Device) -> Answer
     ensures { λ r. ⌜ said r (now (d .exit)) ≡ told (now (d .entry)) machine.step ⌝ }
 {
-    let r = (*d).step();
+    let r = machine::step(*d);
     *d = r.device;
     r.answer
 }
@@ -50,7 +50,7 @@ pub fn step(d: &mut Device) -> Answer
 pub fn media_error(d: &mut Device) -> Answer
     ensures { λ r. ⌜ said r (now (d .exit)) ≡ told (now (d .entry)) machine.mediaError ⌝ }
 {
-    let r = (*d).media_error();
+    let r = machine::media_error(*d);
     *d = r.device;
     r.answer
 }
@@ -58,7 +58,7 @@ pub fn media_error(d: &mut Device) -> Answer
 pub fn power_cut(d: &mut Device) -> Answer
     ensures { λ r. ⌜ said r (now (d .exit)) ≡ told (now (d .entry)) machine.powerCut ⌝ }
 {
-    let r = (*d).power_cut();
+    let r = machine::power_cut(*d);
     *d = r.device;
     r.answer
 }
@@ -66,7 +66,7 @@ pub fn power_cut(d: &mut Device) -> Answer
 pub fn comreset(d: &mut Device) -> Answer
     ensures { λ r. ⌜ said r (now (d .exit)) ≡ told (now (d .entry)) machine.comreset ⌝ }
 {
-    let r = (*d).comreset();
+    let r = machine::comreset(*d);
     *d = r.device;
     r.answer
 }
@@ -74,7 +74,7 @@ pub fn comreset(d: &mut Device) -> Answer
 pub fn hardware_reset(d: &mut Device) -> Answer
     ensures { λ r. ⌜ said r (now (d .exit)) ≡ told (now (d .entry)) machine.hardwareReset ⌝ }
 {
-    let r = (*d).hardware_reset();
+    let r = machine::hardware_reset(*d);
     *d = r.device;
     r.answer
 }
@@ -82,7 +82,7 @@ pub fn hardware_reset(d: &mut Device) -> Answer
 pub fn software_reset(d: &mut Device) -> Answer
     ensures { λ r. ⌜ said r (now (d .exit)) ≡ told (now (d .entry)) machine.softwareReset ⌝ }
 {
-    let r = (*d).software_reset();
+    let r = machine::software_reset(*d);
     *d = r.device;
     r.answer
 }
@@ -90,7 +90,7 @@ pub fn software_reset(d: &mut Device) -> Answer
 pub fn grade(d: &mut Device, id: ElementId, health: u8) -> Answer
     ensures { λ r. ⌜ said r (now (d .exit)) ≡ told (now (d .entry)) (machine.grade id health) ⌝ }
 {
-    let r = (*d).grade(id, health);
+    let r = machine::grade(*d, id, health);
     *d = r.device;
     r.answer
 }
@@ -201,7 +201,7 @@ fn make_in(there: Device, elements: [Element; 128], count: usize, limit: u16) ->
         count,
         limit,
     };
-    device::make_device(there, o)
+    machine::make_device(there, o)
 }
 
 // Whether document 01 accepts a list as a table, and then its blocks in all.

@@ -9,7 +9,7 @@ use lib.Dec.{ltb, lit<}
 use borrow.Author.Tests.{eq-eqb, ne-eqb, lt-ltb, le-ltb, ltb-true, ltb-false}
 use Rattle.device.specs.Cells.{underWay, isSet}
 use Rattle.device.specs.Commands.{statusNumber, otherNumber, isMedia, isNamed, isOpen, sectorsOf, isBeyond, mediaNumber}
-use Rattle.device.specs.Machine.{command, ruleCommand, quietNumber, told}
+use Rattle.machine.specs.Machine.{command, ruleCommand, quietNumber, told}
 use Rattle.device.specs.Rulings.{tell}
 use Rattle.device.specs.declared.Device.{Device}
 use Rattle.layout.specs.declared.Request.{Request}

@@ -2,8 +2,8 @@
 use mathlib.Core.Bool.{false}
 use mathlib.Core.Path.{_≡_, refl}
 use borrow.Author.Tests.{ne-eqb}
-use Rattle.device.specs.Remove.{aborts}
-use Rattle.device.specs.declared.Command.the-variants.{Status}
+use Rattle.paper.specs.Table12.{aborts}
+use Rattle.paper.specs.declared.Command.the-variants.{Status}
 use Rattle.paper.specs.declared.Security.the-variants.{Locked, Unlocked, Frozen}
 use Rattle.paper.specs.declared.Security.{Security}
 use Rattle.commands.specs.Promises.{Security-unseen}

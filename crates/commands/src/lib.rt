@@ -7,8 +7,8 @@ ghost use Rattle.words.specs.Lists.{oneOf};
 ghost use Rattle.paper.specs.Told.{said};
 ghost use Rattle.device.specs.Cells.{underWay, isSet};
 ghost use Rattle.device.specs.Commands.{otherNumber, isMedia, isNamed, isOpen, sectorsOf, isBeyond, mediaNumber};
-ghost use Rattle.device.specs.Machine as machine;
-ghost use Rattle.device.specs.Machine.{told};
+ghost use Rattle.machine.specs.Machine as machine;
+ghost use Rattle.machine.specs.Machine.{told};
 ghost use Rattle.commands.specs.Open.{hasRest, rowFits};
 use device::Device;
 use device::Stepped;
@@ -233,5 +233,5 @@ pub fn command(
     ensures { λ r. ⌜ said (r .answer) (r .device) ≡ told d (machine.command security code feature count lba room) ⌝ }
 {
     let other = quiet_answer(d, security, code, feature, count, lba, room);
-    d.command(security, code, feature, count, lba, other)
+    machine::command(d, security, code, feature, count, lba, other)
 }

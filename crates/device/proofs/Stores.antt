@@ -1,13 +1,14 @@
--- Each cell after a store, and the cells and the device built of them. An arm that takes the other stores is told which they are, by their places in
--- the enum; the cell's own store is then refuted (`miss`), and the others compute.
+-- Each cell after a store, and the cells and the device built of them. An arm that takes the other stores is told which they are, by their
+-- places in the enum; the cell's own store is then refuted (`miss`), and the others compute.
 use Prim.Native.Nat.{ℕ}
-use mathlib.Core.Bool.{true, false}
+use mathlib.Core.Bool.{true, false, not}
 use mathlib.Core.List.{List, [], _∷_}
 use mathlib.Core.Path.{_≡_, refl, sym, ap, _∙_}
 use lib.ListN.{set}
 use denote.Enum.Declared
 use Rattle.paper.specs.Told.{said}
 use Rattle.paper.specs.declared.Lba.{Lba}
+use Rattle.words.specs.Lists.{keep, oneOf, upTo}
 use types.Run.{OneOf, miss}
 use Rattle.device.specs.Cells.{make, isSet}
 use Rattle.device.specs.Rulings.{ruled, tell}
@@ -23,14 +24,18 @@ use Rattle.device.specs.declared.Store.the-variants.{Nothing, NativeTo, 
 use Rattle.device.specs.declared.Store.{Store}
 use Rattle.device.proofs.Store as StoreType
 
--- the store is one of those at these places of the enum
-abbrev Among : List ℕ → Store → Type 0
-Among keys s = OneOf keys (Declared.tagOf StoreType.the-type s)
+-- the places in the enum of all stores but these
+abbrev others : List ℕ → List ℕ
+others own = keep (λ (k : ℕ). not (oneOf k own)) (upTo 8)
+
+-- the store is one of the others
+abbrev Other : List ℕ → Store → Type 0
+Other own s = OneOf (others own) (Declared.tagOf StoreType.the-type s)
 
 module _ (c : Cells) where
-  pub native-kept : (s : Store) → Among (0 ∷ 2 ∷ 3 ∷ 4 ∷ 5 ∷ 6 ∷ 7 ∷ []) s → c .native ≡ make s c .native
+  pub native-kept : (s : Store) → Other (1 ∷ []) s → c .native ≡ make s c .native
   native-kept Nothing k = refl
-  native-kept (NativeTo v) k = absurd (miss (0 ∷ 2 ∷ 3 ∷ 4 ∷ 5 ∷ 6 ∷ 7 ∷ []) 1 tt k)
+  native-kept (NativeTo v) k = absurd (miss (others (1 ∷ [])) 1 tt k)
   native-kept (AccessibleTo v) k = refl
   native-kept (Marked place) k = refl
   native-kept (Graded place h) k = refl
@@ -38,45 +43,45 @@ module _ (c : Cells) where
   native-kept (Noted w) k = refl
   native-kept NoteEmptied k = refl
 
-  pub accessible-kept : (s : Store) → Among (0 ∷ 1 ∷ 3 ∷ 4 ∷ 5 ∷ 6 ∷ 7 ∷ []) s → c .accessible ≡ make s c .accessible
+  pub accessible-kept : (s : Store) → Other (2 ∷ []) s → c .accessible ≡ make s c .accessible
   accessible-kept Nothing k = refl
   accessible-kept (NativeTo v) k = refl
-  accessible-kept (AccessibleTo v) k = absurd (miss (0 ∷ 1 ∷ 3 ∷ 4 ∷ 5 ∷ 6 ∷ 7 ∷ []) 2 tt k)
+  accessible-kept (AccessibleTo v) k = absurd (miss (others (2 ∷ [])) 2 tt k)
   accessible-kept (Marked place) k = refl
   accessible-kept (Graded place h) k = refl
   accessible-kept (FailedTo m) k = refl
   accessible-kept (Noted w) k = refl
   accessible-kept NoteEmptied k = refl
 
-  pub healths-kept : (s : Store) → Among (0 ∷ 1 ∷ 2 ∷ 5 ∷ 6 ∷ 7 ∷ []) s → c .healths ≡ make s c .healths
+  pub healths-kept : (s : Store) → Other (3 ∷ 4 ∷ []) s → c .healths ≡ make s c .healths
   healths-kept Nothing k = refl
   healths-kept (NativeTo v) k = refl
   healths-kept (AccessibleTo v) k = refl
-  healths-kept (Marked place) k = absurd (miss (0 ∷ 1 ∷ 2 ∷ 5 ∷ 6 ∷ 7 ∷ []) 3 tt k)
-  healths-kept (Graded place h) k = absurd (miss (0 ∷ 1 ∷ 2 ∷ 5 ∷ 6 ∷ 7 ∷ []) 4 tt k)
+  healths-kept (Marked place) k = absurd (miss (others (3 ∷ 4 ∷ [])) 3 tt k)
+  healths-kept (Graded place h) k = absurd (miss (others (3 ∷ 4 ∷ [])) 4 tt k)
   healths-kept (FailedTo m) k = refl
   healths-kept (Noted w) k = refl
   healths-kept NoteEmptied k = refl
 
-  pub failed-kept : (s : Store) → Among (0 ∷ 1 ∷ 2 ∷ 3 ∷ 4 ∷ 6 ∷ 7 ∷ []) s → c .failed ≡ make s c .failed
+  pub failed-kept : (s : Store) → Other (5 ∷ []) s → c .failed ≡ make s c .failed
   failed-kept Nothing k = refl
   failed-kept (NativeTo v) k = refl
   failed-kept (AccessibleTo v) k = refl
   failed-kept (Marked place) k = refl
   failed-kept (Graded place h) k = refl
-  failed-kept (FailedTo m) k = absurd (miss (0 ∷ 1 ∷ 2 ∷ 3 ∷ 4 ∷ 6 ∷ 7 ∷ []) 5 tt k)
+  failed-kept (FailedTo m) k = absurd (miss (others (5 ∷ [])) 5 tt k)
   failed-kept (Noted w) k = refl
   failed-kept NoteEmptied k = refl
 
-  pub note-kept : (s : Store) → Among (0 ∷ 1 ∷ 2 ∷ 3 ∷ 4 ∷ 5 ∷ []) s → c .note ≡ make s c .note
+  pub note-kept : (s : Store) → Other (6 ∷ 7 ∷ []) s → c .note ≡ make s c .note
   note-kept Nothing k = refl
   note-kept (NativeTo v) k = refl
   note-kept (AccessibleTo v) k = refl
   note-kept (Marked place) k = refl
   note-kept (Graded place h) k = refl
   note-kept (FailedTo m) k = refl
-  note-kept (Noted w) k = absurd (miss (0 ∷ 1 ∷ 2 ∷ 3 ∷ 4 ∷ 5 ∷ []) 6 tt k)
-  note-kept NoteEmptied k = absurd (miss (0 ∷ 1 ∷ 2 ∷ 3 ∷ 4 ∷ 5 ∷ []) 7 tt k)
+  note-kept (Noted w) k = absurd (miss (others (6 ∷ 7 ∷ [])) 6 tt k)
+  note-kept NoteEmptied k = absurd (miss (others (6 ∷ 7 ∷ [])) 7 tt k)
 
   -- the cell's own stores
   module _ (s x : Store) (is-s : s ≡ x) where

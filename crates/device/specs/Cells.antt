@@ -1,8 +1,9 @@
 -- Document 01, "Table and cells": "Cells that survive power loss, each written whole or not at all".
 use Prim.Native.Nat.{ℕ}
 use mathlib.Core.Bool.{Bool, true, false}
-use lib.ListN.{getD, set}
+use lib.ListN.{getD, take, set}
 use Rattle.paper.specs.declared.Lba.{Lba}
+use Rattle.table.specs.Elements.{removedCount}
 use Rattle.device.specs.declared.Cells.{Cells}
 use Rattle.device.specs.declared.Device.{Device}
 use Rattle.device.specs.declared.Mark.the-variants.{Clear, Set}
@@ -36,6 +37,10 @@ failedNumber m = 3
 -- "each element's health": the cell of its place
 abbrev pub healthAt : Device → ℕ → ℕ
 healthAt d place = getD (d .cells .healths) place 0
+
+-- how many elements of the table are at FFh
+abbrev pub removedNumber : Device → ℕ
+removedNumber d = removedCount (take (d .table .count) (d .cells .healths))
 
 -- ## One cell written
 

@@ -6,12 +6,12 @@ use lib.Dec.{ltb, eqb}
 use Rattle.layout.specs.Requests.{refused, pagesOf}
 use Rattle.layout.specs.declared.Request.{Request}
 use Rattle.paper.specs.Registers.{low48}
+use Rattle.paper.specs.Table12.{aborts}
 use Rattle.paper.specs.declared.Lba.{Lba}
 use Rattle.paper.specs.declared.Security.{Security}
 use Rattle.words.specs.Lists.{oneOf}
 use Rattle.device.specs.Cells.{underWay, isSet, busyNumber, failedNumber}
-use Rattle.device.specs.Remove.{aborts}
-use Rattle.device.specs.declared.Command.the-variants.{Status}
+use Rattle.paper.specs.declared.Command.the-variants.{Status}
 use Rattle.device.specs.declared.Device.{Device}
 
 -- ## 12h: "all 4; then the buffer below 512p bytes: 7. Allowed during a removal."; 1 by 000, table 12, where no state aborts it

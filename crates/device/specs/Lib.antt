@@ -1,12 +1,6 @@
--- The machine of document 01. Every call rules on a number, ONE store and the next position; the device after it is the device before it
--- with that store made. Nothing else changes a device; `Making` makes a new one.
+-- The device of document 01: its cells, the stores that write them, and a ruling, which every call makes: a number, ONE store and the next
+-- position. Nothing but a ruling carried out changes a device.
 pub mod Cells
 pub mod Commands
-pub mod Examples
-pub mod Machine
-pub mod Making
-pub mod Promises
-pub mod Remove
 pub mod Rulings
 pub mod Sights
-pub mod Steps

@@ -3,14 +3,15 @@ use Prim.Native.Nat.{ℕ, _<_}
 use mathlib.Core.Bool.{Bool, true, false, cond, not, _&&_, true≢false, false≢true}
 use mathlib.Core.Path.{_≡_, refl, sym, subst, _∙_}
 use native.Mathlib.Omega.{arith}
-use Rattle.device.proofs.Shapes.{still, moving, stopping, Shape, quiet, clears, notes, advances, winds, Grading, refuses, grades, each, choose}
-use Rattle.device.specs.Cells.{underWay}
-use Rattle.device.specs.Machine.{Event, command, step, mediaError, powerCut, comreset, hardwareReset, softwareReset, grade, rule}
-use Rattle.device.specs.Remove.{aborts, identifierOf, limitMet, tooSmall, tooHigh, removalOf, judgeRoom, removedNumber, judgeFound}
+use Rattle.machine.proofs.Shapes.{still, moving, stopping, Shape, quiet, clears, notes, advances, winds, Grading, refuses, grades, each, choose}
+use Rattle.device.specs.Cells.{underWay, removedNumber}
+use Rattle.machine.specs.Machine.{Event, command, step, mediaError, powerCut, comreset, hardwareReset, softwareReset, grade, rule}
+use Rattle.paper.specs.Table12.{aborts}
+use Rattle.removal.specs.Remove.{identifierOf, limitMet, tooSmall, tooHigh, removalOf, judgeRoom, judgeFound}
 use Rattle.device.specs.Rulings.{Ruled}
 use Rattle.device.specs.Sights.{see, gone}
-use Rattle.device.specs.Steps.{storeAt, nextOf}
-use Rattle.device.specs.declared.Command.the-variants.{Remove}
+use Rattle.steps.specs.Steps.{storeAt, nextOf}
+use Rattle.paper.specs.declared.Command.the-variants.{Remove}
 use Rattle.device.specs.declared.Device.{Device}
 use Rattle.device.specs.declared.Mark.the-variants.{Clear, Set}
 use Rattle.device.specs.declared.Note.the-variants.{Full}

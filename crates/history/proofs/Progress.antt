@@ -3,12 +3,12 @@ use Prim.Native.Nat.{ℕ, zero, suc, _<_, _≤_}
 use mathlib.Core.Bool.{true, false≢true}
 use mathlib.Core.Path.{_≡_, refl, sym, ap, _∙_, subst, subst⁻¹}
 use native.Mathlib.Omega.{arith}
-use Rattle.device.proofs.Shapes.{still, Shape, quiet, clears, notes, Grading, refuses, grades, each, marking-note}
+use Rattle.machine.proofs.Shapes.{still, Shape, quiet, clears, notes, Grading, refuses, grades, each, marking-note}
 use Rattle.device.specs.Cells.{make}
-use Rattle.device.specs.Machine.{Event, command, step, mediaError, powerCut, comreset, hardwareReset, softwareReset, grade, rule, told}
+use Rattle.machine.specs.Machine.{Event, command, step, mediaError, powerCut, comreset, hardwareReset, softwareReset, grade, rule, told}
 use Rattle.device.specs.Rulings.{Ruled, carriedOut, goes}
 use Rattle.device.specs.Sights.{see}
-use Rattle.device.specs.Steps.{storeAt, nextOf, ruleStep, ruleStop, woundUp}
+use Rattle.steps.specs.Steps.{storeAt, nextOf, ruleStep, ruleStop, woundUp}
 use Rattle.device.specs.declared.Device.{Device}
 use Rattle.device.specs.declared.Note.the-variants.{Empty, Full}
 use Rattle.device.specs.declared.Note.{Note}

@@ -3,11 +3,11 @@ use Prim.Native.Nat.{ℕ, _≤_, _<_}
 use mathlib.Core.Bool.{Bool, true, false, cond, _||_, true≢false, or-true}
 use mathlib.Core.Path.{_≡_, refl, sym, ap, _∙_}
 use borrow.Author.Tests.{eqb-true, le-leb, leb-true}
-use Rattle.device.proofs.PowerCut.{stop-keeps-cells}
+use Rattle.machine.proofs.PowerCut.{stop-keeps-cells}
 use Rattle.device.specs.Cells.{make, isSet, healthAt}
-use Rattle.device.specs.Machine.{rule, powerCut}
+use Rattle.machine.specs.Machine.{rule, powerCut}
 use Rattle.device.specs.Sights.{see, gone}
-use Rattle.device.specs.Steps.{ruleStop}
+use Rattle.steps.specs.Steps.{ruleStop}
 use Rattle.device.specs.declared.Cells.{Cells}
 use Rattle.device.specs.declared.Device.{Device}
 use Rattle.device.specs.declared.Note.the-variants.{Empty, Full}

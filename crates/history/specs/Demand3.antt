@@ -5,7 +5,7 @@
 -- fifth. After a cut during a removal, four undisturbed steps bring that about."
 use mathlib.Core.Bool.{true}
 use mathlib.Core.Path.{_≡_}
-use Rattle.device.specs.Machine.{Event, step}
+use Rattle.machine.specs.Machine.{Event, step}
 use Rattle.device.specs.declared.Device.{Device}
 use Rattle.device.specs.declared.Note.the-variants.{Empty, Full}
 use Rattle.device.specs.declared.Removal.{Removal}

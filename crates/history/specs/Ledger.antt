@@ -3,9 +3,9 @@ use Prim.Native.Nat.{ℕ, zero, suc}
 use mathlib.Core.Bool.{Bool, cond, _||_}
 use lib.Dec.{eqb}
 use Rattle.device.specs.Cells.{isSet, healthAt}
-use Rattle.device.specs.Machine.{Event, command, step, mediaError, powerCut, comreset, hardwareReset, softwareReset, grade}
+use Rattle.machine.specs.Machine.{Event, command, step, mediaError, powerCut, comreset, hardwareReset, softwareReset, grade}
 use Rattle.device.specs.Sights.{see, gone}
-use Rattle.device.specs.Steps.{woundUp}
+use Rattle.steps.specs.Steps.{woundUp}
 use Rattle.device.specs.declared.Device.{Device}
 use Rattle.device.specs.declared.Note.the-variants.{Empty, Full}
 use Rattle.device.specs.declared.Note.{Note}

@@ -2,10 +2,10 @@
 use Prim.Native.Nat.{ℕ, zero, suc, _≤_, _<_}
 use mathlib.Core.Bool.{Bool, true, false, _&&_}
 use mathlib.Core.Path.{_≡_}
-use Rattle.device.specs.Machine.{Event, command, step, mediaError, powerCut, comreset, hardwareReset, softwareReset, grade, rule, told}
-use Rattle.device.specs.Remove.{identifierOf}
+use Rattle.machine.specs.Machine.{Event, command, step, mediaError, powerCut, comreset, hardwareReset, softwareReset, grade, rule, told}
+use Rattle.removal.specs.Remove.{identifierOf}
 use Rattle.device.specs.Sights.{see, gone}
-use Rattle.device.specs.Steps.{woundUp}
+use Rattle.steps.specs.Steps.{woundUp}
 use Rattle.device.specs.declared.Device.{Device}
 use Rattle.device.specs.declared.Mark.the-variants.{Clear, Set}
 use Rattle.device.specs.declared.Note.the-variants.{Empty, Full}

@@ -2,7 +2,7 @@
 use Prim.Native.Nat.{ℕ}
 use mathlib.Core.List.{List, [], _∷_}
 use mathlib.Core.Path.{_≡_}
-use Rattle.device.specs.Machine.{Event, rule, told}
+use Rattle.machine.specs.Machine.{Event, rule, told}
 use Rattle.device.specs.declared.Device.{Device}
 use Rattle.device.specs.declared.Store.{Store}
 use Rattle.paper.specs.Answers.{numberOf}

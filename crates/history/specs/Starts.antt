@@ -5,8 +5,8 @@ use mathlib.Core.List.{map}
 use mathlib.Core.Path.{_≡_}
 use lib.ListN.{length, take}
 use Rattle.device.specs.Cells.{healthAt}
-use Rattle.device.specs.Machine.{powerCut}
-use Rattle.device.specs.Making.{madeOf}
+use Rattle.machine.specs.Machine.{powerCut}
+use Rattle.machine.specs.Making.{madeOf}
 use Rattle.device.specs.declared.Device.{Device}
 use Rattle.device.specs.declared.Note.the-variants.{Empty, Full}
 use Rattle.device.specs.declared.Note.{Note}

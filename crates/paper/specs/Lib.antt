@@ -2,4 +2,5 @@
 pub mod Answers
 pub mod Elements
 pub mod Registers
+pub mod Table12
 pub mod Told

@@ -2,6 +2,7 @@
 ghost use mathlib.Core.Path.{_≡_};
 ghost use Rattle.paper.specs.Answers.{numberOf, senseOf};
 ghost use Rattle.paper.specs.Registers.{low48};
+ghost use Rattle.paper.specs.Table12.{aborts, rowOf, columnOf};
 
 // "An element identifier, a logical block address and a page count are three quantities kept apart."
 pub struct ElementId(pub u32);
@@ -15,6 +16,12 @@ pub enum Security {
     Locked,
     Unlocked,
     Frozen,
+}
+
+// Its rows.
+pub enum Command {
+    Remove,
+    Status,
 }
 
 // What a device call says. The page reader's 9 has a byte place and an answer of its own.
@@ -44,6 +51,9 @@ pub enum Sensed {
     Codes(Sense),
 }
 
+// 000, table 12: the command's row by the security state's column; 1 is aborted.
+const ABORTED: [[u8; 3]; 2] = [[1, 0, 0], [0, 0, 0]];
+
 impl Lba {
     // The 48 bits of an LBA register that count.
     pub fn low48(self) -> Lba
@@ -51,6 +61,34 @@ impl Lba {
     {
         Lba(self.0 % 281474976710656)
     }
+}
+
+fn row(command: Command) -> usize
+    ensures { λ r. ⌜ r ≡ rowOf command ⌝ }
+{
+    match command {
+        Command::Remove => 0,
+        Command::Status => 1,
+    }
+}
+
+fn column(security: Security) -> usize
+    ensures { λ r. ⌜ r ≡ columnOf security ⌝ }
+{
+    match security {
+        Security::Locked => 0,
+        Security::Unlocked => 1,
+        Security::Frozen => 2,
+    }
+}
+
+// Whether a command is aborted in a security state.
+pub fn is_aborted(command: Command, security: Security) -> bool
+    ensures { λ r. ⌜ r ≡ aborts command security ⌝ }
+{
+    let i = row(command);
+    let j = column(security);
+    ABORTED[i][j] == 1
 }
 
 // The number of an answer in document 01's table.

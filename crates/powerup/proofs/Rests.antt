@@ -1,8 +1,8 @@
 -- Powering up comes to rest: with a removal under way by the four steps, and without one since a cut and a step then change nothing.
 use mathlib.Core.Path.{_≡_, refl, ap, _∙_}
-use Rattle.device.specs.Machine.{step, powerCut, told}
+use Rattle.machine.specs.Machine.{step, powerCut, told}
 use Rattle.device.specs.Rulings.{carriedOut}
-use Rattle.device.specs.Steps.{ruleStep, ruleStop}
+use Rattle.steps.specs.Steps.{ruleStep, ruleStop}
 use Rattle.device.specs.declared.Device.{Device}
 use Rattle.device.specs.declared.Note.the-variants.{Empty, Full}
 use Rattle.device.specs.declared.Note.{Note}

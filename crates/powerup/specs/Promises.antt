@@ -1,6 +1,6 @@
 -- "After a cut during a removal, four undisturbed steps bring that about": of the code that powers a device up.
 use mathlib.Core.Path.{_≡_}
-use Rattle.device.specs.Machine.{step, powerCut}
+use Rattle.machine.specs.Machine.{step, powerCut}
 use Rattle.device.specs.declared.Device.{Device}
 use Rattle.device.specs.declared.Note.the-variants.{Empty}
 use Rattle.history.specs.Promise.{Promise}

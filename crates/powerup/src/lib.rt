@@ -8,14 +8,14 @@ use device::Device;
 pub fn power_up(d: Device) -> Device
     ensures { λ r. ⌜ r ≡ after d powerUp ⌝ }
 {
-    let cut = d.power_cut();
+    let cut = machine::power_cut(d);
     let a = cut.device;
-    let first = a.step();
+    let first = machine::step(a);
     let b = first.device;
-    let second = b.step();
+    let second = machine::step(b);
     let c = second.device;
-    let third = c.step();
+    let third = machine::step(c);
     let e = third.device;
-    let fourth = e.step();
+    let fourth = machine::step(e);
     fourth.device
 }

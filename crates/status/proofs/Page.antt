@@ -10,10 +10,10 @@ use lib.ListN.{length, take, drop, getD, set, replicate, length-append, length-m
 use lib.Seq.{length-take-le, take-length, take-suc-set, getD-take, drop-drop}
 use borrow.Author.Tests.{lt-ltb, le-ltb, ltb-false, le-leb, eq-eqb, ne-eqb}
 use borrow.Rule.Slice.PartMut.{putMid}
-use Rattle.device.specs.Cells.{healthAt}
+use Rattle.device.specs.Cells.{healthAt, removedNumber}
 use Rattle.device.specs.Commands.{statusNumber}
-use Rattle.device.specs.Remove.{aborts, removedNumber}
-use Rattle.device.specs.declared.Command.the-variants.{Status}
+use Rattle.paper.specs.Table12.{aborts}
+use Rattle.paper.specs.declared.Command.the-variants.{Status}
 use Rattle.device.specs.declared.Device.{Device}
 use Rattle.device.specs.declared.Note.the-variants.{Empty, Full}
 use Rattle.device.specs.declared.Note.{Note}

@@ -11,13 +11,13 @@ ghost use Rattle.layout.specs.Bytes.{headerBytes, descriptorBytes, returnedOf};
 ghost use Rattle.layout.specs.Requests.{pagesOf};
 ghost use Rattle.status.specs.Page.{capacityOf, shownOf, asks, busyOf, headed, pageOf, shown};
 use device::Cells;
-use device::Command;
 use device::Device;
 use device::Note;
 use layout::Descriptor;
 use layout::Header;
 use layout::Request;
 use paper::Answer;
+use paper::Command;
 use paper::ElementId;
 use paper::PageCount;
 use paper::Security;
@@ -172,7 +172,7 @@ fn fill(t: Table, c: Cells, request: Request, buf: &mut [u8])
 pub fn judge(security: Security, request: Request, room: usize) -> Answer
     ensures { λ r. ⌜ numberOf r ≡ statusNumber security request room ⌝ }
 {
-    if device::is_aborted(Command::Status, security) {
+    if paper::is_aborted(Command::Status, security) {
         return Answer::SecurityLocked;
     }
     if request.is_refused() {

@@ -1,6 +1,6 @@
 -- `device::Device::see`: what the table and the cell of the place say.
 use borrow.Author.Needs.{needs}
-use Rattle.device.proofs.Rules.{seen}
+use Rattle.device.proofs.Sights.{seen}
 use Rattle.device.proofs.Device.see.Statement.{statement}
 use Rattle.device.proofs.Device.see.Tie as tie
 

@@ -1,0 +1,2 @@
+-- The removal of an element: its checks.
+pub mod Remove

@@ -1,0 +1,72 @@
+-- Document 01, "REMOVE ELEMENT AND TRUNCATE (7Ch)": the checks in order. Differences are written as sums, so that none is cut off at 0.
+use Prim.Native.Nat.{ℕ, _+_, _-_, _*_}
+use mathlib.Core.Bool.{Bool, cond, not, _&&_}
+use lib.Dec.{leb, ltb, eqb}
+use Rattle.paper.specs.Elements.{removedHealth}
+use Rattle.paper.specs.Registers.{low48}
+use Rattle.paper.specs.Table12.{aborts}
+use Rattle.paper.specs.declared.ElementId.{ElementId}
+use Rattle.paper.specs.declared.Lba.{Lba}
+use Rattle.paper.specs.declared.Security.{Security}
+use Rattle.table.specs.Elements.{isStorage}
+use Rattle.device.specs.Cells.{underWay, busyNumber, removedNumber}
+use Rattle.device.specs.Rulings.{Ruled, quiet, says, stores, goes}
+use Rattle.device.specs.Sights.{see}
+use Rattle.paper.specs.declared.Command.the-variants.{Remove}
+use Rattle.device.specs.declared.Device.{Device}
+use Rattle.device.specs.declared.Mark.the-variants.{Clear}
+use Rattle.device.specs.declared.Position.the-variants.{Work1}
+use Rattle.device.specs.declared.Position.{Position}
+use Rattle.device.specs.declared.Removal.{Removal}
+use Rattle.device.specs.declared.Seen.{Seen}
+use Rattle.device.specs.declared.Store.the-variants.{FailedTo, Noted}
+
+-- "Identifier = FEATURE x 65,536 + COUNT"
+abbrev pub identifierOf : ℕ → ℕ → ElementId
+identifierOf feature count = record { 0 = feature * 65536 + count }
+
+-- 5: "limit not 0 and as many elements already FFh"
+abbrev pub limitMet : ℕ → ℕ → Bool
+limitMet limit removed = not (eqb limit 0) && leb limit removed
+
+-- 6: "native max minus the element's blocks is below 1"
+abbrev pub tooSmall : ℕ → ℕ → Bool
+tooSmall native blocks = ltb native (blocks + 1)
+
+-- 7: "LBA, if not 0, above that difference"
+abbrev pub tooHigh : ℕ → ℕ → ℕ → Bool
+tooHigh native blocks lba = not (eqb lba 0) && ltb native (lba + blocks)
+
+-- "The new maximum is the LBA, or that difference if the LBA is 0."
+abbrev pub orDifference : ℕ → Lba → Lba
+orDifference difference lba = cond (eqb (lba .0) 0) (record { 0 = difference }) lba
+
+abbrev pub removalOf : Lba → ElementId → Lba → ℕ → Removal
+removalOf native id lba blocks = record { element = id; old = native; new = orDifference (native .0 - blocks) lba }
+
+-- checks 6 and 7; "Acceptance makes one store: the note."
+unfoldable pub judgeRoom : Position → Lba → ElementId → Lba → ℕ → Ruled
+judgeRoom p native id lba blocks =
+    cond (tooSmall (native .0) blocks) (quiet 4 p)
+    (cond (tooHigh (native .0) blocks (lba .0)) (quiet 4 p)
+    (goes (Noted (removalOf native id lba blocks)) Work1))
+
+-- 3: "identifier not in the table, or type not 01h: 4"
+-- 4: "health FFh: 0; no element or address changes, but a failed mark is cleared"
+-- then 5, and 6 and 7
+unfoldable pub judgeFound : Device → ElementId → Lba → Seen → Ruled
+judgeFound d id lba s =
+    cond (not (s .hit && isStorage (s .part))) (says 4 d)
+    (cond (removedHealth (s .health)) (stores (FailedTo Clear) d)
+    (cond (limitMet (d .table .limit) (removedNumber d)) (says 4 d)
+    (judgeRoom (d .position) (d .cells .native) id lba (s .part .blocks))))
+
+-- 1: "security state locked: 1"; 2: "removal under way: 2"
+abbrev pub judge : Device → Security → ElementId → Lba → Ruled
+judge d security id lba =
+    cond (aborts Remove security) (says 1 d)
+    (cond (underWay d) (says (busyNumber d) d)
+    (judgeFound d id lba (see d id)))
+
+abbrev pub ruleRemove : Device → Security → ℕ → ℕ → Lba → Ruled
+ruleRemove d security feature count lba = judge d security (identifierOf feature count) (low48 lba)

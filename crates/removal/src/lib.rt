@@ -1,0 +1,103 @@
+// REMOVE ELEMENT AND TRUNCATE (7Ch): its seven checks, in document 01's order.
+ghost use mathlib.Core.Path.{_≡_};
+ghost use Rattle.device.specs.Rulings.{ruled};
+ghost use Rattle.removal.specs.Remove as remove;
+use device::Device;
+use device::Mark;
+use device::Position;
+use device::Removal;
+use device::Ruling;
+use device::Seen;
+use device::Store;
+use device::goes;
+use device::quiet;
+use paper::Answer;
+use paper::Command;
+use paper::ElementId;
+use paper::Lba;
+use paper::Security;
+
+// FEATURE x 65,536 + COUNT.
+fn identifier(feature: u16, count: u16) -> ElementId
+    ensures { λ r. ⌜ r ≡ remove.identifierOf feature count ⌝ }
+{
+    ElementId((feature as u32) * 65536 + (count as u32))
+}
+
+// The LBA, or the difference if the LBA is 0.
+fn new_max(difference: u64, lba: Lba) -> Lba
+    ensures { λ r. ⌜ r ≡ remove.orDifference difference lba ⌝ }
+{
+    if lba.0 == 0 { Lba(difference) } else { lba }
+}
+
+// Whether a limit is reported and as many elements are at FFh.
+fn limit_met(limit: u16, removed: u16) -> bool
+    ensures { λ r. ⌜ r ≡ remove.limitMet limit removed ⌝ }
+{
+    if limit == 0 {
+        return false;
+    }
+    limit <= removed
+}
+
+// Checks 6 and 7.
+fn judge_room(at: Position, old: Lba, id: ElementId, lba: Lba, blocks: u64) -> Ruling
+    ensures { λ r. ⌜ ruled r ≡ remove.judgeRoom at old id lba blocks ⌝ }
+{
+    if old.0 <= blocks {
+        return quiet(Answer::InvalidField, at);
+    }
+    let difference = old.0 - blocks;
+    if difference < lba.0 {
+        return quiet(Answer::InvalidField, at);
+    }
+    let new = new_max(difference, lba);
+    goes(
+        Store::Noted(Removal {
+            element: id,
+            old,
+            new,
+        }),
+        Position::Work1,
+    )
+}
+
+// Checks 3 to 7.
+fn judge_found(d: Device, id: ElementId, lba: Lba, s: Seen) -> Ruling
+    ensures { λ r. ⌜ ruled r ≡ remove.judgeFound d id lba s ⌝ }
+{
+    let at = d.position;
+    if !s.hit {
+        return quiet(Answer::InvalidField, at);
+    }
+    if s.part.kind != 1 {
+        return quiet(Answer::InvalidField, at);
+    }
+    if s.health == 0xFF {
+        return goes(Store::FailedTo(Mark::Clear), at);
+    }
+    let healths = d.cells.healths;
+    if limit_met(d.table.limit, table::removed(healths, d.table.count)) {
+        return quiet(Answer::InvalidField, at);
+    }
+    let old = d.cells.native;
+    judge_room(at, old, id, lba, s.part.blocks)
+}
+
+// What 7Ch rules: checks 1 and 2, then the others.
+pub fn rule_remove(d: Device, security: Security, feature: u16, count: u16, lba: Lba) -> Ruling
+    ensures { λ r. ⌜ ruled r ≡ remove.ruleRemove d security feature count lba ⌝ }
+{
+    let at = d.position;
+    if paper::is_aborted(Command::Remove, security) {
+        return quiet(Answer::SecurityLocked, at);
+    }
+    if d.is_under_way() {
+        return quiet(Answer::InProgress, at);
+    }
+    let id = identifier(feature, count);
+    let low = lba.low48();
+    let s = d.see(id);
+    judge_found(d, id, low, s)
+}

@@ -1,0 +1,2 @@
+-- What is proved of steps and grades.
+pub mod Rules

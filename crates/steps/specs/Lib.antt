@@ -1,0 +1,2 @@
+-- The steps of a removal, winding up, and grades.
+pub mod Steps

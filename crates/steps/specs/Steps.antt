@@ -1,0 +1,87 @@
+-- Document 01: "Work steps", "Winding up" and "Grade".
+use Prim.Native.Nat.{ℕ}
+use mathlib.Core.Bool.{cond, not, _||_}
+use mathlib.Core.Path.{_≡_}
+use Rattle.paper.specs.Elements.{removedHealth, gradedHealth}
+use Rattle.paper.specs.declared.ElementId.{ElementId}
+use Rattle.paper.specs.declared.Lba.{Lba}
+use Rattle.device.specs.Rulings.{Ruled, quiet, says, stores, goes}
+use Rattle.device.specs.Sights.{see, gone}
+use Rattle.device.specs.declared.Device.{Device}
+use Rattle.device.specs.declared.Mark.the-variants.{Clear, Set}
+use Rattle.device.specs.declared.Note.the-variants.{Empty, Full}
+use Rattle.device.specs.declared.Note.{Note}
+use Rattle.device.specs.declared.Position.the-variants.{Work1, Work2, Work3, Work4, Work5, Wind1, Wind2, Wind3, Wind4}
+use Rattle.device.specs.declared.Position.{Position}
+use Rattle.device.specs.declared.Removal.{Removal}
+use Rattle.device.specs.declared.Seen.{Seen}
+use Rattle.device.specs.declared.Store.the-variants.{Nothing, NativeTo, AccessibleTo, Marked, Graded, FailedTo, NoteEmptied}
+use Rattle.device.specs.declared.Store.{Store}
+
+-- "both to the new value if the noted element is FFh, else the old"; one that is not there is not
+abbrev pub woundTo : Seen → Removal → Lba
+woundTo s w = cond (gone s) (w .new) (w .old)
+
+-- "health := FFh, the marking store"; no such element, no store
+abbrev pub marking : Seen → Store
+marking s = cond (s .hit) (Marked (s .place)) Nothing
+
+-- "(1) native max := new; (2) accessible max := new; (3) health := FFh, the marking store; (4) failed mark cleared; (5) note emptied"
+-- "(1) native, (2) accessible ..; (3) failed mark set; (4) note emptied"
+abbrev pub storeFrom : Seen → Removal → Position → Store
+storeFrom s w Work1 = NativeTo (w .new)
+storeFrom s w Work2 = AccessibleTo (w .new)
+storeFrom s w Work3 = marking s
+storeFrom s w Work4 = FailedTo Clear
+storeFrom s w Work5 = NoteEmptied
+storeFrom s w Wind1 = NativeTo (woundTo s w)
+storeFrom s w Wind2 = AccessibleTo (woundTo s w)
+storeFrom s w Wind3 = FailedTo Set
+storeFrom s w Wind4 = NoteEmptied
+
+-- with the noted element as it is seen now
+abbrev pub storeAt : Device → Removal → Position → Store
+storeAt d w p = storeFrom (see d (w .element)) w p
+
+abbrev pub woundUp : Device → Removal → Lba
+woundUp d w = woundTo (see d (w .element)) w
+
+-- the step after; the last ones lead to the first work step, where the position rests while the note is empty
+abbrev pub nextOf : Position → Position
+nextOf Work1 = Work2
+nextOf Work2 = Work3
+nextOf Work3 = Work4
+nextOf Work4 = Work5
+nextOf Work5 = Work1
+nextOf Wind1 = Wind2
+nextOf Wind2 = Wind3
+nextOf Wind3 = Wind4
+nextOf Wind4 = Work1
+
+-- "A work step .. with an empty note answers 10"
+abbrev pub ruleStep : Device → Note → Ruled
+ruleStep d Empty = says 10 d
+ruleStep d (Full w) = goes (storeAt d w (d .position)) (nextOf (d .position))
+
+-- "A media error or a power cut while the note is full answers 0, makes no store and sets the position to the first winding-up step";
+-- with an empty note it answers `idle`: "media error .. 10; a power cut then answers 0 and changes nothing"
+abbrev pub ruleStop : Position → ℕ → Note → Ruled
+ruleStop p idle Empty = quiet idle p
+ruleStop p idle (Full w) = goes Nothing Wind1
+
+-- "Unknown identifier, element at FFh, or a value above CFh: 11."
+unfoldable pub gradeSeen : Device → ℕ → Seen → Ruled
+gradeSeen d h s = cond (not (s .hit) || (removedHealth (s .health) || not (gradedHealth h))) (says 11 d) (stores (Graded (s .place) h) d)
+
+abbrev pub ruleGrade : Device → ElementId → ℕ → Ruled
+ruleGrade d id h = gradeSeen d h (see d id)
+
+-- ## What the code need not look at
+
+-- the step's store is the same from either
+abbrev pub Alike : Position → Seen → Seen → Type 0
+Alike p x y = (w : Removal) → storeFrom x w p ≡ storeFrom y w p
+
+-- the step need not look at the noted element
+abbrev pub Blind : Position → Type 0
+Blind p = (x y : Seen) → Alike p x y

@@ -1,0 +1,156 @@
+// Work steps, winding up and grades: what each rules.
+ghost use mathlib.Core.Path.{_≡_};
+ghost use mathlib.Core.Bool.{false};
+ghost use Rattle.paper.specs.Answers.{numberOf};
+ghost use Rattle.device.specs.Rulings.{ruled};
+ghost use Rattle.device.specs.Sights.{see};
+ghost use Rattle.steps.specs.Steps as steps;
+use device::Device;
+use device::Mark;
+use device::Note;
+use device::Position;
+use device::Removal;
+use device::Ruling;
+use device::Seen;
+use device::Store;
+use device::goes;
+use device::quiet;
+use paper::Answer;
+use paper::ElementId;
+use paper::Lba;
+use table::Part;
+
+// The step after this one.
+fn next_of(at: Position) -> Position
+    ensures { λ r. ⌜ r ≡ steps.nextOf at ⌝ }
+{
+    match at {
+        Position::Work1 => Position::Work2,
+        Position::Work2 => Position::Work3,
+        Position::Work3 => Position::Work4,
+        Position::Work4 => Position::Work5,
+        Position::Work5 => Position::Work1,
+        Position::Wind1 => Position::Wind2,
+        Position::Wind2 => Position::Wind3,
+        Position::Wind3 => Position::Wind4,
+        Position::Wind4 => Position::Work1,
+    }
+}
+
+// Whether a step looks at the noted element: the marking one, and the first two of winding up.
+fn does_look(at: Position) -> bool
+    ensures { λ r. ⌜ (r ≡ false → steps.Blind at) ⌝ }
+{
+    match at {
+        Position::Work1 => false,
+        Position::Work2 => false,
+        Position::Work3 => true,
+        Position::Work4 => false,
+        Position::Work5 => false,
+        Position::Wind1 => true,
+        Position::Wind2 => true,
+        Position::Wind3 => false,
+        Position::Wind4 => false,
+    }
+}
+
+// The marking store; no such element, no store.
+fn marking(s: Seen) -> Store
+    ensures { λ r. ⌜ r ≡ steps.marking s ⌝ }
+{
+    if s.hit {
+        Store::Marked(s.place)
+    } else {
+        Store::Nothing
+    }
+}
+
+// Where winding up takes the addresses.
+fn wound_to(s: Seen, w: Removal) -> Lba
+    ensures { λ r. ⌜ r ≡ steps.woundTo s w ⌝ }
+{
+    let new = w.new;
+    let old = w.old;
+    if !s.hit {
+        return old;
+    }
+    if s.health == 0xFF { new } else { old }
+}
+
+// The store of a step.
+fn store_from(s: Seen, w: Removal, at: Position) -> Store
+    ensures { λ r. ⌜ r ≡ steps.storeFrom s w at ⌝ }
+{
+    let new = w.new;
+    match at {
+        Position::Work1 => Store::NativeTo(new),
+        Position::Work2 => Store::AccessibleTo(new),
+        Position::Work3 => marking(s),
+        Position::Work4 => Store::FailedTo(Mark::Clear),
+        Position::Work5 => Store::NoteEmptied,
+        Position::Wind1 => Store::NativeTo(wound_to(s, w)),
+        Position::Wind2 => Store::AccessibleTo(wound_to(s, w)),
+        Position::Wind3 => Store::FailedTo(Mark::Set),
+        Position::Wind4 => Store::NoteEmptied,
+    }
+}
+
+// What a step sees of the noted element, or something blank where it need not look.
+fn look(d: Device, id: ElementId, at: Position) -> Seen
+    ensures { λ r. ⌜ steps.Alike at r (see d id) ⌝ }
+{
+    if does_look(at) {
+        return d.see(id);
+    }
+    Seen {
+        part: Part {
+            id: ElementId(0),
+            kind: 0,
+            unreported: false,
+            blocks: 0,
+        },
+        place: 0,
+        health: 0,
+        hit: false,
+    }
+}
+
+// A work step, or a step of winding up.
+pub fn rule_step(d: Device) -> Ruling
+    ensures { λ r. ⌜ ruled r ≡ steps.ruleStep d (d .cells .note) ⌝ }
+{
+    let cells = d.cells;
+    let note = cells.note;
+    let at = d.position;
+    match note {
+        Note::Empty => quiet(Answer::NoRemoval, at),
+        Note::Full(w) => goes(store_from(look(d, w.element, at), w, at), next_of(at)),
+    }
+}
+
+// An error or a cut: to the first winding-up step if a removal is under way, else this answer.
+pub fn rule_stop(note: Note, at: Position, idle: Answer) -> Ruling
+    ensures { λ r. ⌜ ruled r ≡ steps.ruleStop at (numberOf idle) note ⌝ }
+{
+    match note {
+        Note::Empty => quiet(idle, at),
+        Note::Full(_) => goes(Store::Nothing, Position::Wind1),
+    }
+}
+
+pub fn rule_grade(d: Device, id: ElementId, health: u8) -> Ruling
+    ensures { λ r. ⌜ ruled r ≡ steps.ruleGrade d id health ⌝ }
+{
+    let at = d.position;
+    let s = d.see(id);
+    if !s.hit {
+        return quiet(Answer::GradeRefused, at);
+    }
+    if s.health == 0xFF {
+        return quiet(Answer::GradeRefused, at);
+    }
+    if 0xCF < health {
+        return quiet(Answer::GradeRefused, at);
+    }
+    goes(Store::Graded(s.place, health), at)
+}
