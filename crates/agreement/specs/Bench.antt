@@ -6,7 +6,7 @@ use mathlib.Core.List.{List, [], _∷_, _++_, map}
 use lib.Dec.{eqb}
 use lib.ListN.{replicate}
 use Rattle.commands.specs.Lent.{lent}
-use Rattle.machine.specs.Examples.{Row, row, rows, holds, run, deviceA, asBuilt}
+use Rattle.machine.specs.Examples.{registers, Row, row, rows, holds, run, deviceA, asBuilt}
 use Rattle.machine.specs.Machine.{Event, command, step, mediaError, powerCut, comreset, hardwareReset, softwareReset, grade}
 use Rattle.device.specs.declared.Device.{Device}
 use Rattle.paper.specs.declared.Security.the-variants.{Unlocked}
@@ -18,7 +18,7 @@ pub record Example : Type 0 where
 
 -- only a command is lent a buffer
 abbrev pub leaves : Device → Event → List ℕ → List ℕ
-leaves d (command s code feature count lba room) buf = lent d s code feature count lba buf
+leaves d (command s r room) buf = lent d s r buf
 leaves d step buf = buf
 leaves d mediaError buf = buf
 leaves d powerCut buf = buf
@@ -47,7 +47,7 @@ old = replicate 512 0xA5
 
 abbrev pub get : ℕ → ℕ → ℕ → ℕ → List ℕ → Example
 get feature count lba number bytes =
-    record { line = row deviceA [] (command Unlocked 0x12 feature count (record { 0 = lba }) 512) number 2999 asBuilt false false; before = old; after = bytes }
+    record { line = row deviceA [] (command Unlocked (registers 0x12 feature count lba) 512) number 2999 asBuilt false false; before = old; after = bytes }
 
 abbrev pub zeros : ℕ → List ℕ
 zeros n = replicate n 0

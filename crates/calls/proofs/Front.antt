@@ -5,27 +5,32 @@ use mathlib.Core.Path.{_≡_, sym, ap, _∙_}
 use lib.ListN.{length}
 use borrow.Author.Tests.{eq-eqb, ne-eqb}
 use Rattle.commands.specs.Lent.{lent}
+use Rattle.device.specs.Commands.{asked}
 use Rattle.machine.specs.Machine.{command, told}
 use Rattle.device.specs.declared.Device.{Device}
 use Rattle.layout.specs.declared.Request.{Request}
+use Rattle.paper.specs.Registers.{Registers}
 use Rattle.paper.specs.Told.{Told, said}
 use Rattle.paper.specs.declared.Answer.{Answer}
 use Rattle.paper.specs.declared.Lba.{Lba}
 use Rattle.paper.specs.declared.Security.{Security}
 use Rattle.status.specs.Page.{shown}
 
-module _ (d e : Device) (s : Security) (code feature count : ℕ) (lba : Lba) (buf : List ℕ) (a : Answer)
-    (is : said a e ≡ told d (command s code feature count lba (length buf))) where
-  abbrev Front : List ℕ → Type 0
-  Front out = (said a e ≡ told d (command s code feature count lba (length buf))) × (out ≡ lent d s code feature count lba buf)
+abbrev pub registers : ℕ → ℕ → ℕ → Lba → Registers
+registers code feature count lba = record { code = code; feature = feature; count = count; lba = lba }
 
-  pub front-other : (code ≡ 0x12 → ⊥) → Front buf
+module _ (d e : Device) (s : Security) (r : Registers) (buf : List ℕ) (a : Answer)
+    (is : said a e ≡ told d (command s r (length buf))) where
+  abbrev Front : List ℕ → Type 0
+  Front out = (said a e ≡ told d (command s r (length buf))) × (out ≡ lent d s r buf)
+
+  pub front-other : (r .code ≡ 0x12 → ⊥) → Front buf
   front-other n = (is, sym (rw (ne-eqb _ _ n)))
 
-  module _ (is-status : code ≡ 0x12) where
+  module _ (is-status : r .code ≡ 0x12) where
     unchanged : e ≡ d
     unchanged = ap (λ (t : Told Device). t .state) is ∙ rw is-status
 
-    pub front-status : (q : Request) → q ≡ record { feature = feature; count = record { 0 = count }; lba = lba }
+    pub front-status : (q : Request) → q ≡ asked r
         → (b : Answer) (out : List ℕ) → said b out ≡ shown e s q buf → Front out
     front-status q is-q b out page = (is, ap (λ (t : Told (List ℕ)). t .state) page ∙ rw (unchanged, is-q) (sym (rw (eq-eqb _ _ is-status))))

@@ -11,8 +11,8 @@ use Rattle.calls.specs.Offered.{madeFrom}
 use Rattle.calls.specs.Promises.{One-command, One-fits, Judged-alike}
 
 one-command : One-command
-one-command d s code feature count lba buf a b x y u v p q =
-    let same : (a ≡ b) × (x ≡ y) = told-once (told d (command s code feature count lba (length buf))) a b x y (p .0) (q .0) in
+one-command d s r buf a b x y u v p q =
+    let same : (a ≡ b) × (x ≡ y) = told-once (told d (command s r (length buf))) a b x y (p .0) (q .0) in
     (same .0, same .1, p .1 ∙ sym (q .1))
 
 pub one-fits : One-fits
@@ -20,7 +20,7 @@ one-fits =
     record {
       changing = one-answer;
       command = one-command;
-      judging = λ d code feature count lba a b p q. number-injective a b (p ∙ sym q);
+      judging = λ d r a b p q. number-injective a b (p ∙ sym q);
       showing = one-page;
       checking = λ es limit a b p q. verdict-injective a b (p ∙ sym q);
       finding = λ es id a b p q. p ∙ sym q;
@@ -28,4 +28,4 @@ one-fits =
     }
 
 pub judged-alike : Judged-alike
-judged-alike d s code feature count lba room n m = rw (ne-eqb code 0x7C n, ne-eqb code 0x12 m)
+judged-alike d s r room n m = rw (ne-eqb (r .code) 0x7C n, ne-eqb (r .code) 0x12 m)

@@ -11,9 +11,9 @@ use Rattle.machine.specs.Making.{madeOf}
 use Rattle.machine.specs.Promises.{One-answer, Leaves}
 use Rattle.device.specs.declared.Device.{Device}
 use Rattle.paper.specs.Answers.{numberOf}
+use Rattle.paper.specs.Registers.{Registers}
 use Rattle.paper.specs.Told.{tells, said}
 use Rattle.paper.specs.declared.Answer.{Answer}
-use Rattle.paper.specs.declared.Lba.{Lba}
 use Rattle.paper.specs.declared.Security.{Security}
 use Rattle.status.specs.Promises.{One-page}
 use Rattle.table.specs.Check.{verdict, good}
@@ -28,15 +28,15 @@ use Rattle.calls.specs.Offered.{checkList, findList, offerOf, madeFrom}
 
 abbrev pub One-command : Type 0
 One-command =
-    (d : Device) (s : Security) (code feature count : ℕ) (lba : Lba) (buf : List ℕ) (a b : Answer) (x y : Device) (u v : List ℕ)
-    → (said a x ≡ told d (command s code feature count lba (length buf))) × (u ≡ lent d s code feature count lba buf)
-    → (said b y ≡ told d (command s code feature count lba (length buf))) × (v ≡ lent d s code feature count lba buf)
+    (d : Device) (s : Security) (r : Registers) (buf : List ℕ) (a b : Answer) (x y : Device) (u v : List ℕ)
+    → (said a x ≡ told d (command s r (length buf))) × (u ≡ lent d s r buf)
+    → (said b y ≡ told d (command s r (length buf))) × (v ≡ lent d s r buf)
     → (a ≡ b) × (x ≡ y) × (u ≡ v)
 
 abbrev pub One-judgement : Type 0
 One-judgement =
-    (d : Device) (code feature count : ℕ) (lba : Lba) (a b : Answer)
-    → numberOf a ≡ otherNumber d code feature count lba → numberOf b ≡ otherNumber d code feature count lba → a ≡ b
+    (d : Device) (r : Registers) (a b : Answer)
+    → numberOf a ≡ otherNumber d r → numberOf b ≡ otherNumber d r → a ≡ b
 
 abbrev pub One-check : Type 0
 One-check = (es : List Element) (limit : ℕ) (a b : Checked) → verdict a ≡ checkList es limit → verdict b ≡ checkList es limit → a ≡ b
@@ -63,8 +63,8 @@ pub record One-fits : Type 0 where
 
 abbrev pub Judged-alike : Type 0
 Judged-alike =
-    (d : Device) (s : Security) (code feature count : ℕ) (lba : Lba) (room : ℕ) → (code ≡ 0x7C → ⊥) → (code ≡ 0x12 → ⊥)
-    → told d (command s code feature count lba room) ≡ tells (otherNumber d code feature count lba) d
+    (d : Device) (s : Security) (r : Registers) (room : ℕ) → (r .code ≡ 0x7C → ⊥) → (r .code ≡ 0x12 → ⊥)
+    → told d (command s r room) ≡ tells (otherNumber d r) d
 
 -- ## A list
 

@@ -32,7 +32,7 @@ use table::Offer;
 // ---- The device, changed in place
 
 pub fn remove(d: &mut Device, security: Security, feature: u16, count: u16, lba: Lba) -> Answer
-    ensures { λ r. ⌜ said r (now (d .exit)) ≡ told (now (d .entry)) (machine.command security 0x7C feature count lba 0) ⌝ }
+    ensures { λ r. ⌜ said r (now (d .exit)) ≡ told (now (d .entry)) (machine.command security (record { code = 0x7C; feature = feature; count = count; lba = lba }) 0) ⌝ }
 {
     let r = machine::remove(*d, security, feature, count, lba);
     *d = r.device;
@@ -107,8 +107,8 @@ pub fn command(
     buf: &mut [u8],
 ) -> Answer
     ensures { λ r.
-        ⌜ (said r (now (d .exit)) ≡ told (now (d .entry)) (machine.command security code feature count lba (length (now (buf .entry)))))
-        × (now (buf .exit) ≡ lent (now (d .entry)) security code feature count lba (now (buf .entry))) ⌝ }
+        ⌜ (said r (now (d .exit)) ≡ told (now (d .entry)) (machine.command security (record { code = code; feature = feature; count = count; lba = lba }) (length (now (buf .entry)))))
+        × (now (buf .exit) ≡ lent (now (d .entry)) security (record { code = code; feature = feature; count = count; lba = lba }) (now (buf .entry))) ⌝ }
 {
     let r = commands::command(*d, security, code, feature, count, lba, buf.len());
     *d = r.device;
@@ -122,7 +122,7 @@ pub fn command(
 
 // The judgement of the other commands.
 pub fn other_answer(d: &Device, code: u8, feature: u16, count: u16, lba: Lba) -> Answer
-    ensures { λ r. ⌜ numberOf r ≡ otherNumber (now (d .entry)) code feature count lba ⌝ }
+    ensures { λ r. ⌜ numberOf r ≡ otherNumber (now (d .entry)) (record { code = code; feature = feature; count = count; lba = lba }) ⌝ }
 {
     commands::other_answer(*d, code, feature, count, lba)
 }

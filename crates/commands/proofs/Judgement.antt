@@ -8,12 +8,12 @@ use native.Mathlib.Omega.{arith}
 use lib.Dec.{ltb, lit<}
 use borrow.Author.Tests.{eq-eqb, ne-eqb, lt-ltb, le-ltb, ltb-true, ltb-false}
 use Rattle.device.specs.Cells.{underWay, isSet}
-use Rattle.device.specs.Commands.{statusNumber, otherNumber, isMedia, isNamed, isOpen, sectorsOf, isBeyond, mediaNumber}
+use Rattle.device.specs.Commands.{asked, statusNumber, otherNumber, isMedia, isNamed, isOpen, sectorsOf, isBeyond, mediaNumber}
 use Rattle.machine.specs.Machine.{command, ruleCommand, quietNumber, told}
 use Rattle.device.specs.Rulings.{tell}
 use Rattle.device.specs.declared.Device.{Device}
 use Rattle.layout.specs.declared.Request.{Request}
-use Rattle.paper.specs.Registers.{low48}
+use Rattle.paper.specs.Registers.{Registers, low48}
 use Rattle.paper.specs.Told.{Told}
 use Rattle.paper.specs.declared.Lba.{Lba}
 use Rattle.paper.specs.declared.Security.{Security}
@@ -81,23 +81,23 @@ module _ (failed : Bool) (accessible : Lba) (count : ℕ) (lba : Lba) where
     unfolding mediaNumber
     media-done e d is-f is-a = sym (rw (sym is-f ∙ clear, ← is-a, sym is-b ∙ e))
 
-module _ (busy failed : Bool) (accessible : Lba) (code feature count : ℕ) (lba : Lba) where
+module _ (busy failed : Bool) (accessible : Lba) (r : Registers) where
   -- of every device with this mark and this address that is in a removal or not
   abbrev Other : ℕ → Type 0
-  Other k = (d : Device) → busy ≡ underWay d → failed ≡ isSet (d .cells .failed) → accessible ≡ d .cells .accessible → k ≡ otherNumber d code feature count lba
+  Other k = (d : Device) → busy ≡ underWay d → failed ≡ isSet (d .cells .failed) → accessible ≡ d .cells .accessible → k ≡ otherNumber d r
 
-  module _ (s : Bool) (is-s : s ≡ (busy && not (isOpen code feature (lba .0)))) where
+  module _ (s : Bool) (is-s : s ≡ (busy && not (isOpen (r .code) (r .feature) (r .lba .0)))) where
     pub other-shut : s ≡ true → Other 2
     unfolding otherNumber
     other-shut y d is-u is-f is-a = sym (rw (← is-u, sym is-s ∙ y))
 
-    module _ (unshut : s ≡ false) (n : Bool) (is-n : n ≡ isNamed code) where
+    module _ (unshut : s ≡ false) (n : Bool) (is-n : n ≡ isNamed (r .code)) where
       pub other-unknown : n ≡ false → Other 6
       unfolding otherNumber
       other-unknown e d is-u is-f is-a = sym (rw (← is-u, sym is-s ∙ unshut, sym is-n ∙ e))
 
-      module _ (named : n ≡ true) (m : Bool) (is-m : m ≡ isMedia code) where
-        pub other-media : m ≡ true → (k : ℕ) → Media failed accessible count lba k → Other k
+      module _ (named : n ≡ true) (m : Bool) (is-m : m ≡ isMedia (r .code)) where
+        pub other-media : m ≡ true → (k : ℕ) → Media failed accessible (r .count) (r .lba) k → Other k
         unfolding otherNumber
         other-media e k is-k d is-u is-f is-a = is-k d is-f is-a ∙ sym (rw (← is-u, sym is-s ∙ unshut, sym is-n ∙ named, sym is-m ∙ e))
 
@@ -107,14 +107,13 @@ module _ (busy failed : Bool) (accessible : Lba) (code feature count : ℕ) (lba
 
 -- ## Any command
 
-module _ (d : Device) (s : Security) (code feature count : ℕ) (lba : Lba) (room k : ℕ) where
-  pub quiet-status : code ≡ 0x12 → (w : Request) → w ≡ record { feature = feature; count = record { 0 = count }; lba = lba }
-      → k ≡ statusNumber s w room → k ≡ quietNumber d s code feature count lba room
+module _ (d : Device) (s : Security) (r : Registers) (room k : ℕ) where
+  pub quiet-status : r .code ≡ 0x12 → (w : Request) → w ≡ asked r → k ≡ statusNumber s w room → k ≡ quietNumber d s r room
   quiet-status e w is-w is-k = is-k ∙ ap (λ (x : Request). statusNumber s x room) is-w ∙ sym (rw (eq-eqb _ _ e))
 
-  pub quiet-other : (code ≡ 0x12 → ⊥) → k ≡ otherNumber d code feature count lba → k ≡ quietNumber d s code feature count lba room
+  pub quiet-other : (r .code ≡ 0x12 → ⊥) → k ≡ otherNumber d r → k ≡ quietNumber d s r room
   quiet-other n is-k = is-k ∙ sym (rw (ne-eqb _ _ n))
 
-  pub commanded : (t : Told Device) → t ≡ tell d (ruleCommand d s code feature count lba k) → k ≡ quietNumber d s code feature count lba room
-      → t ≡ told d (command s code feature count lba room)
-  commanded t is-t is-k = is-t ∙ ap (λ (n : ℕ). tell d (ruleCommand d s code feature count lba n)) is-k
+  pub commanded : (t : Told Device) → t ≡ tell d (ruleCommand d s r k) → k ≡ quietNumber d s r room
+      → t ≡ told d (command s r room)
+  commanded t is-t is-k = is-t ∙ ap (λ (n : ℕ). tell d (ruleCommand d s r n)) is-k

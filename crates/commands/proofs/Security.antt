@@ -14,4 +14,4 @@ status-runs Unlocked = refl
 status-runs Frozen = refl
 
 pub security-unseen : Security-unseen
-security-unseen d s t code feature count lba buf n = (rw (ne-eqb code 0x7C n, status-runs s, status-runs t), rw (status-runs s, status-runs t))
+security-unseen d s t r buf n = (rw (ne-eqb (r .code) 0x7C n, status-runs s, status-runs t), rw (status-runs s, status-runs t))

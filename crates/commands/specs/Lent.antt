@@ -3,11 +3,11 @@ use Prim.Native.Nat.{ℕ}
 use mathlib.Core.Bool.{cond}
 use mathlib.Core.List.{List}
 use lib.Dec.{eqb}
+use Rattle.device.specs.Commands.{asked}
 use Rattle.device.specs.declared.Device.{Device}
-use Rattle.paper.specs.declared.Lba.{Lba}
+use Rattle.paper.specs.Registers.{Registers}
 use Rattle.paper.specs.declared.Security.{Security}
 use Rattle.status.specs.Page.{shown}
 
-abbrev pub lent : Device → Security → ℕ → ℕ → ℕ → Lba → List ℕ → List ℕ
-lent d security code feature count lba buf =
-    cond (eqb code 0x12) (shown d security (record { feature = feature; count = record { 0 = count }; lba = lba }) buf .state) buf
+abbrev pub lent : Device → Security → Registers → List ℕ → List ℕ
+lent d security r buf = cond (eqb (r .code) 0x12) (shown d security (asked r) buf .state) buf

@@ -5,13 +5,13 @@ use mathlib.Core.Path.{_≡_}
 use lib.ListN.{length}
 use Rattle.machine.specs.Machine.{command, told}
 use Rattle.device.specs.declared.Device.{Device}
-use Rattle.paper.specs.declared.Lba.{Lba}
+use Rattle.paper.specs.Registers.{Registers}
 use Rattle.paper.specs.declared.Security.{Security}
 use Rattle.commands.specs.Lent.{lent}
 
 abbrev pub Security-unseen : Type 0
 Security-unseen =
-    (d : Device) (s t : Security) (code feature count : ℕ) (lba : Lba) (buf : List ℕ)
-    → (code ≡ 0x7C → ⊥)
-    → (told d (command s code feature count lba (length buf)) ≡ told d (command t code feature count lba (length buf)))
-    × (lent d s code feature count lba buf ≡ lent d t code feature count lba buf)
+    (d : Device) (s t : Security) (r : Registers) (buf : List ℕ)
+    → (r .code ≡ 0x7C → ⊥)
+    → (told d (command s r (length buf)) ≡ told d (command t r (length buf)))
+    × (lent d s r buf ≡ lent d t r buf)

@@ -161,7 +161,7 @@ fn judge(
 ) -> Answer
     ensures { λ r.
         ⌜ ((d : Device) → busy ≡ underWay d → failed ≡ isSet (d .cells .failed) → accessible ≡ d .cells .accessible
-        → numberOf r ≡ otherNumber d code feature count lba) ⌝ }
+        → numberOf r ≡ otherNumber d (record { code = code; feature = feature; count = count; lba = lba })) ⌝ }
 {
     if is_shut(busy, code, feature, lba.0) {
         return Answer::InProgress;
@@ -177,7 +177,7 @@ fn judge(
 
 // The same of a device.
 pub fn other_answer(d: Device, code: u8, feature: u16, count: u16, lba: Lba) -> Answer
-    ensures { λ r. ⌜ numberOf r ≡ otherNumber d code feature count lba ⌝ }
+    ensures { λ r. ⌜ numberOf r ≡ otherNumber d (record { code = code; feature = feature; count = count; lba = lba }) ⌝ }
 {
     let busy = d.is_under_way();
     let failed = d.is_failed();
@@ -208,7 +208,7 @@ fn quiet_answer(
     lba: Lba,
     room: usize,
 ) -> Answer
-    ensures { λ r. ⌜ numberOf r ≡ machine.quietNumber d security code feature count lba room ⌝ }
+    ensures { λ r. ⌜ numberOf r ≡ machine.quietNumber d security (record { code = code; feature = feature; count = count; lba = lba }) room ⌝ }
 {
     if code == 0x12 {
         return status::judge(security, asked(feature, count, lba), room);
@@ -230,7 +230,7 @@ pub fn command(
     lba: Lba,
     room: usize,
 ) -> Stepped
-    ensures { λ r. ⌜ said (r .answer) (r .device) ≡ told d (machine.command security code feature count lba room) ⌝ }
+    ensures { λ r. ⌜ said (r .answer) (r .device) ≡ told d (machine.command security (record { code = code; feature = feature; count = count; lba = lba }) room) ⌝ }
 {
     let other = quiet_answer(d, security, code, feature, count, lba, room);
     machine::command(d, security, code, feature, count, lba, other)

@@ -5,7 +5,7 @@ use mathlib.Core.List.{[], _∷_}
 use lib.Dec.{ltb, eqb}
 use Rattle.layout.specs.Requests.{refused, pagesOf}
 use Rattle.layout.specs.declared.Request.{Request}
-use Rattle.paper.specs.Registers.{low48}
+use Rattle.paper.specs.Registers.{Registers, low48}
 use Rattle.paper.specs.Table12.{aborts}
 use Rattle.paper.specs.declared.Lba.{Lba}
 use Rattle.paper.specs.declared.Security.{Security}
@@ -15,6 +15,10 @@ use Rattle.paper.specs.declared.Command.the-variants.{Status}
 use Rattle.device.specs.declared.Device.{Device}
 
 -- ## 12h: "all 4; then the buffer below 512p bytes: 7. Allowed during a removal."; 1 by 000, table 12, where no state aborts it
+
+-- what the registers ask for
+abbrev pub asked : Registers → Request
+asked r = record { feature = r .feature; count = record { 0 = r .count }; lba = r .lba }
 
 abbrev pub statusNumber : Security → Request → ℕ → ℕ
 statusNumber security q room = cond (aborts Status security) 1 (cond (refused q) 4 (cond (ltb room (512 * pagesOf q)) 7 0))
@@ -60,8 +64,8 @@ unfoldable pub mediaNumber : Device → ℕ → Lba → ℕ
 mediaNumber d count lba = cond (isSet (d .cells .failed)) (failedNumber (d .cells .failed)) (cond (isBeyond (d .cells .accessible .0) lba count) 5 0)
 
 -- "Order: not open during a removal: 2; unknown: 6; media access ..; else 0"
-unfoldable pub otherNumber : Device → ℕ → ℕ → ℕ → Lba → ℕ
-otherNumber d code feature count lba =
-    cond (underWay d && not (isOpen code feature (lba .0))) (busyNumber d)
-    (cond (not (isNamed code)) 6
-    (cond (isMedia code) (mediaNumber d count lba) 0))
+unfoldable pub otherNumber : Device → Registers → ℕ
+otherNumber d r =
+    cond (underWay d && not (isOpen (r .code) (r .feature) (r .lba .0))) (busyNumber d)
+    (cond (not (isNamed (r .code))) 6
+    (cond (isMedia (r .code)) (mediaNumber d (r .count) (r .lba)) 0))

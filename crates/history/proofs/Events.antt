@@ -1,13 +1,14 @@
 -- Which events make the note, the marking store, and the store that sets the failed mark: what each ruling's shape tells of its store.
 use Prim.Native.Nat.{ℕ, _<_}
 use mathlib.Core.Bool.{Bool, true, false, cond, not, _&&_, true≢false, false≢true}
-use mathlib.Core.Path.{_≡_, refl, sym, subst, _∙_}
+use mathlib.Core.Path.{_≡_, refl, sym, subst, subst⁻¹, _∙_}
 use native.Mathlib.Omega.{arith}
+use borrow.Author.Tests.{eq-eqb}
 use Rattle.machine.proofs.Shapes.{still, moving, stopping, Shape, quiet, clears, notes, advances, winds, Grading, refuses, grades, each, choose}
 use Rattle.device.specs.Cells.{underWay, removedNumber}
 use Rattle.machine.specs.Machine.{Event, command, step, mediaError, powerCut, comreset, hardwareReset, softwareReset, grade, rule}
 use Rattle.paper.specs.Table12.{aborts}
-use Rattle.removal.specs.Remove.{identifierOf, limitMet, tooSmall, tooHigh, removalOf, judgeRoom, judgeFound}
+use Rattle.removal.specs.Remove.{identifierOf, limitMet, tooSmall, tooHigh, removalOf, judgeRoom, judgeFound, ruleRemove}
 use Rattle.device.specs.Rulings.{Ruled}
 use Rattle.device.specs.Sights.{see, gone}
 use Rattle.steps.specs.Steps.{storeAt, nextOf}
@@ -55,10 +56,12 @@ module _ (d : Device) (id : ElementId) (lba : Lba) where
       (λ _. notes-room (see d id .part .blocks))))
 
 pub acceptance : Acceptance
-acceptance d security feature count lba room z standing =
-    choose (Notes d (identifierOf feature count) (low48 lba)) (aborts Remove security) (λ _ y. absurd (omega arith))
-    (λ _. choose (Notes d (identifierOf feature count) (low48 lba)) (underWay d) (λ _ y. absurd (omega arith))
-    (λ _. notes-found d (identifierOf feature count) (low48 lba) standing)) z
+acceptance d security r room is-7C z standing =
+    let removes : rule d (command security r room) ≡ ruleRemove d security r = rw (eq-eqb _ _ is-7C) in
+    subst⁻¹ (Notes d (identifierOf r) (low48 (r .lba))) removes
+    (choose (Notes d (identifierOf r) (low48 (r .lba))) (aborts Remove security) (λ _ y. absurd (omega arith))
+    (λ _. choose (Notes d (identifierOf r) (low48 (r .lba))) (underWay d) (λ _ y. absurd (omega arith))
+    (λ _. notes-found d (identifierOf r) (low48 (r .lba)) standing))) z
 
 -- ## Stores that one event alone makes
 
@@ -108,7 +111,7 @@ module _ (d : Device) where
   tells-grade e id h r (grades s g) = tt
 
   pub store-tells : (e : Event) → Tells d e (rule d e .next) (rule d e .store)
-  store-tells (command s code feature count lba room) = tells-still _ _ (each d (command s code feature count lba room))
+  store-tells (command s x room) = tells-still _ _ (each d (command s x room))
   store-tells step = tells-moving _ (each d step)
   store-tells mediaError = tells-stop _ _ (each d mediaError)
   store-tells powerCut = tells-stop _ _ (each d powerCut)

@@ -217,7 +217,7 @@ module _ (start : Device) (asc : ascending 0 (identifiers (start .table)) ≡ tr
 
   -- every event keeps it
   pub keep : (e : Event) → Inv start (h ▹ entry d e) (carriedOut d (rule d e))
-  keep (command s code feature count lba room) = keep-shape _ _ (each d (command s code feature count lba room))
+  keep (command s x room) = keep-shape _ _ (each d (command s x room))
   keep step = keep-shape _ _ (each d step)
   keep mediaError = keep-shape _ _ (each d mediaError)
   keep powerCut = keep-shape _ _ (each d powerCut)

@@ -66,7 +66,7 @@ module _ (w : Removal) where
       (on : (k : ℕ) → k < end → (d : Device) → (make (storeAt d w (way k)) (d .cells) .note ≡ d .cells .note) × (nextOf (way k) ≡ way (suc k))) where
     go : (d : Device) → At (way 0) w d → (s : Script) → calm s ≡ true → steps s ≤ end → At (way (steps s)) w (after d s)
     go d o begin c l = o
-    go d o (s ▸ command x code f n i room) c l = stay (way (steps s)) (after d s) (go d o s (both true (calm s) c .1) l) _ (each (after d s) (command x code f n i room))
+    go d o (s ▸ command y x room) c l = stay (way (steps s)) (after d s) (go d o s (both true (calm s) c .1) l) _ (each (after d s) (command y x room))
     go d o (s ▸ step) c l =
         let x : Device = after d s in
         let k = go d o s (both true (calm s) c .1) (omega arith) in
@@ -151,7 +151,7 @@ pub fifth-ends : Fifth-ends
 fifth-ends d e w = fifth w d e
 
 pub stop-winds : Stop-winds
-stop-winds d w n (command x code f m i room) q = absurd (false≢true q)
+stop-winds d w n (command s x room) q = absurd (false≢true q)
 stop-winds d w n step q = absurd (false≢true q)
 stop-winds d w n mediaError q = stopped w d n 10
 stop-winds d w n powerCut q = stopped w d n 0

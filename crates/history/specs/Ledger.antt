@@ -72,7 +72,7 @@ address start (past ▹ x) = addressBy (x .store) (accepted past) (address start
 -- ## "the last accepted grades"
 
 abbrev pub gradedBy : Event → ℕ → ℕ → ℕ → ℕ
-gradedBy (command s code feature count lba room) answer id before = before
+gradedBy (command s x room) answer id before = before
 gradedBy step answer id before = before
 gradedBy mediaError answer id before = before
 gradedBy powerCut answer id before = before

@@ -14,6 +14,7 @@ use Rattle.device.specs.declared.Position.{Position}
 use Rattle.device.specs.declared.Removal.{Removal}
 use Rattle.device.specs.declared.Store.the-variants.{NativeTo, AccessibleTo, Marked, FailedTo, Noted, NoteEmptied}
 use Rattle.device.specs.declared.Store.{Store}
+use Rattle.paper.specs.Registers.{Registers}
 use Rattle.paper.specs.declared.Lba.{Lba}
 use Rattle.paper.specs.declared.Security.{Security}
 use Rattle.table.specs.Elements.{size, identifierAt}
@@ -22,7 +23,7 @@ use Rattle.history.specs.Runs.{Script, begin, _▸_, _▸▸_, after}
 -- ## "Undisturbed": no media error and no power cut; commands, grades and resets may come between the steps
 
 abbrev pub calmEvent : Event → Bool
-calmEvent (command s code feature count lba room) = true
+calmEvent (command s x room) = true
 calmEvent step = true
 calmEvent mediaError = false
 calmEvent powerCut = false
@@ -36,7 +37,7 @@ calm begin = true
 calm (s ▸ e) = calmEvent e && calm s
 
 abbrev pub stepBy : Event → ℕ → ℕ
-stepBy (command s code feature count lba room) n = n
+stepBy (command s x room) n = n
 stepBy step n = suc n
 stepBy mediaError n = n
 stepBy powerCut n = n
@@ -55,9 +56,9 @@ steps (s ▸ e) = stepBy e (steps s)
 -- 7Ch answered 0 for an element that is not at FFh has made the note of it
 abbrev pub Acceptance : Type 0
 Acceptance =
-    (d : Device) (security : Security) (feature count : ℕ) (lba : Lba) (room : ℕ)
-    → told d (command security 0x7C feature count lba room) .number ≡ 0 → gone (see d (identifierOf feature count)) ≡ false
-    → (w : Removal) × (rule d (command security 0x7C feature count lba room) .store ≡ Noted w) × (w .element ≡ identifierOf feature count) × (w .old ≡ d .cells .native)
+    (d : Device) (security : Security) (r : Registers) (room : ℕ) → r .code ≡ 0x7C
+    → told d (command security r room) .number ≡ 0 → gone (see d (identifierOf r)) ≡ false
+    → (w : Removal) × (rule d (command security r room) .store ≡ Noted w) × (w .element ≡ identifierOf r) × (w .old ≡ d .cells .native)
 
 -- ## Which events make the marking store, and the store that sets the failed mark
 
@@ -107,7 +108,7 @@ Fifth-ends =
 
 -- "A media error or a power cut while the note is full .. sets the position to the first winding-up step"
 abbrev pub stops : Event → Bool
-stops (command s code feature count lba room) = false
+stops (command s x room) = false
 stops step = false
 stops mediaError = true
 stops powerCut = true

@@ -4,7 +4,7 @@ use mathlib.Core.Bool.{Bool, true, false, cond, not, _&&_, _||_, true≢false}
 use mathlib.Core.Path.{_≡_, refl}
 use lib.Dec.{eqb}
 use Rattle.paper.specs.Elements.{removedHealth, gradedHealth}
-use Rattle.paper.specs.Registers.{low48}
+use Rattle.paper.specs.Registers.{Registers, low48}
 use Rattle.paper.specs.Table12.{aborts}
 use Rattle.paper.specs.declared.ElementId.{ElementId}
 use Rattle.paper.specs.declared.Lba.{Lba}
@@ -54,7 +54,7 @@ pub data Grading (d : Device) (id : ElementId) (h : ℕ) : Ruled → Type 0 wher
   grades : Standing d id → gradedHealth h ≡ true → Grading d id h (stores (Graded (see d id .place) h) d)
 
 abbrev pub Shaped : Device → Event → Ruled → Type 0
-Shaped d (command s code feature count lba room) r = Shape d still r
+Shaped d (command s x room) r = Shape d still r
 Shaped d step r = Shape d moving r
 Shaped d mediaError r = Shape d stopping r
 Shaped d powerCut r = Shape d stopping r
@@ -107,10 +107,10 @@ module _ (d : Device) where
   idle Empty e = refl
   idle (Full w) e = absurd (true≢false e)
 
-  shape-remove : (s : Security) (feature count : ℕ) (lba : Lba) → Shape d still (ruleRemove d s feature count lba)
-  shape-remove s feature count lba =
+  shape-remove : (s : Security) (x : Registers) → Shape d still (ruleRemove d s x)
+  shape-remove s x =
       choose (Shape d still) (aborts Remove s) (λ _. quiet 1)
-      (λ _. choose (Shape d still) (underWay d) (λ _. quiet 2) (λ e. shape-found (idle (d .cells .note) e) (identifierOf feature count) (low48 lba)))
+      (λ _. choose (Shape d still) (underWay d) (λ _. quiet 2) (λ e. shape-found (idle (d .cells .note) e) (identifierOf x) (low48 (x .lba))))
 
   shape-step : (n : Note) → d .cells .note ≡ n → Shape d moving (ruleStep d n)
   shape-step Empty e = quiet 10
@@ -127,8 +127,8 @@ module _ (d : Device) where
       (λ q. let all = none-of (see d id .hit) (removedHealth (see d id .health)) (gradedHealth h) q in grades (record { hit = all .0; health = all .1 }) (all .2))
 
   pub each : (e : Event) → Shaped d e (rule d e)
-  each (command s code feature count lba room) =
-      choose (Shape d still) (eqb code 0x7C) (λ _. shape-remove s feature count lba) (λ _. quiet _)
+  each (command s x room) =
+      choose (Shape d still) (eqb (x .code) 0x7C) (λ _. shape-remove s x) (λ _. quiet _)
   each step = shape-step (d .cells .note) refl
   each mediaError = shape-stop 10 (d .cells .note) refl
   each powerCut = shape-stop 0 (d .cells .note) refl
@@ -139,7 +139,7 @@ module _ (d : Device) where
 
 -- what holds of every shape holds of every ruling
 pub every : (d : Device) (P : Ruled → Type 0) → ((k : Kind) (r : Ruled) → Shape d k r → P r) → ((id : ElementId) (h : ℕ) (r : Ruled) → Grading d id h r → P r) → (e : Event) → P (rule d e)
-every d P shape grading (command s code feature count lba room) = shape _ _ (each d (command s code feature count lba room))
+every d P shape grading (command s x room) = shape _ _ (each d (command s x room))
 every d P shape grading step = shape _ _ (each d step)
 every d P shape grading mediaError = shape _ _ (each d mediaError)
 every d P shape grading powerCut = shape _ _ (each d powerCut)

@@ -4,6 +4,7 @@ use mathlib.Core.Bool.{Bool, true, false, not, _&&_}
 use mathlib.Core.List.{List, [], _∷_, _++_}
 use lib.Dec.{eqb}
 use lib.ListN.{take, replicate}
+use Rattle.paper.specs.Registers.{Registers}
 use Rattle.paper.specs.declared.Security.the-variants.{Locked, Unlocked, Frozen}
 use Rattle.table.specs.Examples.{offerA}
 use Rattle.device.specs.Cells.{underWay, isSet}
@@ -19,9 +20,13 @@ abbrev pub run : Device → List Event → Device
 run d [] = d
 run d (e ∷ es) = run (told d e .state) es
 
+-- the registers of a command
+abbrev pub registers : ℕ → ℕ → ℕ → ℕ → Registers
+registers code feature count lba = record { code = code; feature = feature; count = count; lba = record { 0 = lba } }
+
 -- 7Ch, unlocked
 abbrev pub remove : ℕ → ℕ → ℕ → Event
-remove feature count lba = command Unlocked 0x7C feature count (record { 0 = lba }) 0
+remove feature count lba = command Unlocked (registers 0x7C feature count lba) 0
 
 abbrev pub steps : ℕ → List Event
 steps n = replicate n step
@@ -109,14 +114,14 @@ rows =
 -- ## The edges: what the examples above do not reach
 
 abbrev pub locked : ℕ → Event
-locked code = command Locked code 1 3 (record { 0 = 0 }) 0
+locked code = command Locked (registers code 1 3 0) 0
 
 -- a media access, and another command
 abbrev pub access : ℕ → ℕ → Event
-access lba count = command Unlocked 0x25 0 count (record { 0 = lba }) 0
+access lba count = command Unlocked (registers 0x25 0 count lba) 0
 
 abbrev pub other : ℕ → ℕ → ℕ → Event
-other code feature lba = command Unlocked code feature 1 (record { 0 = lba }) 512
+other code feature lba = command Unlocked (registers code feature 1 lba) 512
 
 abbrev pub graded : ℕ → ℕ → Event
 graded id h = grade (record { 0 = id }) h
@@ -194,8 +199,8 @@ others =
     ∷ amid (other 0xB0 0xDA 0x77) 0
     ∷ amid (other 0xB0 0xD0 0x30) 2
     -- 12h: 4, then 7; in any security state, and during a removal
-    ∷ amid (command Locked 0x12 0x4100 1 (record { 0 = 0 }) 512) 0
-    ∷ idle (command Frozen 0x12 0 1 (record { 0 = 0 }) 511) 7
-    ∷ idle (command Unlocked 0x12 0 0 (record { 0 = 0 }) 0) 4
-    ∷ idle (command Unlocked 0x12 0x8000 1 (record { 0 = 0 }) 0) 4
+    ∷ amid (command Locked (registers 0x12 0x4100 1 0) 512) 0
+    ∷ idle (command Frozen (registers 0x12 0 1 0) 511) 7
+    ∷ idle (command Unlocked (registers 0x12 0 0 0) 0) 4
+    ∷ idle (command Unlocked (registers 0x12 0x8000 1 0) 0) 4
     ∷ []

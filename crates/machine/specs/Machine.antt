@@ -2,36 +2,33 @@
 use Prim.Native.Nat.{ℕ}
 use mathlib.Core.Bool.{cond}
 use lib.Dec.{eqb}
+use Rattle.paper.specs.Registers.{Registers}
 use Rattle.paper.specs.Told.{Told}
 use Rattle.paper.specs.declared.ElementId.{ElementId}
-use Rattle.paper.specs.declared.Lba.{Lba}
 use Rattle.paper.specs.declared.Security.{Security}
-use Rattle.device.specs.Commands.{statusNumber, otherNumber}
+use Rattle.device.specs.Commands.{asked, statusNumber, otherNumber}
 use Rattle.removal.specs.Remove.{ruleRemove}
 use Rattle.device.specs.Rulings.{Ruled, says, tell}
 use Rattle.steps.specs.Steps.{ruleStep, ruleStop, ruleGrade}
 use Rattle.device.specs.declared.Device.{Device}
 
--- a command comes with the security state, its code, FEATURE, COUNT and LBA, and the length of the lent buffer
+-- a command comes with the security state, its registers, and the length of the lent buffer
 pub data Event : Type 0 where
-  command : Security → ℕ → ℕ → ℕ → Lba → ℕ → Event
+  command : Security → Registers → ℕ → Event
   step mediaError powerCut comreset hardwareReset softwareReset : Event
   grade : ElementId → ℕ → Event
 
 -- 7Ch has a ruling of its own; any other code is answered with a number, and nothing changes
-abbrev pub ruleCommand : Device → Security → ℕ → ℕ → ℕ → Lba → ℕ → Ruled
-ruleCommand d security code feature count lba other = cond (eqb code 0x7C) (ruleRemove d security feature count lba) (says other d)
+abbrev pub ruleCommand : Device → Security → Registers → ℕ → Ruled
+ruleCommand d security r other = cond (eqb (r .code) 0x7C) (ruleRemove d security r) (says other d)
 
 -- that number: 12h has rules of its own
-abbrev pub quietNumber : Device → Security → ℕ → ℕ → ℕ → Lba → ℕ → ℕ
-quietNumber d security code feature count lba room =
-    cond (eqb code 0x12) (statusNumber security (record { feature = feature; count = record { 0 = count }; lba = lba }) room)
-    (otherNumber d code feature count lba)
+abbrev pub quietNumber : Device → Security → Registers → ℕ → ℕ
+quietNumber d security r room = cond (eqb (r .code) 0x12) (statusNumber security (asked r) room) (otherNumber d r)
 
 -- "COMRESET, hardware reset and software reset answer 0 and change nothing (002)."
 abbrev pub rule : Device → Event → Ruled
-rule d (command security code feature count lba room) =
-    ruleCommand d security code feature count lba (quietNumber d security code feature count lba room)
+rule d (command security r room) = ruleCommand d security r (quietNumber d security r room)
 rule d step = ruleStep d (d .cells .note)
 rule d mediaError = ruleStop (d .position) 10 (d .cells .note)
 rule d powerCut = ruleStop (d .position) 0 (d .cells .note)

@@ -23,7 +23,7 @@ use table::Offer;
 
 // REMOVE ELEMENT AND TRUNCATE (7Ch), which needs no buffer.
 pub fn remove(d: Device, security: Security, feature: u16, count: u16, lba: Lba) -> Stepped
-    ensures { λ r. ⌜ said (r .answer) (r .device) ≡ told d (machine.command security 0x7C feature count lba 0) ⌝ }
+    ensures { λ r. ⌜ said (r .answer) (r .device) ≡ told d (machine.command security (record { code = 0x7C; feature = feature; count = count; lba = lba }) 0) ⌝ }
 {
     let r = removal::rule_remove(d, security, feature, count, lba);
     d.carry_out(r)
@@ -38,7 +38,7 @@ fn rule_command(
     lba: Lba,
     other: Answer,
 ) -> Ruling
-    ensures { λ r. ⌜ ruled r ≡ machine.ruleCommand d security code feature count lba (numberOf other) ⌝ }
+    ensures { λ r. ⌜ ruled r ≡ machine.ruleCommand d security (record { code = code; feature = feature; count = count; lba = lba }) (numberOf other) ⌝ }
 {
     if code == 0x7C {
         return removal::rule_remove(d, security, feature, count, lba);
@@ -57,7 +57,7 @@ pub fn command(
     lba: Lba,
     other: Answer,
 ) -> Stepped
-    ensures { λ r. ⌜ said (r .answer) (r .device) ≡ tell d (machine.ruleCommand d security code feature count lba (numberOf other)) ⌝ }
+    ensures { λ r. ⌜ said (r .answer) (r .device) ≡ tell d (machine.ruleCommand d security (record { code = code; feature = feature; count = count; lba = lba }) (numberOf other)) ⌝ }
 {
     let r = rule_command(d, security, code, feature, count, lba, other);
     d.carry_out(r)

@@ -14,7 +14,7 @@ use Rattle.device.specs.declared.Position.the-variants.{Work1}
 use Rattle.device.specs.declared.Position.{Position}
 use Rattle.device.specs.declared.Seen.{Seen}
 use Rattle.device.specs.declared.Store.the-variants.{FailedTo, Noted}
-use Rattle.paper.specs.Registers.{low48}
+use Rattle.paper.specs.Registers.{Registers, low48}
 use Rattle.paper.specs.Table12.{aborts}
 use Rattle.paper.specs.declared.Command.the-variants.{Remove}
 use Rattle.paper.specs.declared.ElementId.{ElementId}
@@ -80,16 +80,16 @@ module _ (d : Device) (id : ElementId) (lba : Lba) (s : Seen) (g : Ruled) where
 
 -- ## Checks 1 and 2
 
-module _ (d : Device) (s : Security) (feature count : ℕ) (lba : Lba) (g : Ruled) (a : Bool) (is-a : a ≡ aborts Remove s) where
-  pub remove-locked : a ≡ true → g ≡ says 1 d → g ≡ ruleRemove d s feature count lba
+module _ (d : Device) (s : Security) (r : Registers) (g : Ruled) (a : Bool) (is-a : a ≡ aborts Remove s) where
+  pub remove-locked : a ≡ true → g ≡ says 1 d → g ≡ ruleRemove d s r
   remove-locked y z = rw (sym is-a ∙ y) z
 
   module _ (n : a ≡ false) (u : Bool) (is-u : u ≡ underWay d) where
-    pub remove-busy : u ≡ true → g ≡ says 2 d → g ≡ ruleRemove d s feature count lba
+    pub remove-busy : u ≡ true → g ≡ says 2 d → g ≡ ruleRemove d s r
     remove-busy y z = rw (sym is-a ∙ n, sym is-u ∙ y) z
 
-    pub remove-judged : u ≡ false → (id : ElementId) (low : Lba) (x : Seen) → id ≡ identifierOf feature count → low ≡ low48 lba → x ≡ see d id
-        → g ≡ judgeFound d id low x → g ≡ ruleRemove d s feature count lba
+    pub remove-judged : u ≡ false → (id : ElementId) (low : Lba) (x : Seen) → id ≡ identifierOf r → low ≡ low48 (r .lba) → x ≡ see d id
+        → g ≡ judgeFound d id low x → g ≡ ruleRemove d s r
     remove-judged m id low x is-id is-low is-x z =
         rw (sym is-a ∙ n, sym is-u ∙ m)
         (z ∙ (λ i. judgeFound d (is-id i) (is-low i) ((is-x ∙ ap (see d) is-id) i)))

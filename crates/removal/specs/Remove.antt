@@ -3,7 +3,7 @@ use Prim.Native.Nat.{ℕ, _+_, _-_, _*_}
 use mathlib.Core.Bool.{Bool, cond, not, _&&_}
 use lib.Dec.{leb, ltb, eqb}
 use Rattle.paper.specs.Elements.{removedHealth}
-use Rattle.paper.specs.Registers.{low48}
+use Rattle.paper.specs.Registers.{Registers, low48}
 use Rattle.paper.specs.Table12.{aborts}
 use Rattle.paper.specs.declared.ElementId.{ElementId}
 use Rattle.paper.specs.declared.Lba.{Lba}
@@ -22,8 +22,8 @@ use Rattle.device.specs.declared.Seen.{Seen}
 use Rattle.device.specs.declared.Store.the-variants.{FailedTo, Noted}
 
 -- "Identifier = FEATURE x 65,536 + COUNT"
-abbrev pub identifierOf : ℕ → ℕ → ElementId
-identifierOf feature count = record { 0 = feature * 65536 + count }
+abbrev pub identifierOf : Registers → ElementId
+identifierOf r = record { 0 = r .feature * 65536 + r .count }
 
 -- 5: "limit not 0 and as many elements already FFh"
 abbrev pub limitMet : ℕ → ℕ → Bool
@@ -68,5 +68,5 @@ judge d security id lba =
     (cond (underWay d) (says (busyNumber d) d)
     (judgeFound d id lba (see d id)))
 
-abbrev pub ruleRemove : Device → Security → ℕ → ℕ → Lba → Ruled
-ruleRemove d security feature count lba = judge d security (identifierOf feature count) (low48 lba)
+abbrev pub ruleRemove : Device → Security → Registers → Ruled
+ruleRemove d security r = judge d security (identifierOf r) (low48 (r .lba))

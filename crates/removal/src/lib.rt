@@ -1,5 +1,6 @@
 // REMOVE ELEMENT AND TRUNCATE (7Ch): its seven checks, in document 01's order.
 ghost use mathlib.Core.Path.{_≡_};
+ghost use Prim.Native.Nat.{_+_, _*_};
 ghost use Rattle.device.specs.Rulings.{ruled};
 ghost use Rattle.removal.specs.Remove as remove;
 use device::Device;
@@ -19,7 +20,7 @@ use paper::Security;
 
 // FEATURE x 65,536 + COUNT.
 fn identifier(feature: u16, count: u16) -> ElementId
-    ensures { λ r. ⌜ r ≡ remove.identifierOf feature count ⌝ }
+    ensures { λ r. ⌜ r ≡ record { 0 = feature * 65536 + count } ⌝ }
 {
     ElementId((feature as u32) * 65536 + (count as u32))
 }
@@ -87,7 +88,7 @@ fn judge_found(d: Device, id: ElementId, lba: Lba, s: Seen) -> Ruling
 
 // What 7Ch rules: checks 1 and 2, then the others.
 pub fn rule_remove(d: Device, security: Security, feature: u16, count: u16, lba: Lba) -> Ruling
-    ensures { λ r. ⌜ ruled r ≡ remove.ruleRemove d security feature count lba ⌝ }
+    ensures { λ r. ⌜ ruled r ≡ remove.ruleRemove d security (record { code = 0x7C; feature = feature; count = count; lba = lba }) ⌝ }
 {
     let at = d.position;
     if paper::is_aborted(Command::Remove, security) {

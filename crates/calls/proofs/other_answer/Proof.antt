@@ -17,5 +17,5 @@ pub other-answer-spec : {M : Type 1} → statement M
 unfolding code.routine
 other-answer-spec 𝓤 H 𝓜 𝓖 𝓡 =
     read device answer (number w8 ∷ number w16 ∷ number w16 ∷ lba ∷ [])
-    (λ d x r. numberOf r ≡ otherNumber d (x .0) (x .1 .0) (x .1 .1 .0) (x .1 .1 .1 .0))
+    (λ d x r. numberOf r ≡ otherNumber d (record { code = x .0; feature = x .1 .0; count = x .1 .1 .0; lba = x .1 .1 .1 .0 }))
     _ 𝓤 H 𝓜 𝓖 𝓡 code.env name symbol.name (code.unfolded 𝓤 H 𝓜 𝓡) symbol.routine code.calls-commands·other-answer (callee.met 𝓤 H 𝓜 𝓖 𝓡)

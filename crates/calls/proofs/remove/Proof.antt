@@ -18,5 +18,5 @@ pub remove-spec : {M : Type 1} → statement M
 unfolding code.routine
 remove-spec 𝓤 H 𝓜 𝓖 𝓡 =
     changed device answer stepped (security ∷ number w16 ∷ number w16 ∷ lba ∷ [])
-    (λ d x a e. said a e ≡ told d (machine.command (x .0) 0x7C (x .1 .0) (x .1 .1 .0) (x .1 .1 .1 .0) 0))
+    (λ d x a e. said a e ≡ told d (machine.command (x .0) (record { code = 0x7C; feature = x .1 .0; count = x .1 .1 .0; lba = x .1 .1 .1 .0 }) 0))
     _ 𝓤 H 𝓜 𝓖 𝓡 code.env name symbol.name (code.unfolded 𝓤 H 𝓜 𝓡) symbol.routine code.calls-machine·remove (callee.met 𝓤 H 𝓜 𝓖 𝓡)
