@@ -178,20 +178,26 @@ fn walk(es: [Element; 128], n: usize) -> Checked
 
 // ---- The search of an offered table
 
+// What the search comes to where it stops.
+fn stopped(e: Element, want: u32) -> Found
+    ensures { λ r. ⌜ r ≡ search.stopped want e ⌝ }
+{
+    if e.id.0 == want {
+        return Found::One(e);
+    }
+    Found::Missing
+}
+
 // Among the first `count`: it stops at the first identifier that is not below the one sought.
-fn found_in(es: [Element; 128], count: usize, id: ElementId) -> Found
-    ensures { λ r. ⌜ r ≡ search.find (id .0) (take count es) ⌝ }
+fn found_in(es: [Element; 128], count: usize, want: u32) -> Found
+    ensures { λ r. ⌜ r ≡ search.find want (take count es) ⌝ }
 {
     let n = bounded(count);
-    let want = id.0;
     let mut i: usize = 0;
     while i < n {
         let e = es[i];
-        if want == e.id.0 {
-            return Found::One(e);
-        }
-        if want < e.id.0 {
-            return Found::Missing;
+        if want <= e.id.0 {
+            return stopped(e, want);
         }
         i += 1;
     }
@@ -248,7 +254,7 @@ impl Offer {
         ensures { λ r. ⌜ r ≡ search.find (id .0) (offered self) ⌝ }
     {
         let es = self.elements;
-        found_in(es, self.count, id)
+        found_in(es, self.count, id.0)
     }
 
     // The table as it is built of the offer.
@@ -276,11 +282,10 @@ impl Offer {
 // ---- The table as built
 
 // The search among the first `count`.
-fn seek(ps: [Part; 128], count: usize, id: ElementId) -> Sight
-    ensures { λ r. ⌜ r ≡ search.sightIn (id .0) (take count ps) ⌝ }
+fn seek(ps: [Part; 128], count: usize, want: u32) -> Sight
+    ensures { λ r. ⌜ r ≡ search.sightIn want (take count ps) ⌝ }
 {
     let n = bounded(count);
-    let want = id.0;
     let mut i: usize = 0;
     while i < n {
         let part = ps[i];
@@ -306,7 +311,7 @@ impl Table {
         ensures { λ r. ⌜ r ≡ search.sight (id .0) self ⌝ }
     {
         let ps = self.parts;
-        seek(ps, self.count, id)
+        seek(ps, self.count, id.0)
     }
 }
 
