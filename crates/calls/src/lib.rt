@@ -1,7 +1,6 @@
 // "The firmware keeps one device record in place and lends it to each call": the calls by value, over what is lent. A call that changes the
 // device copies it out, makes the call by value and stores back the device that it hands back; one that only reads stores nothing.
 ghost use mathlib.Core.Path.{_≡_};
-ghost use Prim.Native.Nat.{min};
 ghost use mathlib.Core.Bool.{cond};
 ghost use lib.Dec.{leb};
 ghost use lib.ListN.{length, take, replicate};
@@ -136,31 +135,17 @@ pub fn show(d: &Device, security: Security, request: Request, buf: &mut [u8]) ->
 
 // ---- The caller's own list of records
 
-// How many records of a list the array takes.
-fn bounded(count: usize) -> usize
-    ensures { λ r. ⌜ r ≡ min count 128 ⌝ }
-{
-    if count < 128 { count } else { 128 }
-}
-
 fn blanks() -> [Element; 128]
     ensures { λ r. ⌜ r ≡ replicate 128 blank ⌝ }
 {
-    let e = Element {
-        id: ElementId(0),
-        kind: 0,
-        health: 0,
-        unreported: false,
-        blocks: 0,
-    };
-    [e; 128]
+    [table::blank(); 128]
 }
 
 // The records of a list in an array, with blanks after them.
 fn copied(list: &[Element]) -> [Element; 128]
     ensures { λ r. ⌜ r ≡ arrayOf (now (list .entry)) ⌝ }
 {
-    let n = bounded(list.len());
+    let n = table::bounded(list.len());
     let mut es = blanks();
     for i in 0..n {
         es[i] = list[i];

@@ -1,17 +1,18 @@
--- A row of the table: a code, and what FEATURE and LBA leave when divided. A modulus of 1 takes any form, one of 256 looks at bits 7:0.
-use Prim.Native.Nat.{ℕ, _%_}
-use mathlib.Core.Bool.{Bool, false, cond, _&&_, _||_}
-use mathlib.Core.List.{List, [], _∷_}
+-- The table of what is open during a removal: a row has a code, and for FEATURE and LBA a mask and what it must leave. A mask of 0 takes any
+-- form, one of FFh looks at bits 7:0.
+use Prim.Native.Nat.{ℕ}
+use mathlib.Core.Bool.{Bool, _&&_}
+use mathlib.Core.List.{List}
+use lib.Bits.{bitAnd}
 use lib.Dec.{eqb}
-use Rattle.commands.specs.declared.Row.{Row}
+use Rattle.words.specs.Lists.{any}
+use Rattle.commands.specs.declared.open.Row.{Row}
 
--- no number leaves anything when divided by 0
-abbrev pub hasRest : ℕ → ℕ → ℕ → Bool
-hasRest modulus rest x = cond (eqb modulus 0) false (eqb (x % modulus) rest)
+unfoldable pub leaves : ℕ → ℕ → ℕ → Bool
+leaves mask value x = eqb (bitAnd x mask) value
 
 abbrev pub rowFits : Row → ℕ → ℕ → ℕ → Bool
-rowFits r code feature lba = eqb code (r .0) && (hasRest (r .1) (r .2) feature && hasRest (r .3) (r .4) lba)
+rowFits r code feature lba = eqb code (r .code) && (leaves (r .«feature_mask») (r .feature) feature && leaves (r .«lba_mask») (r .lba) lba)
 
-abbrev pub anyFits : List Row → ℕ → ℕ → ℕ → Bool
-anyFits [] code feature lba = false
-anyFits (r ∷ rs) code feature lba = rowFits r code feature lba || anyFits rs code feature lba
+unfoldable pub anyFits : List Row → ℕ → ℕ → ℕ → Bool
+anyFits rows code feature lba = any (λ (r : Row). rowFits r code feature lba) rows

@@ -1,4 +1,6 @@
 // Any command code, by value: the security state, the registers, and the length of the lent buffer.
+mod open;
+
 ghost use mathlib.Core.Path.{_≡_};
 ghost use mathlib.Core.Bool.{not, _&&_};
 ghost use Prim.Native.Nat.{_≤_};
@@ -9,7 +11,6 @@ ghost use Rattle.device.specs.Cells.{underWay, isSet};
 ghost use Rattle.device.specs.Commands.{otherNumber, isMedia, isNamed, isOpen, sectorsOf, isBeyond, mediaNumber};
 ghost use Rattle.machine.specs.Machine as machine;
 ghost use Rattle.machine.specs.Machine.{told};
-ghost use Rattle.commands.specs.Open.{hasRest, rowFits};
 use device::Device;
 use device::Stepped;
 use layout::Request;
@@ -17,67 +18,6 @@ use paper::Answer;
 use paper::Lba;
 use paper::PageCount;
 use paper::Security;
-
-// A form of a command: its code; a modulus and what FEATURE leaves; a modulus and what LBA leaves.
-struct Row(u8, u32, u32, u32, u32);
-
-// Open during a removal (002). Modulus 1: any; 256: bits 7:0.
-const OPEN: [Row; 16] = [
-    Row(0xEC, 1, 0, 1, 0),
-    Row(0xE1, 1, 0, 1, 0),
-    Row(0x2F, 1, 0, 256, 0x04),
-    Row(0x47, 1, 0, 256, 0x04),
-    Row(0x2F, 1, 0, 256, 0x10),
-    Row(0x47, 1, 0, 256, 0x10),
-    Row(0x2F, 1, 0, 256, 0x30),
-    Row(0x47, 1, 0, 256, 0x30),
-    Row(0x2F, 1, 0, 256, 0xE0),
-    Row(0x47, 1, 0, 256, 0xE0),
-    Row(0x0B, 1, 0, 1, 0),
-    Row(0xF2, 1, 0, 1, 0),
-    Row(0xEF, 256, 0x07, 1, 0),
-    Row(0xB0, 256, 0xD5, 256, 0x30),
-    Row(0xB0, 256, 0xD5, 256, 0xE0),
-    Row(0xB0, 256, 0xDA, 1, 0),
-];
-
-// Whether a register leaves this rest.
-fn has_rest(modulus: u32, rest: u32, x: u64) -> bool
-    ensures { λ r. ⌜ r ≡ hasRest modulus rest x ⌝ }
-{
-    if modulus == 0 {
-        return false;
-    }
-    x % (modulus as u64) == rest as u64
-}
-
-fn does_fit(row: Row, code: u8, feature: u16, lba: u64) -> bool
-    ensures { λ r. ⌜ r ≡ rowFits row code feature lba ⌝ }
-{
-    if code != row.0 {
-        return false;
-    }
-    if !has_rest(row.1, row.2, feature as u64) {
-        return false;
-    }
-    has_rest(row.3, row.4, lba)
-}
-
-// Whether a command is open during a removal.
-fn is_open(code: u8, feature: u16, lba: u64) -> bool
-    ensures { λ r. ⌜ r ≡ isOpen code feature lba ⌝ }
-{
-    let rows = OPEN;
-    let mut i: usize = 0;
-    while i < 16 {
-        let row = rows[i];
-        if does_fit(row, code, feature, lba) {
-            return true;
-        }
-        i += 1;
-    }
-    false
-}
 
 fn is_one_of(code: u8, codes: &[u8]) -> bool
     ensures { λ r. ⌜ r ≡ oneOf code (now (codes .entry)) ⌝ }
@@ -115,7 +55,7 @@ fn is_shut(busy: bool, code: u8, feature: u16, lba: u64) -> bool
     ensures { λ r. ⌜ r ≡ (busy && not (isOpen code feature lba)) ⌝ }
 {
     if busy {
-        return !is_open(code, feature, lba);
+        return !open::is_open(code, feature, lba);
     }
     false
 }

@@ -14,9 +14,9 @@ use Rattle.paper.specs.Answers.{numberOf}
 use Rattle.paper.specs.Elements.{gradedHealth, removedHealth}
 use Rattle.paper.specs.Told.{Told, tells, said}
 use Rattle.table.proofs.Check.{both}
-use Rattle.table.proofs.Laws.{good-sound, good-count}
+use Rattle.table.proofs.Laws.{good-healthy, good-count}
 use Rattle.table.proofs.Splits.{split-front, built-ids}
-use Rattle.table.specs.Check.{sound, good}
+use Rattle.table.specs.Check.{healthy, good}
 use Rattle.table.specs.Elements.{offered, blankPart, size, partOf, healthOf}
 use Rattle.table.specs.declared.Element.{Element}
 use Rattle.table.specs.declared.Offer.{Offer}
@@ -24,10 +24,10 @@ use Rattle.words.specs.Lists.{all}
 use Rattle.history.specs.Starts.{Made-of, Accepted-starts}
 use Rattle.history.proofs.Places.{gone-told}
 
-graded-all : (es : List Element) → all sound es ≡ true → (i : ℕ) → i < length es → gradedHealth (getD (map healthOf es) i 0) ≡ true
+graded-all : (es : List Element) → all healthy es ≡ true → (i : ℕ) → i < length es → gradedHealth (getD (map healthOf es) i 0) ≡ true
 graded-all [] q i h = absurd (omega arith)
-graded-all (e ∷ es) q zero h = both (gradedHealth (e .health)) _ (both (sound e) (all sound es) q .0) .0
-graded-all (e ∷ es) q (suc i) h = graded-all es (both (sound e) (all sound es) q .1) i (omega arith)
+graded-all (e ∷ es) q zero h = both (healthy e) (all healthy es) q .0
+graded-all (e ∷ es) q (suc i) h = graded-all es (both (healthy e) (all healthy es) q .1) i (omega arith)
 
 module _ (o : Offer) (full : length (o .elements) ≡ 128) (g : good (o .count) (offered o) (o .limit) ≡ true) where
   few : o .count ≤ 128
@@ -40,7 +40,7 @@ module _ (o : Offer) (full : length (o .elements) ≡ 128) (g : good (o .count) 
   graded i h =
       let inside : i < length (map healthOf (offered o)) = rw (length-map (offered o) healthOf, sym sizes) h in
       rw (List·getD-append (map healthOf (offered o)) (replicate (128 - o .count) 0) 0 i inside)
-      (graded-all (offered o) (good-sound (o .count) (offered o) (o .limit) g) i (rw sizes at h))
+      (graded-all (offered o) (good-healthy (o .count) (offered o) (o .limit) g) i (rw sizes at h))
 
   standing : (i : ℕ) → i < size (fresh o .table) → removedHealth (healthAt (fresh o) i) ≡ false
   standing i h =

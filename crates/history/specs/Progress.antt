@@ -1,8 +1,8 @@
 -- How a removal gets on.
 use Prim.Native.Nat.{ℕ, zero, suc, _≤_, _<_}
-use mathlib.Core.Bool.{Bool, true, false, _&&_}
+use mathlib.Core.Bool.{Bool, true, false, not, _&&_}
 use mathlib.Core.Path.{_≡_}
-use Rattle.machine.specs.Machine.{Event, command, step, mediaError, powerCut, comreset, hardwareReset, softwareReset, grade, rule, told}
+use Rattle.machine.specs.Machine.{Event, command, step, rule, told}
 use Rattle.removal.specs.Remove.{identifierOf}
 use Rattle.device.specs.Sights.{see, gone}
 use Rattle.steps.specs.Steps.{woundUp}
@@ -18,33 +18,19 @@ use Rattle.paper.specs.Registers.{Registers}
 use Rattle.paper.specs.declared.Lba.{Lba}
 use Rattle.paper.specs.declared.Security.{Security}
 use Rattle.table.specs.Elements.{size, identifierAt}
-use Rattle.history.specs.Runs.{Script, begin, _▸_, _▸▸_, after}
+use Rattle.history.specs.Runs.{ofEvent, Script, begin, _▸_, _▸▸_, after}
 
 -- ## "Undisturbed": no media error and no power cut; commands, grades and resets may come between the steps
 
-abbrev pub calmEvent : Event → Bool
-calmEvent (command s x room) = true
-calmEvent step = true
-calmEvent mediaError = false
-calmEvent powerCut = false
-calmEvent comreset = true
-calmEvent hardwareReset = true
-calmEvent softwareReset = true
-calmEvent (grade i h) = true
+abbrev pub stops : Event → Bool
+stops e = ofEvent false true (λ id h. false) false e
 
 abbrev pub calm : Script → Bool
 calm begin = true
-calm (s ▸ e) = calmEvent e && calm s
+calm (s ▸ e) = not (stops e) && calm s
 
 abbrev pub stepBy : Event → ℕ → ℕ
-stepBy (command s x room) n = n
-stepBy step n = suc n
-stepBy mediaError n = n
-stepBy powerCut n = n
-stepBy comreset n = n
-stepBy hardwareReset n = n
-stepBy softwareReset n = n
-stepBy (grade i h) n = n
+stepBy e n = ofEvent (suc n) n (λ id h. n) n e
 
 -- how many steps
 abbrev pub steps : Script → ℕ
@@ -107,16 +93,6 @@ Fifth-ends =
 -- ## Winding up
 
 -- "A media error or a power cut while the note is full .. sets the position to the first winding-up step"
-abbrev pub stops : Event → Bool
-stops (command s x room) = false
-stops step = false
-stops mediaError = true
-stops powerCut = true
-stops comreset = false
-stops hardwareReset = false
-stops softwareReset = false
-stops (grade i h) = false
-
 abbrev pub Stop-winds : Type 0
 Stop-winds = (d : Device) (w : Removal) → d .cells .note ≡ Full w → (e : Event) → stops e ≡ true → (told d e .number ≡ 0) × At Wind1 w (told d e .state)
 

@@ -2,12 +2,13 @@
 use Prim.Native.Nat.{ℕ}
 use mathlib.Core.List.{List, [], _∷_}
 use mathlib.Core.Path.{_≡_}
-use Rattle.machine.specs.Machine.{Event, rule, told}
+use Rattle.machine.specs.Machine.{Event, command, step, mediaError, powerCut, comreset, hardwareReset, softwareReset, grade, rule, told}
 use Rattle.device.specs.declared.Device.{Device}
 use Rattle.device.specs.declared.Store.{Store}
 use Rattle.paper.specs.Answers.{numberOf}
 use Rattle.paper.specs.Told.{said}
 use Rattle.paper.specs.declared.Answer.{Answer}
+use Rattle.paper.specs.declared.ElementId.{ElementId}
 
 infixl 20 _▸_
 infixl 20 _▹_
@@ -17,6 +18,17 @@ infixl 20 _▸▸_
 pub data Script : Type 0 where
   begin : Script
   _▸_ : Script → Event → Script
+
+-- what demand 3 tells apart: a step, a media error or power cut, a grade, any other event
+abbrev pub ofEvent : {A : Type 0} → A → A → (ElementId → ℕ → A) → A → Event → A
+ofEvent steps stops grades other (command s x room) = other
+ofEvent steps stops grades other step = steps
+ofEvent steps stops grades other mediaError = stops
+ofEvent steps stops grades other powerCut = stops
+ofEvent steps stops grades other comreset = other
+ofEvent steps stops grades other hardwareReset = other
+ofEvent steps stops grades other softwareReset = other
+ofEvent steps stops grades other (grade id h) = grades id h
 
 -- one script after another
 abbrev pub _▸▸_ : Script → Script → Script

@@ -12,7 +12,7 @@ use lib.Seq.{drop-cons, getD-take}
 use borrow.Author.Tests.{ltb-true, le-leb, lt-leb, lt-ltb, le-ltb, eq-eqb, ne-eqb, leb-true, leb-false}
 use Rattle.paper.specs.Told.{Told, tells}
 use Rattle.words.specs.Lists.{all}
-use Rattle.table.specs.Check.{sized, ascending, sound, summed, good, checkOf, verdict, mayFollow, walkFrom}
+use Rattle.table.specs.Check.{sized, ascending, shaped, healthy, summed, good, checkOf, verdict, mayFollow, walkFrom}
 use Rattle.table.specs.Elements.{offered, blank, elementIds, blockSum}
 use Rattle.table.specs.declared.Checked.the-variants.{Refused, Blocks}
 use Rattle.table.specs.declared.Checked.{Checked}
@@ -21,10 +21,9 @@ use Rattle.table.specs.declared.Offer.{Offer}
 
 -- ## The tests
 
-middle-true : (a b c : Bool) → ((a && b) && c) ≡ true → b ≡ true
-middle-true true true c e = refl
-middle-true true false c e = absurd (true≢false (sym e))
-middle-true false b c e = absurd (true≢false (sym e))
+pub both : (a b : Bool) → (a && b) ≡ true → (a ≡ true) × (b ≡ true)
+both true b e = (refl, e)
+both false b e = absurd (true≢false (sym e))
 
 module _ (count limit : ℕ) where
   pub sized-empty : count ≡ 0 → false ≡ sized count limit
@@ -37,17 +36,14 @@ module _ (count limit : ℕ) where
   sized-limit n h = sym (rw (le-leb 1 count (omega arith), le-leb count 128 h))
 
   pub sized-few : (b : Bool) → b ≡ sized count limit → b ≡ true → count ≤ 128
-  sized-few b is-b y = leb-true count 128 (middle-true (leb 1 count) (leb count 128) (leb limit 128) (sym is-b ∙ y))
+  sized-few b is-b y = leb-true count 128 (both (leb 1 count) (leb count 128) (both (leb 1 count && leb count 128) (leb limit 128) (sym is-b ∙ y) .0) .1)
 
 module _ (e : Element) where
-  pub sound-high : 0xCF < e .health → false ≡ sound e
-  sound-high h = sym (rw (lt-leb (e .health) 0xCF h))
+  pub shaped-storage : e .kind ≡ 1 → true ≡ shaped e
+  shaped-storage k = sym (rw (eq-eqb (e .kind) 1 k))
 
-  pub sound-storage : e .health ≤ 0xCF → e .kind ≡ 1 → true ≡ sound e
-  sound-storage h k = sym (rw (le-leb (e .health) 0xCF h, eq-eqb (e .kind) 1 k))
-
-  pub sound-other : e .health ≤ 0xCF → (e .kind ≡ 1 → ⊥) → eqb (e .blocks) 0 ≡ sound e
-  sound-other h k = sym (rw (le-leb (e .health) 0xCF h, ne-eqb (e .kind) 1 k))
+  pub shaped-other : (e .kind ≡ 1 → ⊥) → eqb (e .blocks) 0 ≡ shaped e
+  shaped-other k = sym (rw (ne-eqb (e .kind) 1 k))
 
 leb-same : (a b c d : ℕ) → (a ≤ b → c ≤ d) → (b < a → d < c) → leb a b ≡ leb c d
 leb-same a b c d up down = go (leb a b) refl
@@ -60,33 +56,32 @@ module _ (e : Element) (last total : ℕ) where
   pub follow-order : e .id .0 ≤ last → false ≡ mayFollow last total e
   follow-order h = sym (rw (le-ltb last (e .id .0) h))
 
-  pub follow-sound : last < e .id .0 → (s : Bool) → s ≡ sound e → s ≡ false → false ≡ mayFollow last total e
-  follow-sound h s is-s n = sym (rw (lt-ltb last (e .id .0) h, sym is-s ∙ n))
+  module _ (above : last < e .id .0) (s : Bool) (is-s : s ≡ shaped e) where
+    pub follow-shaped : s ≡ false → false ≡ mayFollow last total e
+    follow-shaped n = sym (rw (lt-ltb last (e .id .0) above, sym is-s ∙ n))
 
-  pub follow-blocks : total ≤ 2 ^ 48 → last < e .id .0 → (s : Bool) → s ≡ sound e → s ≡ true → leb (e .blocks) (2 ^ 48 - total) ≡ mayFollow last total e
-  follow-blocks t h s is-s y =
-      leb-same (e .blocks) (2 ^ 48 - total) (total + e .blocks) (2 ^ 48) (λ g. omega arith) (λ g. omega arith)
-      ∙ sym (rw (lt-ltb last (e .id .0) h, sym is-s ∙ y))
+    module _ (fine : s ≡ true) (h : Bool) (is-h : h ≡ healthy e) where
+      pub follow-healthy : h ≡ false → false ≡ mayFollow last total e
+      follow-healthy n = sym (rw (lt-ltb last (e .id .0) above, sym is-s ∙ fine, sym is-h ∙ n))
+
+      pub follow-blocks : h ≡ true → total ≤ 2 ^ 48 → leb (e .blocks) (2 ^ 48 - total) ≡ mayFollow last total e
+      follow-blocks y t =
+          leb-same (e .blocks) (2 ^ 48 - total) (total + e .blocks) (2 ^ 48) (λ g. omega arith) (λ g. omega arith)
+          ∙ sym (rw (lt-ltb last (e .id .0) above, sym is-s ∙ fine, sym is-h ∙ y))
 
 -- ## Ascending identifiers
-
-pub both : (a b : Bool) → (a && b) ≡ true → (a ≡ true) × (b ≡ true)
-both true b e = (refl, e)
-both false b e = absurd (true≢false (sym e))
 
 pub ascending-both : (low x : ℕ) (xs : List ℕ) → ascending low (x ∷ xs) ≡ true → (low < x) × (ascending x xs ≡ true)
 ascending-both low x xs q = let two = both (ltb low x) (ascending x xs) q in (ltb-true low x (two .0), two .1)
 
 -- ## The walk
 
-last-true : (a b c : Bool) → (a && (b && c)) ≡ true → c ≡ true
-last-true true true c e = e
-last-true true false c e = absurd (true≢false (sym e))
-last-true false b c e = absurd (true≢false (sym e))
+last-true : (a b c d : Bool) → (a && (b && (c && d))) ≡ true → d ≡ true
+last-true a b c d e = both c d (both b (c && d) (both a (b && (c && d)) e .1) .1) .1
 
 pub follow-fits : (last total : ℕ) (e : Element) (m : Bool) → m ≡ mayFollow last total e → m ≡ true → total + e .blocks ≤ 2 ^ 48
 follow-fits last total e m is-m y =
-    leb-true (total + e .blocks) (2 ^ 48) (last-true (ltb last (e .id .0)) (sound e) (leb (total + e .blocks) (2 ^ 48)) (sym is-m ∙ y))
+    leb-true (total + e .blocks) (2 ^ 48) (last-true (ltb last (e .id .0)) (shaped e) (healthy e) (leb (total + e .blocks) (2 ^ 48)) (sym is-m ∙ y))
 
 pub follow-u64 : (last total : ℕ) (e : Element) (m : Bool) → m ≡ mayFollow last total e → m ≡ true → total + e .blocks < 2 ^ 64
 follow-u64 last total e m is-m y = omega (arith, follow-fits last total e m is-m y)
@@ -117,25 +112,30 @@ module _ (es : List Element) (n i last total : ℕ) (whole : Checked) (so : walk
 
 -- ## The walk is the check
 
+abbrev accepts : ℕ → ℕ → List Element → Bool
+accepts last total es = (ascending last (elementIds es) && (all shaped es && summed (total + blockSum es))) && all healthy es
+
 abbrev judged : ℕ → ℕ → List Element → Checked
-judged last total es = cond (ascending last (elementIds es) && (all sound es && summed (total + blockSum es))) (Blocks (total + blockSum es)) Refused
+judged last total es = cond (accepts last total es) (Blocks (total + blockSum es)) Refused
 
 walk-checks : (last total : ℕ) (es : List Element) → total ≤ 2 ^ 48 → walkFrom last total es ≡ judged last total es
 walk-checks last total [] h = simp (add-zero, le-leb total (2 ^ 48) h, and-true)
 walk-checks last total (e ∷ es) h =
     rw (← add-assoc total (e .blocks) (blockSum es))
-    (go (ltb last (e .id .0)) (sound e) (leb (total + e .blocks) (2 ^ 48)) refl (λ g. walk-checks (e .id .0) (total + e .blocks) es g))
+    (go (ltb last (e .id .0)) (shaped e) (healthy e) (leb (total + e .blocks) (2 ^ 48)) refl (λ g. walk-checks (e .id .0) (total + e .blocks) es g))
   where
-    go : (a s b : Bool) → leb (total + e .blocks) (2 ^ 48) ≡ b
+    go : (a s f b : Bool) → leb (total + e .blocks) (2 ^ 48) ≡ b
         → (total + e .blocks ≤ 2 ^ 48 → walkFrom (e .id .0) (total + e .blocks) es ≡ judged (e .id .0) (total + e .blocks) es)
-        → cond (a && (s && b)) (walkFrom (e .id .0) (total + e .blocks) es) Refused
-        ≡ cond ((a && ascending (e .id .0) (elementIds es)) && ((s && all sound es) && summed (total + e .blocks + blockSum es))) (Blocks (total + e .blocks + blockSum es)) Refused
-    go true true true q later = later (leb-true (total + e .blocks) (2 ^ 48) q)
-    go true true false q later =
+        → cond (a && (s && (f && b))) (walkFrom (e .id .0) (total + e .blocks) es) Refused
+        ≡ cond (((a && ascending (e .id .0) (elementIds es)) && ((s && all shaped es) && summed (total + e .blocks + blockSum es))) && (f && all healthy es))
+        (Blocks (total + e .blocks + blockSum es)) Refused
+    go true true true true q later = later (leb-true (total + e .blocks) (2 ^ 48) q)
+    go true true true false q later =
         let over : 2 ^ 48 < total + e .blocks + blockSum es = omega (arith, leb-false (total + e .blocks) (2 ^ 48) q) in
         simp (lt-leb (total + e .blocks + blockSum es) (2 ^ 48) over, and-false)
-    go true false b q later = simp and-false
-    go false s b q later = refl
+    go true true false b q later = simp and-false
+    go true false f b q later = simp and-false
+    go false s f b q later = refl
 
 module _ (o : Offer) (b : Bool) (is-b : b ≡ sized (o .count) (o .limit)) where
   pub check-unsized : b ≡ false → verdict Refused ≡ checkOf o
@@ -146,7 +146,7 @@ module _ (o : Offer) (b : Bool) (is-b : b ≡ sized (o .count) (o .limit)) where
   unfolding good checkOf
   check-walked y r is-r =
       rw (is-r, walk-checks 0 0 (offered o) (omega arith), zero-add (blockSum (offered o)), sym is-b ∙ y)
-      (told (ascending 0 (elementIds (offered o)) && (all sound (offered o) && summed (blockSum (offered o)))))
+      (told ((ascending 0 (elementIds (offered o)) && (all shaped (offered o) && summed (blockSum (offered o)))) && all healthy (offered o)))
     where
       told : (g : Bool) → verdict (cond g (Blocks (blockSum (offered o))) Refused) ≡ cond g (tells 0 (blockSum (offered o) ∷ [])) (tells 8 [])
       told true = refl

@@ -8,7 +8,7 @@ use lib.Dec.{leb}
 use borrow.Author.Tests.{leb-true}
 use Rattle.paper.specs.Told.{Told, tells}
 use Rattle.words.specs.Lists.{all}
-use Rattle.table.specs.Check.{sized, ascending, sound, summed, good, checkOf, verdict}
+use Rattle.table.specs.Check.{sized, ascending, shaped, healthy, summed, structured, good, checkOf, verdict}
 use Rattle.table.specs.Elements.{offered, elementIds, blockSum}
 use Rattle.table.specs.declared.Checked.the-variants.{Refused, Blocks}
 use Rattle.table.specs.declared.Element.{Element}
@@ -34,22 +34,22 @@ module _ (o : Offer) where
 
 -- what a good table is
 module _ (count : ℕ) (es : List Element) (limit : ℕ) (q : good count es limit ≡ true) where
-  all-parts : (sized count limit ≡ true) × (ascending 0 (elementIds es) ≡ true) × (all sound es ≡ true) × (summed (blockSum es) ≡ true)
+  all-parts : (sized count limit ≡ true) × (ascending 0 (elementIds es) ≡ true) × (summed (blockSum es) ≡ true) × (all healthy es ≡ true)
   unfolding good
   all-parts =
-      let one = both (sized count limit) (ascending 0 (elementIds es) && (all sound es && summed (blockSum es))) q in
-      let two = both (ascending 0 (elementIds es)) (all sound es && summed (blockSum es)) (one .1) in
-      let three = both (all sound es) (summed (blockSum es)) (two .1) in
-      (one .0, two .0, three .0, three .1)
+      let split = both (structured count es limit) (all healthy es) q in
+      let one = both (sized count limit) (ascending 0 (elementIds es) && (all shaped es && summed (blockSum es))) (split .0) in
+      let two = both (ascending 0 (elementIds es)) (all shaped es && summed (blockSum es)) (one .1) in
+      (one .0, two .0, both (all shaped es) (summed (blockSum es)) (two .1) .1, split .1)
 
   pub good-ascending : ascending 0 (elementIds es) ≡ true
   good-ascending = all-parts .1
 
-  pub good-sound : all sound es ≡ true
-  good-sound = all-parts .2
+  pub good-healthy : all healthy es ≡ true
+  good-healthy = all-parts .3
 
   pub good-blocks : 2 ≤ blockSum es
-  good-blocks = leb-true 2 (blockSum es) (both (leb 2 (blockSum es)) (leb (blockSum es) (2 ^ 48)) (all-parts .3) .0)
+  good-blocks = leb-true 2 (blockSum es) (both (leb 2 (blockSum es)) (leb (blockSum es) (2 ^ 48)) (all-parts .2) .0)
 
   pub good-count : count ≤ 128
   good-count = leb-true count 128 (both (leb 1 count) (leb count 128) (both (leb 1 count && leb count 128) (leb limit 128) (all-parts .0) .0) .1)

@@ -11,7 +11,7 @@ use lib.Seq.{drop-cons, getD-take}
 use borrow.Author.Tests.{lt-ltb, le-ltb, eq-eqb, ne-eqb, eqb-true}
 use Rattle.table.specs.Check.{ascending}
 use Rattle.table.specs.Elements.{blank, blankPart, elementIds, partIds}
-use Rattle.table.specs.Search.{place, hits, find, sightIn}
+use Rattle.table.specs.Search.{place, hits, find, stopped, sightIn}
 use Rattle.table.specs.declared.Element.{Element}
 use Rattle.table.specs.declared.Found.the-variants.{Missing, One}
 use Rattle.table.specs.declared.Found.{Found}
@@ -137,35 +137,30 @@ module _ {A : Type 0} (key : A → ℕ) (l : List A) (z : A) (count n i id : ℕ
 
 -- ## What the two searches answer
 
+module _ (e : Element) (id : ℕ) where
+  pub stopped-one : e .id .0 ≡ id → One e ≡ stopped id e
+  stopped-one q = sym (rw (eq-eqb _ _ q))
+
+  pub stopped-other : (e .id .0 ≡ id → ⊥) → Missing ≡ stopped id e
+  stopped-other q = sym (rw (ne-eqb _ _ q))
+
 module _ (es : List Element) (count n i id : ℕ) (full : length es ≡ 128) (is-n : n ≡ min count 128)
     (so : i + place id (elementIds (drop i (take n es))) ≡ place id (elementIds (take n es)))
     (so-hits : hits id (elementIds (drop i (take n es))) ≡ hits id (elementIds (take n es))) where
   abbrev key : Element → ℕ
   key e = e .id .0
 
-  pub found-pass : i < n → (id ≡ getD es i blank .id .0 → ⊥) → getD es i blank .id .0 ≤ id
-      → i + 1 + place id (elementIds (drop (i + 1) (take n es))) ≡ place id (elementIds (take n es))
-  found-pass less ne le = seek-pass key es blank count n i id full is-n so so-hits less (omega arith) .0
+  pub found-pass : i < n → getD es i blank .id .0 < id → i + 1 + place id (elementIds (drop (i + 1) (take n es))) ≡ place id (elementIds (take n es))
+  found-pass less h = seek-pass key es blank count n i id full is-n so so-hits less h .0
 
-  pub found-still : i < n → (id ≡ getD es i blank .id .0 → ⊥) → getD es i blank .id .0 ≤ id
-      → hits id (elementIds (drop (i + 1) (take n es))) ≡ hits id (elementIds (take n es))
-  found-still less ne le = seek-pass key es blank count n i id full is-n so so-hits less (omega arith) .1
+  pub found-still : i < n → getD es i blank .id .0 < id → hits id (elementIds (drop (i + 1) (take n es))) ≡ hits id (elementIds (take n es))
+  found-still less h = seek-pass key es blank count n i id full is-n so so-hits less h .1
 
-  pub found-one : i < n → id ≡ getD es i blank .id .0 → One (getD es i blank) ≡ find id (take count es)
+  pub found-stop : i < n → id ≤ getD es i blank .id .0 → (f : Found) → f ≡ stopped id (getD es i blank) → f ≡ find id (take count es)
   unfolding find
-  found-one less e =
-      let low : id ≤ getD es i blank .id .0 = omega arith in
-      let hit : hits id (elementIds (take count es)) ≡ true =
-      sym (seek-hits key es blank count n i id full is-n so so-hits less low) ∙ eq-eqb _ _ (sym e) in
-      rw (hit, ← seek-at key es blank count n i id full is-n so so-hits less low)
-
-  pub found-none : i < n → (id ≡ getD es i blank .id .0 → ⊥) → id < getD es i blank .id .0 → Missing ≡ find id (take count es)
-  unfolding find
-  found-none less ne h =
-      let low : id ≤ getD es i blank .id .0 = omega arith in
-      let miss : hits id (elementIds (take count es)) ≡ false =
-      sym (seek-hits key es blank count n i id full is-n so so-hits less low) ∙ ne-eqb _ _ (λ q. ne (sym q)) in
-      sym (rw miss)
+  found-stop less h f is-f =
+      is-f
+      ∙ rw (← seek-hits key es blank count n i id full is-n so so-hits less h, ← seek-at key es blank count n i id full is-n so so-hits less h)
 
   pub found-end : n ≤ i → Missing ≡ find id (take count es)
   unfolding find

@@ -21,17 +21,25 @@ abbrev pub ascending : ℕ → List ℕ → Bool
 ascending low [] = true
 ascending low (id ∷ ids) = ltb low id && ascending id ids
 
--- "a health 00h to CFh"; "A type other than 01h has block count 0"
-abbrev pub sound : Element → Bool
-sound e = gradedHealth (e .health) && (storageType (e .kind) || eqb (e .blocks) 0)
+-- "A type other than 01h has block count 0"
+abbrev pub shaped : Element → Bool
+shaped e = storageType (e .kind) || eqb (e .blocks) 0
+
+-- "a health 00h to CFh"
+abbrev pub healthy : Element → Bool
+healthy e = gradedHealth (e .health)
 
 -- "The blocks sum to between 2 and 2^48"
 abbrev pub summed : ℕ → Bool
 summed total = leb 2 total && leb total (2 ^ 48)
 
--- the tables that are not refused; the count is tested itself, since a list of 129 records has no more than 128 in the array
+-- all but the healths; the count is tested itself, since a list of 129 records has no more than 128 in the array
+abbrev pub structured : ℕ → List Element → ℕ → Bool
+structured count es limit = sized count limit && (ascending 0 (elementIds es) && (all shaped es && summed (blockSum es)))
+
+-- the tables that are not refused
 unfoldable pub good : ℕ → List Element → ℕ → Bool
-good count es limit = sized count limit && (ascending 0 (elementIds es) && (all sound es && summed (blockSum es)))
+good count es limit = structured count es limit && all healthy es
 
 -- what the check tells: 0 and the blocks of all, or 8
 unfoldable pub checkOf : Offer → Told (List ℕ)
@@ -46,7 +54,7 @@ verdict (Blocks n) = tells 0 (n ∷ [])
 
 -- an element may follow an identifier `last` and `total` blocks
 abbrev pub mayFollow : ℕ → ℕ → Element → Bool
-mayFollow last total e = ltb last (e .id .0) && (sound e && leb (total + e .blocks) (2 ^ 48))
+mayFollow last total e = ltb last (e .id .0) && (shaped e && (healthy e && leb (total + e .blocks) (2 ^ 48)))
 
 abbrev pub walkFrom : ℕ → ℕ → List Element → Checked
 walkFrom last total [] = cond (leb 2 total) (Blocks total) Refused

@@ -4,6 +4,7 @@ use mathlib.Core.Bool.{Bool, false}
 use mathlib.Core.List.{List, _++_, map}
 use lib.ListN.{length, take, getD, replicate}
 use Rattle.paper.specs.Elements.{storageType, removedHealth}
+use Rattle.paper.specs.declared.ElementId.{ElementId}
 use Rattle.words.specs.Lists.{sum, one}
 use Rattle.table.specs.declared.Element.{Element}
 use Rattle.table.specs.declared.Offer.{Offer}
@@ -17,12 +18,20 @@ offered o = take (o .count) (o .elements)
 abbrev pub live : Table → List Part
 live t = take (t .count) (t .parts)
 
--- what fills an unused slot
+-- ## An element, and the part of it that is built
+
+abbrev pub elementOf : ElementId → ℕ → ℕ → Bool → ℕ → Element
+elementOf id kind health unreported blocks = record { id = id; kind = kind; health = health; unreported = unreported; blocks = blocks }
+
+abbrev pub partOf : Element → Part
+partOf e = record { id = e .id; kind = e .kind; unreported = e .unreported; blocks = e .blocks }
+
+-- what fills an unused place
 abbrev pub blank : Element
-blank = record { id = record { 0 = 0 }; kind = 0; health = 0; unreported = false; blocks = 0 }
+blank = elementOf (record { 0 = 0 }) 0 0 false 0
 
 abbrev pub blankPart : Part
-blankPart = record { id = record { 0 = 0 }; kind = 0; unreported = false; blocks = 0 }
+blankPart = partOf blank
 
 -- ## Identifiers
 
@@ -43,9 +52,6 @@ abbrev pub identifierAt : Table → ℕ → ℕ
 identifierAt t place = getD (identifiers t) place 0
 
 -- ## An offered table, split: what is built, and the health that the cell of each place starts with
-
-abbrev pub partOf : Element → Part
-partOf e = record { id = e .id; kind = e .kind; unreported = e .unreported; blocks = e .blocks }
 
 abbrev pub healthOf : Element → ℕ
 healthOf e = e .health

@@ -3,12 +3,13 @@ use Prim.Native.Nat.{ℕ}
 use mathlib.Core.Bool.{false}
 use mathlib.Core.List.{List, _∷_}
 use lib.ListN.{replicate}
-use Rattle.table.specs.Elements.{blank}
+use Rattle.table.specs.Elements.{elementOf, blank}
 use Rattle.table.specs.declared.Element.{Element}
 use Rattle.table.specs.declared.Offer.{Offer}
 
+-- with its capacity reported
 abbrev pub element : ℕ → ℕ → ℕ → ℕ → Element
-element id kind health blocks = record { id = record { 0 = id }; kind = kind; health = health; unreported = false; blocks = blocks }
+element id kind health blocks = elementOf (record { 0 = id }) kind health false blocks
 
 -- "1 (01h, 20h, 1,000 blocks); 3 (01h, 10h, 1,500); 0001_0003h (01h, 70h, 500); 0002_0000h (02h, 00h, 0)"
 abbrev pub elementsA : List Element

@@ -4,7 +4,7 @@ ghost use mathlib.Core.Path.{_≡_};
 ghost use Prim.Native.Nat.{_-_, _≤_, _^_, min};
 ghost use mathlib.Core.List.{_++_, map};
 ghost use lib.ListN.{take, replicate, getD, set};
-ghost use Rattle.table.specs.Check.{sized, sound, mayFollow, walkFrom, checkOf, verdict};
+ghost use Rattle.table.specs.Check.{sized, shaped, healthy, mayFollow, walkFrom, checkOf, verdict};
 ghost use Rattle.table.specs.Elements as elements;
 ghost use Rattle.table.specs.Elements.{offered, partOf, blankPart, removedCount};
 ghost use Rattle.table.specs.Search as search;
@@ -60,10 +60,49 @@ pub struct Sight {
 }
 
 // How many of an array's 128 a count takes.
-fn bounded(count: usize) -> usize
+pub fn bounded(count: usize) -> usize
     ensures { λ r. ⌜ r ≡ min count 128 ⌝ }
 {
-    if count < 128 { count } else { 128 }
+    words::smaller(count, 128)
+}
+
+// ---- An element, and the part of it that is built
+
+pub fn element_of(id: ElementId, kind: u8, health: u8, unreported: bool, blocks: u64) -> Element
+    ensures { λ r. ⌜ r ≡ elements.elementOf id kind health unreported blocks ⌝ }
+{
+    Element {
+        id,
+        kind,
+        health,
+        unreported,
+        blocks,
+    }
+}
+
+pub fn part_of(e: Element) -> Part
+    ensures { λ r. ⌜ r ≡ partOf e ⌝ }
+{
+    let id = e.id;
+    Part {
+        id,
+        kind: e.kind,
+        unreported: e.unreported,
+        blocks: e.blocks,
+    }
+}
+
+// What fills an unused place.
+pub fn blank() -> Element
+    ensures { λ r. ⌜ r ≡ elements.blank ⌝ }
+{
+    element_of(ElementId(0), 0, 0, false, 0)
+}
+
+pub fn blank_part() -> Part
+    ensures { λ r. ⌜ r ≡ blankPart ⌝ }
+{
+    part_of(blank())
 }
 
 // ---- The check of an offered table
@@ -80,19 +119,24 @@ fn is_sized(count: usize, limit: u16) -> bool
     limit <= 128
 }
 
-fn is_sound(e: Element) -> bool
-    ensures { λ r. ⌜ r ≡ sound e ⌝ }
+// "A type other than 01h has block count 0"
+fn is_shaped(e: Element) -> bool
+    ensures { λ r. ⌜ r ≡ shaped e ⌝ }
 {
-    if 0xCF < e.health {
-        return false;
-    }
     if e.kind == 1 {
         return true;
     }
     e.blocks == 0
 }
 
-// Whether an element may follow: above the last identifier, sound, and with the blocks so far at most 2^48.
+// "a health 00h to CFh"
+fn is_healthy(e: Element) -> bool
+    ensures { λ r. ⌜ r ≡ healthy e ⌝ }
+{
+    e.health <= 0xCF
+}
+
+// Whether an element may follow: above the last identifier, shaped, healthy, and with the blocks so far at most 2^48.
 fn may_follow(e: Element, last: u32, total: u64) -> bool
     requires { ⌜ total ≤ 2 ^ 48 ⌝ }
     ensures { λ r. ⌜ r ≡ mayFollow last total e ⌝ }
@@ -100,7 +144,10 @@ fn may_follow(e: Element, last: u32, total: u64) -> bool
     if e.id.0 <= last {
         return false;
     }
-    if !is_sound(e) {
+    if !is_shaped(e) {
+        return false;
+    }
+    if !is_healthy(e) {
         return false;
     }
     e.blocks <= 281474976710656 - total
@@ -131,20 +178,26 @@ fn walk(es: [Element; 128], n: usize) -> Checked
 
 // ---- The search of an offered table
 
+// What the search comes to where it stops.
+fn stopped(e: Element, want: u32) -> Found
+    ensures { λ r. ⌜ r ≡ search.stopped want e ⌝ }
+{
+    if e.id.0 == want {
+        return Found::One(e);
+    }
+    Found::Missing
+}
+
 // Among the first `count`: it stops at the first identifier that is not below the one sought.
-fn found_in(es: [Element; 128], count: usize, id: ElementId) -> Found
-    ensures { λ r. ⌜ r ≡ search.find (id .0) (take count es) ⌝ }
+fn found_in(es: [Element; 128], count: usize, want: u32) -> Found
+    ensures { λ r. ⌜ r ≡ search.find want (take count es) ⌝ }
 {
     let n = bounded(count);
-    let want = id.0;
     let mut i: usize = 0;
     while i < n {
         let e = es[i];
-        if want == e.id.0 {
-            return Found::One(e);
-        }
-        if want < e.id.0 {
-            return Found::Missing;
+        if want <= e.id.0 {
+            return stopped(e, want);
         }
         i += 1;
     }
@@ -152,29 +205,6 @@ fn found_in(es: [Element; 128], count: usize, id: ElementId) -> Found
 }
 
 // ---- An offered table, split
-
-fn part_of(e: Element) -> Part
-    ensures { λ r. ⌜ r ≡ partOf e ⌝ }
-{
-    let id = e.id;
-    Part {
-        id,
-        kind: e.kind,
-        unreported: e.unreported,
-        blocks: e.blocks,
-    }
-}
-
-fn blank_part() -> Part
-    ensures { λ r. ⌜ r ≡ blankPart ⌝ }
-{
-    Part {
-        id: ElementId(0),
-        kind: 0,
-        unreported: false,
-        blocks: 0,
-    }
-}
 
 // The parts of the first `count`, then blanks.
 fn parts_of(es: [Element; 128], count: usize) -> [Part; 128]
@@ -224,7 +254,7 @@ impl Offer {
         ensures { λ r. ⌜ r ≡ search.find (id .0) (offered self) ⌝ }
     {
         let es = self.elements;
-        found_in(es, self.count, id)
+        found_in(es, self.count, id.0)
     }
 
     // The table as it is built of the offer.
@@ -252,11 +282,10 @@ impl Offer {
 // ---- The table as built
 
 // The search among the first `count`.
-fn seek(ps: [Part; 128], count: usize, id: ElementId) -> Sight
-    ensures { λ r. ⌜ r ≡ search.sightIn (id .0) (take count ps) ⌝ }
+fn seek(ps: [Part; 128], count: usize, want: u32) -> Sight
+    ensures { λ r. ⌜ r ≡ search.sightIn want (take count ps) ⌝ }
 {
     let n = bounded(count);
-    let want = id.0;
     let mut i: usize = 0;
     while i < n {
         let part = ps[i];
@@ -282,7 +311,7 @@ impl Table {
         ensures { λ r. ⌜ r ≡ search.sight (id .0) self ⌝ }
     {
         let ps = self.parts;
-        seek(ps, self.count, id)
+        seek(ps, self.count, id.0)
     }
 }
 

@@ -20,6 +20,11 @@ abbrev pub all : {A : Type 0} → (A → Bool) → List A → Bool
 all f [] = true
 all f (x ∷ xs) = f x && all f xs
 
+-- whether it holds for one
+abbrev pub any : {A : Type 0} → (A → Bool) → List A → Bool
+any f [] = false
+any f (x ∷ xs) = f x || any f xs
+
 -- a statement that holds of every element
 abbrev pub Every : {A : Type 0} → (A → Type 0) → List A → Type 0
 Every P [] = Unit {0}
@@ -27,8 +32,7 @@ Every P (x ∷ xs) = P x × Every P xs
 
 -- whether a number is one of some
 abbrev pub oneOf : ℕ → List ℕ → Bool
-oneOf n [] = false
-oneOf n (x ∷ xs) = eqb n x || oneOf n xs
+oneOf n xs = any (eqb n) xs
 
 -- what f makes of each element, end to end
 abbrev pub flat : {A B : Type 0} → (A → List B) → List A → List B

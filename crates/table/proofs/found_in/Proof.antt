@@ -5,18 +5,18 @@ use lib.ListN.{length, take, drop}
 use borrow.Author.Needs.{needs}
 use Rattle.table.specs.Elements.{elementIds}
 use Rattle.table.specs.Search.{place, hits}
-use Rattle.table.proofs.Search.{found-pass, found-still, found-one, found-none, found-end}
+use Rattle.table.proofs.Search.{found-pass, found-still, found-stop, found-end}
 use Rattle.table.proofs.found_in.Statement.{statement}
 use Rattle.table.proofs.found_in.Tie as tie
 
 abbrev Inv-loop : tie.InvT-loop
-Inv-loop count es n want i₀ i =
+Inv-loop count want es n i₀ i =
     (i ≤ n) × (n ≡ min count 128) × (length es ≡ 128)
     × (i + place want (elementIds (drop i (take n es))) ≡ place want (elementIds (take n es)))
     × (hits want (elementIds (drop i (take n es))) ≡ hits want (elementIds (take n es)))
 
 abbrev μ-loop : tie.MeasureT-loop
-μ-loop count es n want i₀ i = n - i
+μ-loop count want es n i₀ i = n - i
 
 pub found-in-spec : {M : Type 1} → statement M
 found-in-spec =
@@ -28,8 +28,8 @@ found-in-spec =
     (λ c. (search needs, search needs, c .before .good .0 .1 .0 .1, search needs, refl))
     (λ c. search needs)
     (λ c. search needs)
-    (λ c. search (found-one))
-    (λ c. search (found-none))
+    (λ c κs. search needs)
+    (λ c. search (found-stop))
     (λ c. search needs)
     (λ c. search needs)
     (λ c. (search needs, search needs, search needs, search (found-pass), search (found-still)))

@@ -1,7 +1,7 @@
 -- `table::may_follow`: a law for each way out; the blocks so far and this element's are compared without adding them.
 use borrow.Author.Needs.{needs}
 use borrow.Author.Tests.{not-true, not-false}
-use Rattle.table.proofs.Check.{follow-order, follow-sound, follow-blocks}
+use Rattle.table.proofs.Check.{follow-order, follow-shaped, follow-healthy, follow-blocks}
 use Rattle.table.proofs.may_follow.Statement.{statement}
 use Rattle.table.proofs.may_follow.Tie as tie
 
@@ -11,6 +11,8 @@ may-follow-spec =
     (tie.spec
     (λ c. search (follow-order))
     (λ c κs. search needs)
-    (λ c. search (follow-sound, not-true))
+    (λ c. search (follow-shaped, not-true))
+    (λ c κs. search needs)
+    (λ c. search (follow-healthy, not-true, not-false))
     (λ c. search needs)
     (λ c. search (follow-blocks, not-false)))

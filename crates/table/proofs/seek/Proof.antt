@@ -10,13 +10,13 @@ use Rattle.table.proofs.seek.Statement.{statement}
 use Rattle.table.proofs.seek.Tie as tie
 
 abbrev Inv-loop : tie.InvT-loop
-Inv-loop count ps n want i₀ i =
+Inv-loop count want ps n i₀ i =
     (i ≤ n) × (n ≡ min count 128) × (length ps ≡ 128)
     × (i + place want (partIds (drop i (take n ps))) ≡ place want (partIds (take n ps)))
     × (hits want (partIds (drop i (take n ps))) ≡ hits want (partIds (take n ps)))
 
 abbrev μ-loop : tie.MeasureT-loop
-μ-loop count ps n want i₀ i = n - i
+μ-loop count want ps n i₀ i = n - i
 
 pub seek-spec : {M : Type 1} → statement M
 seek-spec =
