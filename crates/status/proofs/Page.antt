@@ -4,16 +4,19 @@ use mathlib.Core.Bool.{Bool, true, false, cond}
 use mathlib.Core.List.{List, [], _∷_, _++_, map, append-assoc, append-nil}
 use mathlib.Core.Path.{_≡_, refl, sym, ap, _∙_}
 use native.Mathlib.Numerals.{add-one}
+use native.Mathlib.Nat.{add-zero}
 use native.Mathlib.Omega.{arith}
 use lib.Dec.{ltb}
-use lib.ListN.{length, take, drop, getD, set, replicate, length-append, length-map, length-replicate, List·getD-map}
-use lib.Seq.{length-take-le, take-length, take-suc-set, getD-take, drop-drop}
+use lib.ListN.{length, take, drop, getD, set, replicate, length-append, length-map, length-replicate, length-set, List·getD-map}
+use lib.Seq.{length-take-le, take-all, take-length, take-take, take-set-le, take-suc-set, getD-take, drop-drop}
 use borrow.Author.Tests.{lt-ltb, le-ltb, ltb-false, le-leb, eq-eqb, ne-eqb}
 use borrow.Rule.Slice.PartMut.{putMid}
+use mir.Val.{boolByte}
 use Rattle.device.specs.Cells.{healthAt}
 use Rattle.device.specs.Commands.{statusNumber}
 use Rattle.device.specs.Remove.{aborts, removedNumber}
 use Rattle.device.specs.declared.Command.the-variants.{Status}
+use Rattle.device.specs.declared.Cells.{Cells}
 use Rattle.device.specs.declared.Device.{Device}
 use Rattle.device.specs.declared.Note.the-variants.{Empty, Full}
 use Rattle.device.specs.declared.Note.{Note}
@@ -29,12 +32,14 @@ use Rattle.paper.specs.declared.Answer.{Answer}
 use Rattle.paper.specs.declared.ElementId.{ElementId}
 use Rattle.paper.specs.declared.Security.{Security}
 use Rattle.table.proofs.Splits.{length-taken}
-use Rattle.table.specs.Elements.{live, blankPart, identifiers, size, identifierAt}
+use Rattle.table.specs.Elements.{live, blankPart, identifiers, size, identifierAt, removedCount}
 use Rattle.table.specs.declared.Part.{Part}
-use Rattle.words.proofs.Lists.{take-min, keep-append, map-append, map-map, map-upTo, map-places, stored-front, stored-more, stored-each, length-flat}
-use Rattle.words.specs.Lists.{keep, upTo, Every, flat, stored}
+use Rattle.table.specs.declared.Table.{Table}
+use Rattle.words.proofs.Lists.{take-min, keep-append, map-append, map-map, map-upTo, map-places, every-same, every-set, stored-front, stored-more, stored-each, length-flat}
+use Rattle.words.specs.Lists.{keep, upTo, flat, stored}
 use Rattle.words.specs.declared.Order.the-variants.{Little}
 use Rattle.status.specs.Page.{capacityOf, shownOf, shownAt, shownAll, asks, listOf, busyOf, headed, headerOf, pageOf, shown}
+use Rattle.status.specs.Places.{Slots, shownIn, shownThere}
 
 -- ## An element
 
@@ -80,53 +85,58 @@ shown-ids d =
 
 -- ## The list, by places
 
+take-map : {A B : Type 0} (f : A → B) (n : ℕ) (l : List A) → take n (map f l) ≡ map f (take n l)
+take-map f zero l = refl
+take-map f (suc n) [] = refl
+take-map {A} {B} f (suc n) (x ∷ xs) = ap (λ (l : List B). f x ∷ l) (take-map f n xs)
+
 module _ (ps : List Part) (hs : List ℕ) where
-  unfoldable pub show : ℕ → Descriptor
-  show place = shownOf (getD ps place blankPart) (getD hs place 0)
+  length-there : (places : List ℕ) (n : ℕ) → n ≤ length places → length (shownThere ps hs places n) ≡ n
+  unfolding shownThere
+  length-there places n few = length-map (take n places) (shownIn ps hs) ∙ length-take-le n places few
 
-  -- those at the first n of the places
-  unfoldable pub at-places : List ℕ → ℕ → List Descriptor
-  at-places places n = map show (take n places)
+  at-place : (places : List ℕ) (n k : ℕ) → k < n → shownIn ps hs (getD places k 0) ≡ getD (shownThere ps hs places n) k (shownIn ps hs 0)
+  unfolding shownThere
+  at-place places n k h = sym (List·getD-map (shownIn ps hs) (take n places) k 0 ∙ ap (shownIn ps hs) (getD-take n places k 0 h))
 
-  pub length-places : (places : List ℕ) (n : ℕ) → length places ≡ 128 → n ≤ 128 → length (at-places places n) ≡ n
-  unfolding at-places
-  length-places places n long few = length-map (take n places) show ∙ length-take-le n places (omega arith)
-
-  pub at-place : (places : List ℕ) (n k : ℕ) → k < n → show (getD places k 0) ≡ getD (at-places places n) k (show 0)
-  unfolding at-places
-  at-place places n k h = sym (List·getD-map show (take n places) k 0 ∙ ap show (getD-take n places k 0 h))
+  take-there : (places : List ℕ) (n r : ℕ) → r ≤ n → take r (shownThere ps hs places n) ≡ shownThere ps hs places r
+  unfolding shownThere
+  take-there places n r h = take-map (shownIn ps hs) r (take n places) ∙ ap (map (shownIn ps hs)) (take-take r n places h)
 
   module _ (q : Request) where
     -- what is asked for of the first i
     unfoldable pub asked : ℕ → List Descriptor
-    asked i = keep (asks q) (map show (upTo i))
+    asked i = keep (asks q) (map (shownIn ps hs) (upTo i))
 
-    asked-more : (i : ℕ) → asked (i + 1) ≡ asked i ++ cond (asks q (show i)) (show i ∷ []) []
+    asked-more : (i : ℕ) → asked (i + 1) ≡ asked i ++ cond (asks q (shownIn ps hs i)) (shownIn ps hs i ∷ []) []
     unfolding asked
-    asked-more i = rw (add-one i, map-append show (upTo i) (i ∷ [])) (keep-append (asks q) (map show (upTo i)) (show i ∷ []))
+    asked-more i =
+        rw (add-one i, map-append (shownIn ps hs) (upTo i) (i ∷ [])) (keep-append (asks q) (map (shownIn ps hs) (upTo i)) (shownIn ps hs i ∷ []))
 
-    pub list-none : (places : List ℕ) → at-places places 0 ≡ asked 0
-    unfolding at-places asked
-    list-none places = refl
+    -- the places put down are those of what is asked for of the first i
+    abbrev pub Listed : List ℕ → ℕ → ℕ → Type 0
+    Listed places number i = (shownThere ps hs places number ≡ asked i) × (number ≤ i) × (length places ≡ 128) × Slots places
 
-    -- a turn of the loop: the place is put down, or not
-    module _ (places : List ℕ) (n i : ℕ) (so : at-places places n ≡ asked i) (x : Descriptor)
-        (is-x : x ≡ shownOf (getD ps i blankPart) (getD hs i 0)) (b : Bool) (is-b : b ≡ asks q x) where
-      known : asks q (show i) ≡ b
-      unfolding show
-      known = ap (asks q) (sym is-x) ∙ sym is-b
+    pub list-none : Listed (replicate 128 0) 0 0
+    unfolding shownThere asked
+    list-none = (refl, omega arith, refl, every-same (λ (j : ℕ). j < 128) 128 0 (omega arith))
 
-      pub list-yes : n < length places → b ≡ true → (k : ℕ) (out : List ℕ) → out ≡ set places n i → k ≡ n + 1 → at-places out k ≡ asked (i + 1)
-      unfolding at-places
-      list-yes room y k out is-out is-k =
-          rw (is-out, is-k, add-one n, take-suc-set places n i room, map-append show (take n places) (i ∷ []), asked-more i, known, y, so)
+    -- a turn of the loop: the place is put down, and counts if its element is asked for
+    module _ (places : List ℕ) (n i : ℕ) (listed : Listed places n i) (low : i < 128) where
+      counts : (b : Bool) → asks q (shownIn ps hs i) ≡ b → shownThere ps hs (set places n i) (n + boolByte b) ≡ asked (i + 1)
+      unfolding shownThere
+      counts true y =
+          rw (add-one n, take-suc-set places n i (omega (arith, listed)), map-append (shownIn ps hs) (take n places) (i ∷ []), asked-more i, y, listed .0)
+      counts false z = rw (add-zero n, take-set-le n places n i (omega arith), asked-more i, z, append-nil) (listed .0)
 
-      pub list-no : b ≡ false → (k : ℕ) (out : List ℕ) → out ≡ places → k ≡ n → at-places out k ≡ asked (i + 1)
-      list-no z k out is-out is-k = rw (is-out, is-k, asked-more i, known, z, append-nil) so
-
--- each place is an index of the arrays
-abbrev pub Slots : List ℕ → Type 0
-Slots places = Every (λ (j : ℕ). j < 128) places
+      pub list-turn : (x : Descriptor) → x ≡ shownOf (getD ps i blankPart) (getD hs i 0) → (b : Bool) → b ≡ asks q x → Listed (set places n i) (n + boolByte b) (i + 1)
+      unfolding shownIn
+      list-turn x is-x b is-b =
+          (counts b (ap (asks q) (sym is-x) ∙ sym is-b), less b, length-set places n i ∙ listed .2, every-set (λ (j : ℕ). j < 128) places n i (listed .3) low)
+        where
+          less : (b : Bool) → n + boolByte b ≤ i + 1
+          less true = omega (arith, listed)
+          less false = omega (arith, listed)
 
 module _ (places : List ℕ) (slots : Slots places) (k : ℕ) where
   pub slot-below : getD places k 0 < 128
@@ -143,6 +153,10 @@ module _ (places : List ℕ) (slots : Slots places) (k : ℕ) where
   pub slot-times : getD places k 0 * 16 < 2 ^ 64
   slot-times = omega (arith, slot-below)
 
+pub count-fits : (n : ℕ) (b : Bool) → n < 128 → n + boolByte b < 2 ^ 64
+count-fits n true low = omega arith
+count-fits n false low = omega arith
+
 module _ (r number pages : ℕ) (is-r : r ≡ returnedOf number pages) (few : number ≤ 128) where
   pub returned-few : r ≤ 128
   returned-few = omega arith
@@ -150,28 +164,17 @@ module _ (r number pages : ℕ) (is-r : r ≡ returnedOf number pages) (few : nu
   pub returned-fits : 1 ≤ pages → 32 + 32 * r ≤ 512 * pages
   returned-fits some = omega arith
 
-  pub turn-below : (k : ℕ) → k < r → k < 128
-  turn-below k h = omega arith
+  pub returned-room : 1 ≤ pages → (room there : ℕ) → 512 * pages ≤ room → there ≡ room → 32 + 32 * r ≤ there
+  returned-room some room there large same = omega arith
 
-  pub turn-few : (k : ℕ) → k < r → k ≤ 128
-  turn-few k h = omega arith
-
--- the whole table's
-all-asked : (d : Device) (q : Request) (n : ℕ) → length (d .table .parts) ≡ 128 → n ≡ min (d .table .count) 128 → asked (d .table .parts) (d .cells .healths) q n ≡ listOf d q
-unfolding show asked listOf
-all-asked d q n full is-n =
+-- all of them put down
+all-listed : (d : Device) (q : Request) (n : ℕ) → length (d .table .parts) ≡ 128 → n ≡ min (d .table .count) 128 → asked (d .table .parts) (d .cells .healths) q n ≡ listOf d q
+unfolding shownIn asked listOf
+all-listed d q n full is-n =
     let long : size (d .table) ≡ n = length-map (live (d .table)) (λ (p : Part). p .id .0) ∙ length-taken (d .table .parts) (d .table .count) n full is-n in
-    let same : (i : ℕ) → i < n → show (d .table .parts) (d .cells .healths) i ≡ shownAt d i =
+    let same : (i : ℕ) → i < n → shownIn (d .table .parts) (d .cells .healths) i ≡ shownAt d i =
     λ i h. ap (λ (p : Part). shownOf p (healthAt d i)) (sym (getD-take (d .table .count) (d .table .parts) i blankPart (omega arith))) in
-    ap (keep (asks q)) (map-upTo (show (d .table .parts) (d .cells .healths)) (shownAt d) n same ∙ ap (λ (m : ℕ). map (shownAt d) (upTo m)) (sym long))
-
--- what the first loop has put down when it ends
-pub all-listed : (d : Device) (q : Request) (places : List ℕ) (number i n : ℕ) → length (d .table .parts) ≡ 128 → n ≡ min (d .table .count) 128 → i ≤ n → n ≤ i
-    → at-places (d .table .parts) (d .cells .healths) places number ≡ asked (d .table .parts) (d .cells .healths) q i
-    → at-places (d .table .parts) (d .cells .healths) places number ≡ listOf d q
-all-listed d q places number i n full is-n low high so =
-    let end : i ≡ n = omega arith in
-    so ∙ ap (asked (d .table .parts) (d .cells .healths) q) end ∙ all-asked d q n full is-n
+    ap (keep (asks q)) (map-upTo (shownIn (d .table .parts) (d .cells .healths)) (shownAt d) n same ∙ ap (λ (m : ℕ). map (shownAt d) (upTo m)) (sym long))
 
 -- ## The bytes
 
@@ -201,46 +204,64 @@ cleared d z end size m low fits is-z is-m =
     rw (is-z, is-m, length-replicate, le-leb _ _ room, drop-drop (size - end) end d) (sym (append-assoc (take end d) (replicate (size - end) 0) (drop (end + (size - end)) d)))
 
 -- what is stored, put together
-module _ (d : Device) (q : Request) (list : List Descriptor) (n r : ℕ) (so : list ≡ listOf d q) (long : length list ≡ n)
-    (is-r : r ≡ returnedOf n (pagesOf q)) (some : 1 ≤ pagesOf q) (g : ℕ) (is-g : g ≡ removedNumber d) where
-  count : n ≡ length (listOf d q)
-  count = sym long ∙ ap length so
-
-  cut : take (roomOf (pagesOf q)) (listOf d q) ≡ take r list
+module _ (d : Device) (q : Request) (l : List Descriptor) (n r : ℕ) (is-n : n ≡ length (listOf d q)) (is-r : r ≡ returnedOf n (pagesOf q)) (is-l : l ≡ take r (listOf d q))
+    (some : 1 ≤ pagesOf q) where
+  cut : take (roomOf (pagesOf q)) (listOf d q) ≡ l
   cut =
-      let less : r ≡ min (roomOf (pagesOf q)) (length (listOf d q)) = omega (arith, count) in
-      sym (take-min (roomOf (pagesOf q)) (listOf d q)) ∙ rw (← less, ← so)
+      let less : r ≡ min (roomOf (pagesOf q)) (length (listOf d q)) = omega (arith, is-n) in
+      sym (take-min (roomOf (pagesOf q)) (listOf d q)) ∙ rw (← less, ← is-l)
 
-  pub filled : (b b₁ b₂ b₃ : List ℕ) → 512 * pagesOf q ≤ length b → b₁ ≡ stored b 0 (headerBytes Little (headed n (pagesOf q) (d .cells .note) (d .table .limit) g))
-      → b₂ ≡ stored b₁ 32 (flat bytesOf (take r list)) → b₃ ≡ stored b₂ (32 + 32 * r) (replicate (512 * pagesOf q - (32 + 32 * r)) 0)
-      → b₃ ≡ pageOf d q ++ drop (512 * pagesOf q) b
+  together : (g : ℕ) → g ≡ removedNumber d → (b b₁ b₂ b₃ : List ℕ) → 512 * pagesOf q ≤ length b
+      → b₁ ≡ stored b 0 (headerBytes Little (headed n (pagesOf q) (d .cells .note) (d .table .limit) g)) → b₂ ≡ stored b₁ 32 (flat bytesOf l)
+      → b₃ ≡ stored b₂ (32 + 32 * r) (replicate (512 * pagesOf q - (32 + 32 * r)) 0) → b₃ ≡ pageOf d q ++ drop (512 * pagesOf q) b
   unfolding pageOf
-  filled b b₁ b₂ b₃ large is-b₁ is-b₂ is-b₃ =
+  together g is-g b b₁ b₂ b₃ large is-b₁ is-b₂ is-b₃ =
       let h : List ℕ = headerBytes Little (headed n (pagesOf q) (d .cells .note) (d .table .limit) g) in
-      let l : List ℕ = flat bytesOf (take r list) in
+      let f : List ℕ = flat bytesOf l in
       let z : List ℕ = replicate (512 * pagesOf q - (32 + 32 * r)) 0 in
-      let wide-list : length l ≡ 32 * r = length-flat bytesOf 32 wide (take r list) ∙ rw (length-take-le r list (omega (arith, long))) in
-      let wide-both : length (h ++ l) ≡ 32 + 32 * r = length-append h l ∙ rw wide-list in
-      let wide-all : length ((h ++ l) ++ z) ≡ 512 * pagesOf q = rw (length-append (h ++ l) z, wide-both, length-replicate) (omega arith) in
+      let few : length l ≡ r = ap length is-l ∙ length-take-le r (listOf d q) (omega (arith, is-n)) in
+      let wide-list : length f ≡ 32 * r = length-flat bytesOf 32 wide l ∙ rw few in
+      let wide-both : length (h ++ f) ≡ 32 + 32 * r = length-append h f ∙ rw wide-list in
+      let wide-all : length ((h ++ f) ++ z) ≡ 512 * pagesOf q = rw (length-append (h ++ f) z, wide-both, length-replicate) (omega arith) in
       let first : _≡_ {A = ℕ} 32 (0 + length h) = refl in
-      let second : 32 + 32 * r ≡ 0 + length (h ++ l) = omega (arith, wide-both) in
-      let two : b₂ ≡ stored b 0 (h ++ l) = is-b₂ ∙ (λ i. stored (is-b₁ i) (first i) l) ∙ stored-more b 0 h l (omega (arith, wide-both)) in
-      let three : b₃ ≡ stored b 0 ((h ++ l) ++ z) = is-b₃ ∙ (λ i. stored (two i) (second i) z) ∙ stored-more b 0 (h ++ l) z (omega (arith, wide-all)) in
-      let zeros : 512 * pagesOf q - 32 * (headerOf d q .returned + 1) ≡ 512 * pagesOf q - (32 + 32 * r) = rw (is-r, count) (omega arith) in
-      let whole : (h ++ l) ++ z ≡ pageOf d q =
-      λ i. (headerBytes Little (headed (count i) (pagesOf q) (d .cells .note) (d .table .limit) (is-g i)) ++ flat bytesOf (sym cut i)) ++ replicate (sym zeros i) 0 in
-      three ∙ stored-front b ((h ++ l) ++ z) (omega (arith, wide-all)) ∙ (λ i. whole i ++ drop (wide-all i) b)
+      let second : 32 + 32 * r ≡ 0 + length (h ++ f) = omega (arith, wide-both) in
+      let two : b₂ ≡ stored b 0 (h ++ f) = is-b₂ ∙ (λ i. stored (is-b₁ i) (first i) f) ∙ stored-more b 0 h f (omega (arith, wide-both)) in
+      let three : b₃ ≡ stored b 0 ((h ++ f) ++ z) = is-b₃ ∙ (λ i. stored (two i) (second i) z) ∙ stored-more b 0 (h ++ f) z (omega (arith, wide-all)) in
+      let zeros : 512 * pagesOf q - 32 * (headerOf d q .returned + 1) ≡ 512 * pagesOf q - (32 + 32 * r) = rw (is-r, is-n) (omega arith) in
+      let whole : (h ++ f) ++ z ≡ pageOf d q =
+      λ i. (headerBytes Little (headed (is-n i) (pagesOf q) (d .cells .note) (d .table .limit) (is-g i)) ++ flat bytesOf (sym cut i)) ++ replicate (sym zeros i) 0 in
+      three ∙ stored-front b ((h ++ f) ++ z) (omega (arith, wide-all)) ∙ (λ i. whole i ++ drop (wide-all i) b)
 
 -- ## What the loops come to
 
-module _ (ps : List Part) (hs places : List ℕ) (number r pages : ℕ) (b : List ℕ) (long : length places ≡ 128) (few : number ≤ 128)
-    (is-r : r ≡ returnedOf number pages) (some : 1 ≤ pages) (large : 512 * pages ≤ length b) where
-  pub put-next : (k : ℕ) (x y : List ℕ) (d : Descriptor) → k < r → x ≡ stored b 32 (flat bytesOf (take k (at-places ps hs places number)))
-      → d ≡ shownOf (getD ps (getD places k 0) blankPart) (getD hs (getD places k 0) 0) → y ≡ stored x (32 + 32 * k) (bytesOf d) → y ≡ stored b 32 (flat bytesOf (take (k + 1) (at-places ps hs places number)))
-  unfolding show
+module _ (t : Table) (c : Cells) (q : Request) (places : List ℕ) (number n r : ℕ) (is-n : n ≡ min (t .count) 128) (full : length (t .parts) ≡ 128)
+    (listed : Listed (t .parts) (c .healths) q places number n) (is-r : r ≡ returnedOf number (pagesOf q)) (some : 1 ≤ pagesOf q) where
+  pub filled : (g : ℕ) → g ≡ removedCount (take (t .count) (c .healths)) → (b b₁ b₂ b₃ : List ℕ) → 512 * pagesOf q ≤ length b
+      → b₁ ≡ stored b 0 (headerBytes Little (headed number (pagesOf q) (c .note) (t .limit) g)) → b₂ ≡ stored b₁ 32 (flat bytesOf (shownThere (t .parts) (c .healths) places r))
+      → b₃ ≡ stored b₂ (32 + 32 * r) (replicate (512 * pagesOf q - (32 + 32 * r)) 0)
+      → (d : Device) → d .table ≡ t → d .cells ≡ c → b₃ ≡ pageOf d q ++ drop (512 * pagesOf q) b
+  filled g is-g b b₁ b₂ b₃ large is-b₁ is-b₂ is-b₃ d is-t is-c =
+      let e : Device = record { table = t; cells = c; position = d .position } in
+      let same : e ≡ d = λ i. record { table = sym is-t i; cells = sym is-c i; position = d .position } in
+      let so : shownThere (t .parts) (c .healths) places number ≡ listOf e q = listed .0 ∙ all-listed e q n full is-n in
+      let long : number ≡ length (listOf e q) = sym (length-there (t .parts) (c .healths) places number (omega (arith, listed))) ∙ ap length so in
+      let first : shownThere (t .parts) (c .healths) places r ≡ take r (listOf e q) =
+      sym (take-there (t .parts) (c .healths) places number r (omega arith)) ∙ ap (take r) so in
+      rw (← same) (together e q (shownThere (t .parts) (c .healths) places r) number r long is-r first some g is-g b b₁ b₂ b₃ large is-b₁ is-b₂ is-b₃)
+
+module _ (ps : List Part) (hs places : List ℕ) (r : ℕ) (b : List ℕ) (long : length places ≡ 128) (few : r ≤ 128) (room : 32 + 32 * r ≤ length b) where
+  pub put-next : (k : ℕ) (x y : List ℕ) (d : Descriptor) → k < r → x ≡ stored b 32 (flat bytesOf (take k (shownThere ps hs places r)))
+      → d ≡ shownOf (getD ps (getD places k 0) blankPart) (getD hs (getD places k 0) 0) → y ≡ stored x (32 + 32 * k) (bytesOf d)
+      → y ≡ stored b 32 (flat bytesOf (take (k + 1) (shownThere ps hs places r)))
+  unfolding shownIn
   put-next k x y d less is-x is-d is-y =
-      stored-each bytesOf 32 wide (at-places ps hs places number) b x y 32 k (show ps hs 0) (omega arith) (omega (arith, length-places ps hs places number long few)) is-x
-      (is-y ∙ ap (λ (z : Descriptor). stored x (32 + 32 * k) (bytesOf z)) (is-d ∙ at-place ps hs places number k (omega arith)))
+      stored-each bytesOf 32 wide (shownThere ps hs places r) b x y 32 k (shownIn ps hs 0) (omega arith) (omega (arith, length-there ps hs places r (omega arith))) is-x
+      (is-y ∙ ap (λ (z : Descriptor). stored x (32 + 32 * k) (bytesOf z)) (is-d ∙ at-place ps hs places r k less))
+
+  pub put-all : (k : ℕ) (x : List ℕ) → k ≤ r → r ≤ k → x ≡ stored b 32 (flat bytesOf (take k (shownThere ps hs places r)))
+      → x ≡ stored b 32 (flat bytesOf (shownThere ps hs places r))
+  put-all k x low high is-x =
+      is-x ∙ ap (λ (l : List Descriptor). stored b 32 (flat bytesOf l)) (take-all k (shownThere ps hs places r) (omega (arith, length-there ps hs places r (omega arith))))
 
 -- ## The answer, and the buffer
 

@@ -1,15 +1,16 @@
 // GET PHYSICAL ELEMENT STATUS: the list and the filled page. The device is only read.
 ghost use mathlib.Core.Path.{_≡_};
 ghost use mathlib.Core.List.{_++_};
-ghost use Prim.Native.Nat.{_+_, _-_, _*_, _≤_, min};
+ghost use Prim.Native.Nat.{_+_, _-_, _*_, _≤_};
 ghost use lib.ListN.{length, drop, replicate};
 ghost use Rattle.paper.specs.Answers.{numberOf};
 ghost use Rattle.paper.specs.Told.{said};
-ghost use Rattle.words.specs.Lists.{stored};
+ghost use Rattle.words.specs.Lists.{flat, stored};
 ghost use Rattle.device.specs.Commands.{statusNumber};
 ghost use Rattle.layout.specs.Bytes.{headerBytes, descriptorBytes, returnedOf};
 ghost use Rattle.layout.specs.Requests.{pagesOf};
 ghost use Rattle.status.specs.Page.{capacityOf, shownOf, asks, busyOf, headed, pageOf, shown};
+ghost use Rattle.status.specs.Places.{Slots, shownThere};
 use device::Cells;
 use device::Command;
 use device::Device;
@@ -24,12 +25,6 @@ use paper::Security;
 use table::Part;
 use table::Table;
 use words::Order;
-
-fn smaller(a: usize, b: usize) -> usize
-    ensures { λ r. ⌜ r ≡ min a b ⌝ }
-{
-    if a < b { a } else { b }
-}
 
 fn capacity(p: Part) -> u64
     ensures { λ r. ⌜ r ≡ capacityOf p ⌝ }
@@ -98,7 +93,7 @@ fn put_header(
     requires { ⌜ (number ≤ 128) × (1 ≤ count .0) ⌝ }
     ensures { λ r. ⌜ (r ≡ returnedOf number (count .0)) × (now (buf .exit) ≡ stored (now (buf .entry)) 0 (headerBytes Order.Little (headed number (count .0) note limit removed))) ⌝ }
 {
-    let returned = smaller(number, 16 * (count.0 as usize) - 1);
+    let returned = words::smaller(number, 16 * (count.0 as usize) - 1);
     let header = Header {
         number: number as u32,
         returned: returned as u32,
@@ -130,6 +125,21 @@ fn put_zeros(returned: usize, count: PageCount, buf: &mut [u8])
     clear(&mut buf[end..size]);
 }
 
+// Stores the descriptors of the elements at the first of the places.
+fn put_list(ps: [Part; 128], hs: [u8; 128], places: [u8; 128], returned: usize, buf: &mut [u8])
+    requires { ⌜ (returned ≤ 128) × (32 + 32 * returned ≤ length (now buf)) × Slots places ⌝ }
+    ensures { λ _. ⌜ now (buf .exit) ≡ stored (now (buf .entry)) 32 (flat (descriptorBytes Order.Little) (shownThere ps hs places returned)) ⌝ }
+{
+    let mut k: usize = 0;
+    while k < returned {
+        let j = places[k] as usize;
+        let p = ps[j];
+        let x = shown_of(p, hs[j]);
+        put_descriptor(x, k, buf);
+        k += 1;
+    }
+}
+
 // Fills the page of a device of this table and these cells, in ascending order, each byte once: the header, the descriptors, the zeros.
 // The places of what is asked for are put down first, so that each element is judged once.
 fn fill(t: Table, c: Cells, request: Request, buf: &mut [u8])
@@ -141,31 +151,21 @@ fn fill(t: Table, c: Cells, request: Request, buf: &mut [u8])
     let ps = t.parts;
     let hs = c.healths;
     let note = c.note;
-    let count = request.count;
-    let n = smaller(t.count, 128);
+    let n = words::smaller(t.count, 128);
     let mut places: [u8; 128] = [0; 128];
     let mut number: usize = 0;
     let mut i: usize = 0;
     while i < n {
+        places[number] = i as u8;
         let p = ps[i];
         let x = shown_of(p, hs[i]);
-        if does_ask(request, x) {
-            places[number] = i as u8;
-            number += 1;
-        }
+        number += does_ask(request, x) as usize;
         i += 1;
     }
     let removed = table::removed(hs, t.count);
-    let returned = put_header(number, count, note, t.limit, removed, buf);
-    let mut k: usize = 0;
-    while k < returned {
-        let j = places[k] as usize;
-        let p = ps[j];
-        let x = shown_of(p, hs[j]);
-        put_descriptor(x, k, buf);
-        k += 1;
-    }
-    put_zeros(returned, count, buf);
+    let returned = put_header(number, request.count, note, t.limit, removed, buf);
+    put_list(ps, hs, places, returned, buf);
+    put_zeros(returned, request.count, buf);
 }
 
 // What a request is answered, over the length of the lent buffer.

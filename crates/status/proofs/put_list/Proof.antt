@@ -1,0 +1,50 @@
+-- `status::put_list`. The invariant: the descriptors of the first k stand behind the header, and all else as it was.
+use Prim.Native.Nat.{_-_, _≤_}
+use mathlib.Core.Path.{_≡_, sym, _∙_}
+use native.Mathlib.Omega.{arith}
+use lib.ListN.{length, take}
+use borrow.Author.Needs.{needs}
+use Rattle.words.proofs.Lists.{stored-none}
+use Rattle.words.specs.Lists.{flat, stored}
+use Rattle.status.specs.Places.{shownThere}
+use Rattle.status.proofs.Page.{bytesOf, slot-below, slot-fits, slot-times, put-next, put-all}
+use Rattle.status.proofs.put_list.Statement.{statement}
+use Rattle.status.proofs.put_list.Tie as tie
+
+abbrev Inv-loop : tie.InvT-loop
+Inv-loop returned buf₀ ps hs places k₀ buf k =
+    (k ≤ returned) × (length buf ≡ length buf₀) × (length places ≡ 128) × (length ps ≡ 128) × (length hs ≡ 128)
+    × (buf ≡ stored buf₀ 32 (flat bytesOf (take k (shownThere ps hs places returned))))
+
+abbrev μ-loop : tie.MeasureT-loop
+μ-loop returned buf₀ ps hs places k₀ buf k = returned - k
+
+pub put-list-spec : {M : Type 1} → statement M
+put-list-spec =
+    tie.close
+    (tie.spec
+    Inv-loop
+    μ-loop
+    (λ c. (search needs, search needs, search needs, c .before .good .0 .1 .0 .1, search needs, sym (stored-none _ 32)))
+    (λ c. search needs)
+    (λ c. record { fits = search (slot-fits) })
+    (λ c. record { fits = search (slot-times) })
+    (λ c. search (slot-below))
+    (λ c. search (slot-below))
+    (λ c κs. search needs)
+    (λ c κs. search needs)
+    (λ c. search needs)
+    (λ c. search needs)
+    (λ c. let put = c .before .before in
+    let x = put .before .before .shown-of in
+    let turn = put .before .before .before .before .before in
+    let l = turn .loop in (
+      search needs,
+      put .put-descriptor .kept .1 .1 .0 ∙ l .inv .1,
+      l .inv .2,
+      l .inv .3,
+      l .inv .4,
+      put-next _ _ _ _ (turn .before .before .args .buf .now) (l .inv .2) (turn .before .before .pre .0) (turn .before .before .pre .1) (l .k) (l .buf) _ (x .result) (omega arith) (l .inv .5) (x .ensures) (put .put-descriptor .ensures),
+    ))
+    (λ c. search needs)
+    (λ c. search (put-all)))
