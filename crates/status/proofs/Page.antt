@@ -4,19 +4,17 @@ use mathlib.Core.Bool.{Bool, true, false, cond}
 use mathlib.Core.List.{List, [], _∷_, _++_, map, append-assoc, append-nil}
 use mathlib.Core.Path.{_≡_, refl, sym, ap, _∙_}
 use native.Mathlib.Numerals.{add-one}
-use native.Mathlib.Nat.{add-zero}
+use native.Mathlib.Nat.{add-zero, sub-self}
 use native.Mathlib.Omega.{arith}
 use lib.Dec.{ltb}
-use lib.ListN.{length, take, drop, getD, set, replicate, length-append, length-map, length-replicate, length-set, List·getD-map}
-use lib.Seq.{length-take-le, take-all, take-length, take-take, take-set-le, take-suc-set, getD-take, drop-drop}
+use lib.ListN.{length, take, drop, getD, set, replicate, length-append, length-map, length-replicate, length-set, replicate-append-replicate, List·getD-map}
+use lib.Seq.{length-take-le, take-all, take-length, take-take, take-set-le, take-suc-set, getD-take, set-split}
 use borrow.Author.Tests.{lt-ltb, le-ltb, ltb-false, le-leb, eq-eqb, ne-eqb}
-use borrow.Rule.Slice.PartMut.{putMid}
 use mir.Val.{boolByte}
 use Rattle.device.specs.Cells.{healthAt}
 use Rattle.device.specs.Commands.{statusNumber}
 use Rattle.device.specs.Remove.{aborts, removedNumber}
 use Rattle.device.specs.declared.Command.the-variants.{Status}
-use Rattle.device.specs.declared.Cells.{Cells}
 use Rattle.device.specs.declared.Device.{Device}
 use Rattle.device.specs.declared.Note.the-variants.{Empty, Full}
 use Rattle.device.specs.declared.Note.{Note}
@@ -25,6 +23,7 @@ use Rattle.layout.proofs.Requests.{accepted}
 use Rattle.layout.specs.Bytes.{headerBytes, descriptorBytes, roomOf, returnedOf}
 use Rattle.layout.specs.Requests.{filterOf, reportTypeOf, pagesOf, takesId, takesType, takesHealth, refused}
 use Rattle.layout.specs.declared.Descriptor.{Descriptor}
+use Rattle.layout.specs.declared.Header.{Header}
 use Rattle.layout.specs.declared.Request.{Request}
 use Rattle.paper.specs.Answers.{numberOf}
 use Rattle.paper.specs.Told.{said}
@@ -32,10 +31,9 @@ use Rattle.paper.specs.declared.Answer.{Answer}
 use Rattle.paper.specs.declared.ElementId.{ElementId}
 use Rattle.paper.specs.declared.Security.{Security}
 use Rattle.table.proofs.Splits.{length-taken}
-use Rattle.table.specs.Elements.{live, blankPart, identifiers, size, identifierAt, removedCount}
+use Rattle.table.specs.Elements.{live, blankPart, identifiers, size, identifierAt}
 use Rattle.table.specs.declared.Part.{Part}
-use Rattle.table.specs.declared.Table.{Table}
-use Rattle.words.proofs.Lists.{take-min, keep-append, map-append, map-map, map-upTo, map-places, every-same, every-set, stored-front, stored-more, stored-each, length-flat}
+use Rattle.words.proofs.Lists.{take-min, keep-append, map-append, map-map, map-upTo, map-places, every-same, every-set, stored-front, stored-none, stored-more, stored-each, length-flat}
 use Rattle.words.specs.Lists.{keep, upTo, flat, stored}
 use Rattle.words.specs.declared.Order.the-variants.{Little}
 use Rattle.status.specs.Page.{capacityOf, shownOf, shownAt, shownAll, asks, listOf, busyOf, headed, headerOf, pageOf, shown}
@@ -47,19 +45,19 @@ pub shown-made : (p : Part) (h c : ℕ) → c ≡ capacityOf p → record { id =
 unfolding shownOf
 shown-made p h c is-c = λ i. record { id = p .id; restorable = false; kind = p .kind; health = h; capacity = is-c i }
 
-module _ (q : Request) (x : Descriptor) (a : Bool) (is-a : a ≡ takesId q (x .id .0)) where
-  pub asks-id : a ≡ false → false ≡ asks q x
+module _ (q : Request) (p : Part) (h : ℕ) (x : Descriptor) (is-x : x ≡ shownOf p h) (a : Bool) (is-a : a ≡ takesId q (x .id .0)) where
+  pub asks-id : a ≡ false → false ≡ asks q (shownOf p h)
   unfolding asks
-  asks-id n = sym (rw (sym is-a ∙ n))
+  asks-id n = sym (rw (sym is-a ∙ n)) ∙ ap (asks q) is-x
 
   module _ (yes-id : a ≡ true) (b : Bool) (is-b : b ≡ takesType (reportTypeOf q) (x .kind)) where
-    pub asks-type : b ≡ false → false ≡ asks q x
+    pub asks-type : b ≡ false → false ≡ asks q (shownOf p h)
     unfolding asks
-    asks-type n = sym (rw (sym is-a ∙ yes-id, sym is-b ∙ n))
+    asks-type n = sym (rw (sym is-a ∙ yes-id, sym is-b ∙ n)) ∙ ap (asks q) is-x
 
-    pub asks-health : b ≡ true → (h : Bool) → h ≡ takesHealth (filterOf q) (x .health) → h ≡ asks q x
+    pub asks-health : b ≡ true → (r : Bool) → r ≡ takesHealth (filterOf q) (x .health) → r ≡ asks q (shownOf p h)
     unfolding asks
-    asks-health y h is-h = is-h ∙ sym (rw (sym is-a ∙ yes-id, sym is-b ∙ y))
+    asks-health y r is-r = is-r ∙ sym (rw (sym is-a ∙ yes-id, sym is-b ∙ y)) ∙ ap (asks q) is-x
 
 -- ## The noted element
 
@@ -129,10 +127,10 @@ module _ (ps : List Part) (hs : List ℕ) where
           rw (add-one n, take-suc-set places n i (omega (arith, listed)), map-append (shownIn ps hs) (take n places) (i ∷ []), asked-more i, y, listed .0)
       counts false z = rw (add-zero n, take-set-le n places n i (omega arith), asked-more i, z, append-nil) (listed .0)
 
-      pub list-turn : (x : Descriptor) → x ≡ shownOf (getD ps i blankPart) (getD hs i 0) → (b : Bool) → b ≡ asks q x → Listed (set places n i) (n + boolByte b) (i + 1)
+      pub list-turn : (b : Bool) → b ≡ asks q (shownOf (getD ps i blankPart) (getD hs i 0)) → Listed (set places n i) (n + boolByte b) (i + 1)
       unfolding shownIn
-      list-turn x is-x b is-b =
-          (counts b (ap (asks q) (sym is-x) ∙ sym is-b), less b, length-set places n i ∙ listed .2, every-set (λ (j : ℕ). j < 128) places n i (listed .3) low)
+      list-turn b is-b =
+          (counts b (sym is-b), less b, length-set places n i ∙ listed .2, every-set (λ (j : ℕ). j < 128) places n i (listed .3) low)
         where
           less : (b : Bool) → n + boolByte b ≤ i + 1
           less true = omega (arith, listed)
@@ -153,19 +151,12 @@ module _ (places : List ℕ) (slots : Slots places) (k : ℕ) where
   pub slot-times : getD places k 0 * 16 < 2 ^ 64
   slot-times = omega (arith, slot-below)
 
+pub room-still : (size room there here : ℕ) → size ≤ room → there ≡ room → here ≡ there → size ≤ here
+room-still size room there here large is-there is-here = omega arith
+
 pub count-fits : (n : ℕ) (b : Bool) → n < 128 → n + boolByte b < 2 ^ 64
 count-fits n true low = omega arith
 count-fits n false low = omega arith
-
-module _ (r number pages : ℕ) (is-r : r ≡ returnedOf number pages) (few : number ≤ 128) where
-  pub returned-few : r ≤ 128
-  returned-few = omega arith
-
-  pub returned-fits : 1 ≤ pages → 32 + 32 * r ≤ 512 * pages
-  returned-fits some = omega arith
-
-  pub returned-room : 1 ≤ pages → (room there : ℕ) → 512 * pages ≤ room → there ≡ room → 32 + 32 * r ≤ there
-  returned-room some room there large same = omega arith
 
 -- all of them put down
 all-listed : (d : Device) (q : Request) (n : ℕ) → length (d .table .parts) ≡ 128 → n ≡ min (d .table .count) 128 → asked (d .table .parts) (d .cells .healths) q n ≡ listOf d q
@@ -184,79 +175,113 @@ bytesOf x = descriptorBytes Little x
 pub wide : (x : Descriptor) → length (bytesOf x) ≡ 32
 wide x = refl
 
-module _ (d out b : List ℕ) where
-  pub put-there : (e : List ℕ) (at : ℕ) → out ≡ stored d at b → b ≡ e → out ≡ stored d at e
-  put-there e at is-out is-b = is-out ∙ ap (stored d at) is-b
+pub put-there : (d out b e : List ℕ) (at : ℕ) → out ≡ stored d at b → b ≡ e → out ≡ stored d at e
+put-there d out b e at is-out is-b = is-out ∙ ap (stored d at) is-b
 
-  -- the header, of what the code counts
-  pub put-headed : (number pages limit removed r : ℕ) (note : Note) (x : ElementId) → out ≡ stored d 0 b
-      → b ≡ headerBytes Little (record { number = number; returned = r; busy = x; limit = limit; removed = removed }) → r ≡ returnedOf number pages → x ≡ element note
-      → out ≡ stored d 0 (headerBytes Little (headed number pages note limit removed))
-  put-headed number pages limit removed r note x is-out is-b is-r is-x =
-      put-there _ 0 is-out
-      (is-b ∙ (λ i. headerBytes Little (record { number = number; returned = is-r i; busy = is-x i; limit = limit; removed = removed })))
+pub put-shown : (d out b : List ℕ) (at : ℕ) (x y : Descriptor) → out ≡ stored d at b → b ≡ bytesOf x → x ≡ y → out ≡ stored d at (bytesOf y)
+put-shown d out b at x y is-out is-b is-x = is-out ∙ ap (stored d at) (is-b ∙ ap bytesOf is-x)
 
--- zeros over a part, as a store
-pub cleared : (d z : List ℕ) (end size m : ℕ) → end ≤ size → size ≤ length d → z ≡ replicate m 0 → m ≡ size - end
-    → putMid end (size - end) d z ≡ stored d end (replicate (size - end) 0)
-cleared d z end size m low fits is-z is-m =
-    let room : end + (size - end) ≤ length d = omega arith in
-    rw (is-z, is-m, length-replicate, le-leb _ _ room, drop-drop (size - end) end d) (sym (append-assoc (take end d) (replicate (size - end) 0) (drop (end + (size - end)) d)))
+pub zero-none : (d : List ℕ) (end : ℕ) → d ≡ stored d end (replicate (end - end) 0)
+zero-none d end = sym (rw sub-self (stored-none d end))
 
--- what is stored, put together
-module _ (d : Device) (q : Request) (l : List Descriptor) (n r : ℕ) (is-n : n ≡ length (listOf d q)) (is-r : r ≡ returnedOf n (pagesOf q)) (is-l : l ≡ take r (listOf d q))
-    (some : 1 ≤ pagesOf q) where
+pub zero-next : (d x : List ℕ) (end i : ℕ) → end ≤ i → i < length d → length x ≡ length d → x ≡ stored d end (replicate (i - end) 0) → set x i 0 ≡ stored d end (replicate (i + 1 - end) 0)
+zero-next d x end i low less long is-x =
+    let z : List ℕ = replicate (i - end) 0 in
+    let place : i ≡ end + length z = omega (arith, length-replicate {A = ℕ} (i - end) 0) in
+    let one-more : i + 1 - end ≡ i - end + 1 = omega arith in
+    let more : z ++ (0 ∷ []) ≡ replicate (i + 1 - end) 0 = rw one-more (replicate-append-replicate (i - end) 1 0) in
+    let room : end + length (z ++ (0 ∷ [])) ≤ length d = rw (more, length-replicate) (omega arith) in
+    let one : set x i 0 ≡ stored x i (0 ∷ []) = set-split x i 0 (omega arith) ∙ rw (le-leb (i + 1) (length x) (omega arith), add-one i) (sym (append-assoc (take i x) (0 ∷ []) (drop (suc i) x))) in
+    one ∙ (λ j. stored (is-x j) (place j) (0 ∷ [])) ∙ stored-more d end z (0 ∷ []) room ∙ ap (stored d end) more
+
+-- ## The header
+
+pub header-made : (d : Device) (n pages r g : ℕ) (x : ElementId) → r ≡ returnedOf n pages → x ≡ record { 0 = busyOf (d .cells .note) } → g ≡ removedNumber d
+    → record { number = n; returned = r; busy = x; limit = d .table .limit; removed = g } ≡ headed n pages (d .cells .note) (d .table .limit) (removedNumber d)
+header-made d n pages r g x is-r is-x is-g = λ i. record { number = n; returned = is-r i; busy = is-x i; limit = d .table .limit; removed = is-g i }
+
+-- ## The page, put together from what is stored
+
+module _ (d : Device) (q : Request) (h : Header) (l : List Descriptor) (is-h : h ≡ headerOf d q) (is-l : l ≡ take (h .returned) (listOf d q)) (some : 1 ≤ pagesOf q) where
+  is-r : h .returned ≡ returnedOf (length (listOf d q)) (pagesOf q)
+  is-r = ap (λ (x : Header). x .returned) is-h
+
   cut : take (roomOf (pagesOf q)) (listOf d q) ≡ l
   cut =
-      let less : r ≡ min (roomOf (pagesOf q)) (length (listOf d q)) = omega (arith, is-n) in
+      let less : h .returned ≡ min (roomOf (pagesOf q)) (length (listOf d q)) = omega (arith, is-r) in
       sym (take-min (roomOf (pagesOf q)) (listOf d q)) ∙ rw (← less, ← is-l)
 
-  together : (g : ℕ) → g ≡ removedNumber d → (b b₁ b₂ b₃ : List ℕ) → 512 * pagesOf q ≤ length b
-      → b₁ ≡ stored b 0 (headerBytes Little (headed n (pagesOf q) (d .cells .note) (d .table .limit) g)) → b₂ ≡ stored b₁ 32 (flat bytesOf l)
-      → b₃ ≡ stored b₂ (32 + 32 * r) (replicate (512 * pagesOf q - (32 + 32 * r)) 0) → b₃ ≡ pageOf d q ++ drop (512 * pagesOf q) b
+  together : (b b₁ b₂ b₃ : List ℕ) → 512 * pagesOf q ≤ length b → b₁ ≡ stored b 0 (headerBytes Little h) → b₂ ≡ stored b₁ 32 (flat bytesOf l)
+      → b₃ ≡ stored b₂ (32 + 32 * h .returned) (replicate (512 * pagesOf q - (32 + 32 * h .returned)) 0) → b₃ ≡ pageOf d q ++ drop (512 * pagesOf q) b
   unfolding pageOf
-  together g is-g b b₁ b₂ b₃ large is-b₁ is-b₂ is-b₃ =
-      let h : List ℕ = headerBytes Little (headed n (pagesOf q) (d .cells .note) (d .table .limit) g) in
+  together b b₁ b₂ b₃ large is-b₁ is-b₂ is-b₃ =
+      let r : ℕ = h .returned in
       let f : List ℕ = flat bytesOf l in
+      let g : List ℕ = headerBytes Little h ++ f in
       let z : List ℕ = replicate (512 * pagesOf q - (32 + 32 * r)) 0 in
-      let few : length l ≡ r = ap length is-l ∙ length-take-le r (listOf d q) (omega (arith, is-n)) in
+      let few : length l ≡ r = ap length is-l ∙ length-take-le r (listOf d q) (omega (arith, is-r)) in
       let wide-list : length f ≡ 32 * r = length-flat bytesOf 32 wide l ∙ rw few in
-      let wide-both : length (h ++ f) ≡ 32 + 32 * r = length-append h f ∙ rw wide-list in
-      let wide-all : length ((h ++ f) ++ z) ≡ 512 * pagesOf q = rw (length-append (h ++ f) z, wide-both, length-replicate) (omega arith) in
-      let first : _≡_ {A = ℕ} 32 (0 + length h) = refl in
-      let second : 32 + 32 * r ≡ 0 + length (h ++ f) = omega (arith, wide-both) in
-      let two : b₂ ≡ stored b 0 (h ++ f) = is-b₂ ∙ (λ i. stored (is-b₁ i) (first i) f) ∙ stored-more b 0 h f (omega (arith, wide-both)) in
-      let three : b₃ ≡ stored b 0 ((h ++ f) ++ z) = is-b₃ ∙ (λ i. stored (two i) (second i) z) ∙ stored-more b 0 (h ++ f) z (omega (arith, wide-all)) in
-      let zeros : 512 * pagesOf q - 32 * (headerOf d q .returned + 1) ≡ 512 * pagesOf q - (32 + 32 * r) = rw (is-r, is-n) (omega arith) in
-      let whole : (h ++ f) ++ z ≡ pageOf d q =
-      λ i. (headerBytes Little (headed (is-n i) (pagesOf q) (d .cells .note) (d .table .limit) (is-g i)) ++ flat bytesOf (sym cut i)) ++ replicate (sym zeros i) 0 in
-      three ∙ stored-front b ((h ++ f) ++ z) (omega (arith, wide-all)) ∙ (λ i. whole i ++ drop (wide-all i) b)
+      let wide-both : length g ≡ 32 + 32 * r = length-append (headerBytes Little h) f ∙ rw wide-list in
+      let wide-all : length (g ++ z) ≡ 512 * pagesOf q = rw (length-append g z, wide-both, length-replicate) (omega (arith, is-r)) in
+      let first : _≡_ {A = ℕ} 32 (0 + length (headerBytes Little h)) = refl in
+      let second : 32 + 32 * r ≡ 0 + length g = omega (arith, wide-both) in
+      let two : b₂ ≡ stored b 0 g = is-b₂ ∙ (λ i. stored (is-b₁ i) (first i) f) ∙ stored-more b 0 (headerBytes Little h) f (omega (arith, wide-both, is-r)) in
+      let three : b₃ ≡ stored b 0 (g ++ z) = is-b₃ ∙ (λ i. stored (two i) (second i) z) ∙ stored-more b 0 g z (omega (arith, wide-all)) in
+      let zeros : 512 * pagesOf q - (32 + 32 * r) ≡ 512 * pagesOf q - 32 * (headerOf d q .returned + 1) = rw is-r (omega arith) in
+      let whole : g ++ z ≡ pageOf d q = λ i. (headerBytes Little (is-h i) ++ flat bytesOf (sym cut i)) ++ replicate (zeros i) 0 in
+      three ∙ stored-front b (g ++ z) (omega (arith, wide-all)) ∙ (λ i. whole i ++ drop (wide-all i) b)
 
 -- ## What the loops come to
 
-module _ (t : Table) (c : Cells) (q : Request) (places : List ℕ) (number n r : ℕ) (is-n : n ≡ min (t .count) 128) (full : length (t .parts) ≡ 128)
-    (listed : Listed (t .parts) (c .healths) q places number n) (is-r : r ≡ returnedOf number (pagesOf q)) (some : 1 ≤ pagesOf q) where
-  pub filled : (g : ℕ) → g ≡ removedCount (take (t .count) (c .healths)) → (b b₁ b₂ b₃ : List ℕ) → 512 * pagesOf q ≤ length b
-      → b₁ ≡ stored b 0 (headerBytes Little (headed number (pagesOf q) (c .note) (t .limit) g)) → b₂ ≡ stored b₁ 32 (flat bytesOf (shownThere (t .parts) (c .healths) places r))
-      → b₃ ≡ stored b₂ (32 + 32 * r) (replicate (512 * pagesOf q - (32 + 32 * r)) 0)
-      → (d : Device) → d .table ≡ t → d .cells ≡ c → b₃ ≡ pageOf d q ++ drop (512 * pagesOf q) b
-  filled g is-g b b₁ b₂ b₃ large is-b₁ is-b₂ is-b₃ d is-t is-c =
-      let e : Device = record { table = t; cells = c; position = d .position } in
-      let same : e ≡ d = λ i. record { table = sym is-t i; cells = sym is-c i; position = d .position } in
-      let so : shownThere (t .parts) (c .healths) places number ≡ listOf e q = listed .0 ∙ all-listed e q n full is-n in
-      let long : number ≡ length (listOf e q) = sym (length-there (t .parts) (c .healths) places number (omega (arith, listed))) ∙ ap length so in
-      let first : shownThere (t .parts) (c .healths) places r ≡ take r (listOf e q) =
-      sym (take-there (t .parts) (c .healths) places number r (omega arith)) ∙ ap (take r) so in
-      rw (← same) (together e q (shownThere (t .parts) (c .healths) places r) number r long is-r first some g is-g b b₁ b₂ b₃ large is-b₁ is-b₂ is-b₃)
+-- the first loop after i turns of n
+abbrev pub Listing : Device → Request → ℕ → List ℕ → ℕ → ℕ → Type 0
+Listing d q n places number i =
+    (i ≤ n) × (n ≡ min (d .table .count) 128) × (length (d .table .parts) ≡ 128) × (length (d .cells .healths) ≡ 128)
+    × Listed (d .table .parts) (d .cells .healths) q places number i
+
+module _ (d : Device) (q : Request) (n : ℕ) (places : List ℕ) (number i : ℕ) (listing : Listing d q n places number i) where
+  pub listing-next : i < n → (b : Bool) → b ≡ asks q (shownOf (getD (d .table .parts) i blankPart) (getD (d .cells .healths) i 0))
+      → Listing d q n (set places number i) (number + boolByte b) (i + 1)
+  listing-next low b is-b =
+      (omega arith, listing .1, listing .2, listing .3, list-turn (d .table .parts) (d .cells .healths) q places number i (listing .4) (omega (arith, listing)) b is-b)
+
+  module _ (h : Header) (is-h : h ≡ headed number (pagesOf q) (d .cells .note) (d .table .limit) (removedNumber d)) (some : 1 ≤ pagesOf q) where
+    is-returned : h .returned ≡ returnedOf number (pagesOf q)
+    is-returned = ap (λ (x : Header). x .returned) is-h
+
+    pub returned-word : h .returned < 2 ^ 64
+    returned-word = omega (arith, is-returned, listing)
+
+    pub returned-few : h .returned ≤ 128
+    returned-few = omega (arith, is-returned, listing)
+
+    pub returned-fits : 32 + 32 * h .returned ≤ 512 * pagesOf q
+    returned-fits = omega (arith, is-returned)
+
+    pub returned-room : (room there : ℕ) → 512 * pagesOf q ≤ room → there ≡ room → 32 + 32 * h .returned ≤ there
+    returned-room room there large same = omega (arith, is-returned)
+
+    pub filled : n ≤ i → (b b₁ b₂ b₃ : List ℕ) → 512 * pagesOf q ≤ length b → b₁ ≡ stored b 0 (headerBytes Little h)
+        → b₂ ≡ stored b₁ 32 (flat bytesOf (shownThere (d .table .parts) (d .cells .healths) places (h .returned)))
+        → b₃ ≡ stored b₂ (32 + 32 * h .returned) (replicate (512 * pagesOf q - (32 + 32 * h .returned)) 0) → b₃ ≡ pageOf d q ++ drop (512 * pagesOf q) b
+    filled high =
+        let all : i ≡ min (d .table .count) 128 = omega (arith, listing) in
+        let so : shownThere (d .table .parts) (d .cells .healths) places number ≡ listOf d q = listing .4 .0 ∙ all-listed d q i (listing .2) all in
+        let long : number ≡ length (listOf d q) =
+        sym (length-there (d .table .parts) (d .cells .healths) places number (omega (arith, listing))) ∙ ap length so in
+        let headed-so : h ≡ headerOf d q = is-h ∙ ap (λ (m : ℕ). headed m (pagesOf q) (d .cells .note) (d .table .limit) (removedNumber d)) long in
+        let first : shownThere (d .table .parts) (d .cells .healths) places (h .returned) ≡ take (h .returned) (listOf d q) =
+        sym (take-there (d .table .parts) (d .cells .healths) places number (h .returned) (omega (arith, is-returned))) ∙ ap (take (h .returned)) so in
+        together d q h (shownThere (d .table .parts) (d .cells .healths) places (h .returned)) headed-so first some
 
 module _ (ps : List Part) (hs places : List ℕ) (r : ℕ) (b : List ℕ) (long : length places ≡ 128) (few : r ≤ 128) (room : 32 + 32 * r ≤ length b) where
-  pub put-next : (k : ℕ) (x y : List ℕ) (d : Descriptor) → k < r → x ≡ stored b 32 (flat bytesOf (take k (shownThere ps hs places r)))
-      → d ≡ shownOf (getD ps (getD places k 0) blankPart) (getD hs (getD places k 0) 0) → y ≡ stored x (32 + 32 * k) (bytesOf d)
+  pub put-next : (k : ℕ) (x y : List ℕ) → k < r → x ≡ stored b 32 (flat bytesOf (take k (shownThere ps hs places r)))
+      → y ≡ stored x (32 + 32 * k) (bytesOf (shownOf (getD ps (getD places k 0) blankPart) (getD hs (getD places k 0) 0)))
       → y ≡ stored b 32 (flat bytesOf (take (k + 1) (shownThere ps hs places r)))
   unfolding shownIn
-  put-next k x y d less is-x is-d is-y =
+  put-next k x y less is-x is-y =
       stored-each bytesOf 32 wide (shownThere ps hs places r) b x y 32 k (shownIn ps hs 0) (omega arith) (omega (arith, length-there ps hs places r (omega arith))) is-x
-      (is-y ∙ ap (λ (z : Descriptor). stored x (32 + 32 * k) (bytesOf z)) (is-d ∙ at-place ps hs places r k less))
+      (is-y ∙ ap (λ (z : Descriptor). stored x (32 + 32 * k) (bytesOf z)) (at-place ps hs places r k less))
 
   pub put-all : (k : ℕ) (x : List ℕ) → k ≤ r → r ≤ k → x ≡ stored b 32 (flat bytesOf (take k (shownThere ps hs places r)))
       → x ≡ stored b 32 (flat bytesOf (shownThere ps hs places r))
@@ -297,8 +322,8 @@ module _ (s : Security) (q : Request) (room n : ℕ) (a : Answer) (is-a : number
   pages-fit = answered s q room (sym is-a ∙ sym is-n ∙ z) .1
 
 module _ (d : Device) (s : Security) (q : Request) (buf : List ℕ) (a : Answer) (is-a : numberOf a ≡ statusNumber s q (length buf)) (n : ℕ) (is-n : n ≡ numberOf a) where
-  pub shown-done : n ≡ 0 → (out : List ℕ) → ((x : Device) → x .table ≡ d .table → x .cells ≡ d .cells → out ≡ pageOf x q ++ drop (512 * pagesOf q) buf) → said a out ≡ shown d s q buf
-  shown-done z out is-out = rw (is-a, is-out d refl refl, eq-eqb _ _ (sym is-a ∙ sym is-n ∙ z))
+  pub shown-done : n ≡ 0 → (out : List ℕ) → out ≡ pageOf d q ++ drop (512 * pagesOf q) buf → said a out ≡ shown d s q buf
+  shown-done z out is-out = rw (is-a, is-out, eq-eqb _ _ (sym is-a ∙ sym is-n ∙ z))
 
   pub shown-refused : (n ≡ 0 → ⊥) → said a buf ≡ shown d s q buf
   shown-refused ne = rw (is-a, ne-eqb _ _ (λ z. ne (is-n ∙ is-a ∙ z)))

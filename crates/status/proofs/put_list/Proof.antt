@@ -32,19 +32,18 @@ put-list-spec =
     (λ c. search (slot-below))
     (λ c. search (slot-below))
     (λ c κs. search needs)
-    (λ c κs. search needs)
     (λ c. search needs)
     (λ c. search needs)
-    (λ c. let put = c .before .before in
-    let x = put .before .before .shown-of in
-    let turn = put .before .before .before .before .before in
-    let l = turn .loop in (
+    (λ c. let put = c .before .before .put-descriptor in
+    let turn = c .before .before .before .before .before .before in
+    let l = turn .loop in
+    let s = turn .before .before in (
       search needs,
-      put .put-descriptor .kept .1 .1 .0 ∙ l .inv .1,
+      put .kept .1 .1 .1 .0 ∙ l .inv .1,
       l .inv .2,
       l .inv .3,
       l .inv .4,
-      put-next _ _ _ _ (turn .before .before .args .buf .now) (l .inv .2) (turn .before .before .pre .0) (turn .before .before .pre .1) (l .k) (l .buf) _ (x .result) (omega arith) (l .inv .5) (x .ensures) (put .put-descriptor .ensures),
+      put-next _ _ _ _ (s .args .buf .now) (l .inv .2) (s .pre .0) (s .pre .1) (l .k) (l .buf) _ (omega arith) (l .inv .5) (put .ensures),
     ))
     (λ c. search needs)
     (λ c. search (put-all)))
