@@ -38,6 +38,7 @@ use Rattle.words.specs.Lists.{keep, upTo, flat, stored}
 use Rattle.words.specs.declared.Order.the-variants.{Little}
 use Rattle.status.specs.Page.{capacityOf, shownOf, shownAt, shownAll, asks, listOf, busyOf, headed, headerOf, pageOf, shown}
 use Rattle.status.specs.Places.{Slots, shownIn, shownThere}
+use Rattle.status.specs.Promises.{Keeps-identifier}
 
 -- ## An element
 
@@ -70,15 +71,16 @@ busy-none n e = ap element (sym e)
 pub busy-noted : (n : Note) (w : Removal) → n ≡ Full w → w .element ≡ record { 0 = busyOf n }
 busy-noted n w e = ap element (sym e)
 
--- a page shows each element under its identifier
-shown-id : (d : Device) (place : ℕ) → shownAt d place .id .0 ≡ identifierAt (d .table) place
+-- ## The identifier
+
+pub keeps-identifier : Keeps-identifier
 unfolding shownOf
-shown-id d place = sym (List·getD-map (λ (p : Part). p .id .0) (live (d .table)) place blankPart)
+keeps-identifier d place = sym (List·getD-map (λ (p : Part). p .id .0) (live (d .table)) place blankPart)
 
 pub shown-ids : (d : Device) → map (λ (x : Descriptor). x .id .0) (shownAll d) ≡ identifiers (d .table)
 shown-ids d =
     map-map (shownAt d) (λ (x : Descriptor). x .id .0) (upTo (size (d .table)))
-    ∙ map-upTo (λ (i : ℕ). shownAt d i .id .0) (identifierAt (d .table)) (size (d .table)) (λ i _. shown-id d i)
+    ∙ map-upTo (λ (i : ℕ). shownAt d i .id .0) (identifierAt (d .table)) (size (d .table)) (λ i _. keeps-identifier d i)
     ∙ map-places (identifiers (d .table)) 0 (size (d .table)) (omega arith) ∙ take-length (identifiers (d .table))
 
 -- ## The list, by places
