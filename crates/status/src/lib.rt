@@ -8,11 +8,10 @@ ghost use Rattle.paper.specs.Told.{said};
 ghost use Rattle.words.specs.Lists.{flat, stored};
 ghost use Rattle.device.specs.Commands.{statusNumber};
 ghost use Rattle.device.specs.Remove.{removedNumber};
-ghost use Rattle.layout.specs.Bytes.{headerBytes, descriptorBytes, returnedOf};
+ghost use Rattle.layout.specs.Bytes.{headerBytes, descriptorBytes};
 ghost use Rattle.layout.specs.Requests.{pagesOf};
 ghost use Rattle.status.specs.Page.{capacityOf, shownOf, asks, busyOf, headed, pageOf, shown};
 ghost use Rattle.status.specs.Places.{Slots, shownThere};
-use device::Cells;
 use device::Command;
 use device::Device;
 use device::Note;
@@ -24,7 +23,6 @@ use paper::ElementId;
 use paper::PageCount;
 use paper::Security;
 use table::Part;
-use table::Table;
 use words::Order;
 
 fn capacity(p: Part) -> u64
@@ -74,7 +72,7 @@ fn busy(note: Note) -> ElementId
     }
 }
 
-// The header of a list of this number.
+// The header of a list of this number. The number at FFh is of the whole table.
 fn header_of(d: Device, number: usize, count: PageCount) -> Header
     requires { ⌜ (number ≤ 128) × (1 ≤ count .0) ⌝ }
     ensures { λ r. ⌜ r ≡ headed number (count .0) (d .cells .note) (d .table .limit) (removedNumber d) ⌝ }
@@ -136,12 +134,11 @@ fn put_list(ps: [Part; 128], hs: [u8; 128], places: [u8; 128], returned: usize, 
     }
 }
 
-// Fills the page of a device of this table and these cells, in ascending order, each byte once: the header, the descriptors, the zeros.
+// Fills the page, in ascending order, each byte once: the header, the descriptors, the zeros.
 // The places of what is asked for are put down first, so that each element is judged once.
 fn fill(d: Device, request: Request, buf: &mut [u8])
     requires { ⌜ (1 ≤ pagesOf request) × (512 * pagesOf request ≤ length (now buf)) ⌝ }
-    ensures { λ _.
-        ⌜ now (buf .exit) ≡ pageOf d request ++ drop (512 * pagesOf request) (now (buf .entry)) ⌝ }
+    ensures { λ _. ⌜ now (buf .exit) ≡ pageOf d request ++ drop (512 * pagesOf request) (now (buf .entry)) ⌝ }
 {
     let ps = d.table.parts;
     let hs = d.cells.healths;
