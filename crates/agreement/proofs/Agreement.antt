@@ -69,6 +69,11 @@ element-each q last base x a clear up =
     let rest = and-both (takesType (reportTypeOf q) (x .kind)) _ (id .1) in
     ((omega (arith, up), leb-true _ _ (id .0), up), ((λ r. absurd (false≢true (sym clear ∙ r))), (type-to q x (rest .0), (health-to q x (rest .1), tt))))
 
+getD-there : {A : Type 0} (l : List A) (k : ℕ) (x y : A) → k < length l → getD l k x ≡ getD l k y
+getD-there [] k x y h = absurd (omega arith)
+getD-there (z ∷ l) zero x y h = refl
+getD-there (z ∷ l) (suc k) x y h = getD-there l k x y (omega arith)
+
 abbrev none : Descriptor
 none = shownOf blankPart 0
 
@@ -166,13 +171,12 @@ module _ (d : Device) (q : Request) (fits : Fits d) (asc : ascending 0 (identifi
 
   -- ## Each rule
 
-  id-at : (k : ℕ) → getD (map idOf (listOf d q)) k 0 ≡ idOf (getD (listOf d q) k none)
-  unfolding shownOf
-  id-at k = List·getD-map idOf (listOf d q) k none
+  id-at : (k : ℕ) → k < n → getD (map idOf (listOf d q)) k 0 ≡ idOf (getD (listOf d q) k none)
+  id-at k l = getD-there (map idOf (listOf d q)) k 0 (idOf none) (rw (length-map (listOf d q) idOf) (omega arith)) ∙ List·getD-map idOf (listOf d q) k none
 
   last-here : (k : ℕ) → k < n → lastBefore Little (pageOf d q) k ≡ before 0 (map idOf (listOf d q)) k
   last-here zero l = refl
-  last-here (suc k) l = ap idOf (descriptor-here k (omega arith)) ∙ sym (id-at k)
+  last-here (suc k) l = ap idOf (descriptor-here k (omega arith)) ∙ sym (id-at k (omega arith))
 
   list-each : (k : ℕ) → k < n → Each (rulesAt Little (pageOf d q) q k)
   list-each k l =
@@ -180,7 +184,7 @@ module _ (d : Device) (q : Request) (fits : Fits d) (asc : ascending 0 (identifi
       let asked : asks q e ≡ true = every-at (λ (x : Descriptor). asks q x ≡ true) (listOf d q) k none (omega arith) list-asked in
       let clear : e .restorable ≡ false = every-at (λ (x : Descriptor). x .restorable ≡ false) (listOf d q) k none (omega arith) list-clear in
       let up : before 0 (map idOf (listOf d q)) k < idOf e =
-      subst (λ (m : ℕ). before 0 (map idOf (listOf d q)) k < m) (id-at k) (ascending-at 0 (map idOf (listOf d q)) k (rw (length-map (listOf d q) idOf) (omega arith)) list-ascends) in
+      subst (λ (m : ℕ). before 0 (map idOf (listOf d q)) k < m) (id-at k l) (ascending-at 0 (map idOf (listOf d q)) k (rw (length-map (listOf d q) idOf) (omega arith)) list-ascends) in
       subst (λ (x : Descriptor). Each (descriptorRules q (lastBefore Little (pageOf d q) k) (baseOf k) x)) (sym (descriptor-here k l))
       (subst (λ (m : ℕ). Each (descriptorRules q m (baseOf k) e)) (sym (last-here k l)) (element-each q (before 0 (map idOf (listOf d q)) k) (baseOf k) e asked clear up))
 

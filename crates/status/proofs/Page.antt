@@ -4,12 +4,13 @@ use mathlib.Core.Bool.{Bool, true, false, cond}
 use mathlib.Core.List.{List, [], _∷_, _++_, map, append-assoc, append-nil}
 use mathlib.Core.Path.{_≡_, refl, sym, ap, _∙_}
 use native.Mathlib.Numerals.{add-one}
+use native.Mathlib.Nat.{add-zero, sub-self}
 use native.Mathlib.Omega.{arith}
 use lib.Dec.{ltb}
-use lib.ListN.{length, take, drop, getD, set, replicate, length-append, length-map, length-replicate, List·getD-map}
-use lib.Seq.{length-take-le, take-length, take-suc-set, getD-take, drop-drop}
+use lib.ListN.{length, take, drop, getD, set, replicate, length-append, length-map, length-replicate, length-set, replicate-append-replicate, List·getD-map}
+use lib.Seq.{length-take-le, take-all, take-length, take-take, take-set-le, take-suc-set, getD-take, set-split}
 use borrow.Author.Tests.{lt-ltb, le-ltb, ltb-false, le-leb, eq-eqb, ne-eqb}
-use borrow.Rule.Slice.PartMut.{putMid}
+use mir.Val.{boolByte}
 use Rattle.device.specs.Cells.{healthAt, removedNumber}
 use Rattle.device.specs.Commands.{statusNumber}
 use Rattle.paper.specs.Table12.{aborts}
@@ -22,6 +23,7 @@ use Rattle.layout.proofs.Requests.{accepted}
 use Rattle.layout.specs.Bytes.{headerBytes, descriptorBytes, roomOf, returnedOf}
 use Rattle.layout.specs.Requests.{filterOf, reportTypeOf, pagesOf, takesId, takesType, takesHealth, refused}
 use Rattle.layout.specs.declared.Descriptor.{Descriptor}
+use Rattle.layout.specs.declared.Header.{Header}
 use Rattle.layout.specs.declared.Request.{Request}
 use Rattle.paper.specs.Answers.{numberOf}
 use Rattle.paper.specs.Told.{said}
@@ -31,10 +33,12 @@ use Rattle.paper.specs.declared.Security.{Security}
 use Rattle.table.proofs.Splits.{length-taken}
 use Rattle.table.specs.Elements.{live, blankPart, identifiers, size, identifierAt}
 use Rattle.table.specs.declared.Part.{Part}
-use Rattle.words.proofs.Lists.{take-min, keep-append, map-append, map-map, map-upTo, map-places, stored-front, stored-more, stored-each, length-flat}
-use Rattle.words.specs.Lists.{keep, upTo, Every, flat, stored}
+use Rattle.words.proofs.Lists.{take-min, keep-append, map-append, map-map, map-upTo, map-places, every-same, every-set, stored-front, stored-none, stored-more, stored-each, length-flat}
+use Rattle.words.specs.Lists.{keep, upTo, flat, stored}
 use Rattle.words.specs.declared.Order.the-variants.{Little}
 use Rattle.status.specs.Page.{capacityOf, shownOf, shownAt, shownAll, asks, listOf, busyOf, headed, headerOf, pageOf, shown}
+use Rattle.status.specs.Places.{Slots, shownIn, shownThere}
+use Rattle.status.specs.Promises.{Keeps-identifier}
 
 -- ## An element
 
@@ -42,19 +46,19 @@ pub shown-made : (p : Part) (h c : ℕ) → c ≡ capacityOf p → record { id =
 unfolding shownOf
 shown-made p h c is-c = λ i. record { id = p .id; restorable = false; kind = p .kind; health = h; capacity = is-c i }
 
-module _ (q : Request) (x : Descriptor) (a : Bool) (is-a : a ≡ takesId q (x .id .0)) where
-  pub asks-id : a ≡ false → false ≡ asks q x
+module _ (q : Request) (p : Part) (h : ℕ) (x : Descriptor) (is-x : x ≡ shownOf p h) (a : Bool) (is-a : a ≡ takesId q (x .id .0)) where
+  pub asks-id : a ≡ false → false ≡ asks q (shownOf p h)
   unfolding asks
-  asks-id n = sym (rw (sym is-a ∙ n))
+  asks-id n = sym (rw (sym is-a ∙ n)) ∙ ap (asks q) is-x
 
   module _ (yes-id : a ≡ true) (b : Bool) (is-b : b ≡ takesType (reportTypeOf q) (x .kind)) where
-    pub asks-type : b ≡ false → false ≡ asks q x
+    pub asks-type : b ≡ false → false ≡ asks q (shownOf p h)
     unfolding asks
-    asks-type n = sym (rw (sym is-a ∙ yes-id, sym is-b ∙ n))
+    asks-type n = sym (rw (sym is-a ∙ yes-id, sym is-b ∙ n)) ∙ ap (asks q) is-x
 
-    pub asks-health : b ≡ true → (h : Bool) → h ≡ takesHealth (filterOf q) (x .health) → h ≡ asks q x
+    pub asks-health : b ≡ true → (r : Bool) → r ≡ takesHealth (filterOf q) (x .health) → r ≡ asks q (shownOf p h)
     unfolding asks
-    asks-health y h is-h = is-h ∙ sym (rw (sym is-a ∙ yes-id, sym is-b ∙ y))
+    asks-health y r is-r = is-r ∙ sym (rw (sym is-a ∙ yes-id, sym is-b ∙ y)) ∙ ap (asks q) is-x
 
 -- ## The noted element
 
@@ -67,66 +71,72 @@ busy-none n e = ap element (sym e)
 pub busy-noted : (n : Note) (w : Removal) → n ≡ Full w → w .element ≡ record { 0 = busyOf n }
 busy-noted n w e = ap element (sym e)
 
--- a page shows each element under its identifier
-shown-id : (d : Device) (place : ℕ) → shownAt d place .id .0 ≡ identifierAt (d .table) place
+-- ## The identifier
+
+pub keeps-identifier : Keeps-identifier
 unfolding shownOf
-shown-id d place = sym (List·getD-map (λ (p : Part). p .id .0) (live (d .table)) place blankPart)
+keeps-identifier d place = sym (List·getD-map (λ (p : Part). p .id .0) (live (d .table)) place blankPart)
 
 pub shown-ids : (d : Device) → map (λ (x : Descriptor). x .id .0) (shownAll d) ≡ identifiers (d .table)
 shown-ids d =
     map-map (shownAt d) (λ (x : Descriptor). x .id .0) (upTo (size (d .table)))
-    ∙ map-upTo (λ (i : ℕ). shownAt d i .id .0) (identifierAt (d .table)) (size (d .table)) (λ i _. shown-id d i)
+    ∙ map-upTo (λ (i : ℕ). shownAt d i .id .0) (identifierAt (d .table)) (size (d .table)) (λ i _. keeps-identifier d i)
     ∙ map-places (identifiers (d .table)) 0 (size (d .table)) (omega arith) ∙ take-length (identifiers (d .table))
 
 -- ## The list, by places
 
+take-map : {A B : Type 0} (f : A → B) (n : ℕ) (l : List A) → take n (map f l) ≡ map f (take n l)
+take-map f zero l = refl
+take-map f (suc n) [] = refl
+take-map {A} {B} f (suc n) (x ∷ xs) = ap (λ (l : List B). f x ∷ l) (take-map f n xs)
+
 module _ (ps : List Part) (hs : List ℕ) where
-  unfoldable pub show : ℕ → Descriptor
-  show place = shownOf (getD ps place blankPart) (getD hs place 0)
+  length-there : (places : List ℕ) (n : ℕ) → n ≤ length places → length (shownThere ps hs places n) ≡ n
+  unfolding shownThere
+  length-there places n few = length-map (take n places) (shownIn ps hs) ∙ length-take-le n places few
 
-  -- those at the first n of the places
-  unfoldable pub at-places : List ℕ → ℕ → List Descriptor
-  at-places places n = map show (take n places)
+  at-place : (places : List ℕ) (n k : ℕ) → k < n → shownIn ps hs (getD places k 0) ≡ getD (shownThere ps hs places n) k (shownIn ps hs 0)
+  unfolding shownThere
+  at-place places n k h = sym (List·getD-map (shownIn ps hs) (take n places) k 0 ∙ ap (shownIn ps hs) (getD-take n places k 0 h))
 
-  pub length-places : (places : List ℕ) (n : ℕ) → length places ≡ 128 → n ≤ 128 → length (at-places places n) ≡ n
-  unfolding at-places
-  length-places places n long few = length-map (take n places) show ∙ length-take-le n places (omega arith)
-
-  pub at-place : (places : List ℕ) (n k : ℕ) → k < n → show (getD places k 0) ≡ getD (at-places places n) k (show 0)
-  unfolding at-places
-  at-place places n k h = sym (List·getD-map show (take n places) k 0 ∙ ap show (getD-take n places k 0 h))
+  take-there : (places : List ℕ) (n r : ℕ) → r ≤ n → take r (shownThere ps hs places n) ≡ shownThere ps hs places r
+  unfolding shownThere
+  take-there places n r h = take-map (shownIn ps hs) r (take n places) ∙ ap (map (shownIn ps hs)) (take-take r n places h)
 
   module _ (q : Request) where
     -- what is asked for of the first i
     unfoldable pub asked : ℕ → List Descriptor
-    asked i = keep (asks q) (map show (upTo i))
+    asked i = keep (asks q) (map (shownIn ps hs) (upTo i))
 
-    asked-more : (i : ℕ) → asked (i + 1) ≡ asked i ++ cond (asks q (show i)) (show i ∷ []) []
+    asked-more : (i : ℕ) → asked (i + 1) ≡ asked i ++ cond (asks q (shownIn ps hs i)) (shownIn ps hs i ∷ []) []
     unfolding asked
-    asked-more i = rw (add-one i, map-append show (upTo i) (i ∷ [])) (keep-append (asks q) (map show (upTo i)) (show i ∷ []))
+    asked-more i =
+        rw (add-one i, map-append (shownIn ps hs) (upTo i) (i ∷ [])) (keep-append (asks q) (map (shownIn ps hs) (upTo i)) (shownIn ps hs i ∷ []))
 
-    pub list-none : (places : List ℕ) → at-places places 0 ≡ asked 0
-    unfolding at-places asked
-    list-none places = refl
+    -- the places put down are those of what is asked for of the first i
+    abbrev pub Listed : List ℕ → ℕ → ℕ → Type 0
+    Listed places number i = (shownThere ps hs places number ≡ asked i) × (number ≤ i) × (length places ≡ 128) × Slots places
 
-    -- a turn of the loop: the place is put down, or not
-    module _ (places : List ℕ) (n i : ℕ) (so : at-places places n ≡ asked i) (x : Descriptor)
-        (is-x : x ≡ shownOf (getD ps i blankPart) (getD hs i 0)) (b : Bool) (is-b : b ≡ asks q x) where
-      known : asks q (show i) ≡ b
-      unfolding show
-      known = ap (asks q) (sym is-x) ∙ sym is-b
+    pub list-none : Listed (replicate 128 0) 0 0
+    unfolding shownThere asked
+    list-none = (refl, omega arith, refl, every-same (λ (j : ℕ). j < 128) 128 0 (omega arith))
 
-      pub list-yes : n < length places → b ≡ true → (k : ℕ) (out : List ℕ) → out ≡ set places n i → k ≡ n + 1 → at-places out k ≡ asked (i + 1)
-      unfolding at-places
-      list-yes room y k out is-out is-k =
-          rw (is-out, is-k, add-one n, take-suc-set places n i room, map-append show (take n places) (i ∷ []), asked-more i, known, y, so)
+    -- a turn of the loop: the place is put down, and counts if its element is asked for
+    module _ (places : List ℕ) (n i : ℕ) (listed : Listed places n i) (low : i < 128) where
+      counts : (b : Bool) → asks q (shownIn ps hs i) ≡ b → shownThere ps hs (set places n i) (n + boolByte b) ≡ asked (i + 1)
+      unfolding shownThere
+      counts true y =
+          rw (add-one n, take-suc-set places n i (omega (arith, listed)), map-append (shownIn ps hs) (take n places) (i ∷ []), asked-more i, y, listed .0)
+      counts false z = rw (add-zero n, take-set-le n places n i (omega arith), asked-more i, z, append-nil) (listed .0)
 
-      pub list-no : b ≡ false → (k : ℕ) (out : List ℕ) → out ≡ places → k ≡ n → at-places out k ≡ asked (i + 1)
-      list-no z k out is-out is-k = rw (is-out, is-k, asked-more i, known, z, append-nil) so
-
--- each place is an index of the arrays
-abbrev pub Slots : List ℕ → Type 0
-Slots places = Every (λ (j : ℕ). j < 128) places
+      pub list-turn : (b : Bool) → b ≡ asks q (shownOf (getD ps i blankPart) (getD hs i 0)) → Listed (set places n i) (n + boolByte b) (i + 1)
+      unfolding shownIn
+      list-turn b is-b =
+          (counts b (sym is-b), less b, length-set places n i ∙ listed .2, every-set (λ (j : ℕ). j < 128) places n i (listed .3) low)
+        where
+          less : (b : Bool) → n + boolByte b ≤ i + 1
+          less true = omega (arith, listed)
+          less false = omega (arith, listed)
 
 module _ (places : List ℕ) (slots : Slots places) (k : ℕ) where
   pub slot-below : getD places k 0 < 128
@@ -143,35 +153,21 @@ module _ (places : List ℕ) (slots : Slots places) (k : ℕ) where
   pub slot-times : getD places k 0 * 16 < 2 ^ 64
   slot-times = omega (arith, slot-below)
 
-module _ (r number pages : ℕ) (is-r : r ≡ returnedOf number pages) (few : number ≤ 128) where
-  pub returned-few : r ≤ 128
-  returned-few = omega arith
+pub room-still : (size room there here : ℕ) → size ≤ room → there ≡ room → here ≡ there → size ≤ here
+room-still size room there here large is-there is-here = omega arith
 
-  pub returned-fits : 1 ≤ pages → 32 + 32 * r ≤ 512 * pages
-  returned-fits some = omega arith
+pub count-fits : (n : ℕ) (b : Bool) → n < 128 → n + boolByte b < 2 ^ 64
+count-fits n true low = omega arith
+count-fits n false low = omega arith
 
-  pub turn-below : (k : ℕ) → k < r → k < 128
-  turn-below k h = omega arith
-
-  pub turn-few : (k : ℕ) → k < r → k ≤ 128
-  turn-few k h = omega arith
-
--- the whole table's
-all-asked : (d : Device) (q : Request) (n : ℕ) → length (d .table .parts) ≡ 128 → n ≡ min (d .table .count) 128 → asked (d .table .parts) (d .cells .healths) q n ≡ listOf d q
-unfolding show asked listOf
-all-asked d q n full is-n =
+-- all of them put down
+all-listed : (d : Device) (q : Request) (n : ℕ) → length (d .table .parts) ≡ 128 → n ≡ min (d .table .count) 128 → asked (d .table .parts) (d .cells .healths) q n ≡ listOf d q
+unfolding shownIn asked listOf
+all-listed d q n full is-n =
     let long : size (d .table) ≡ n = length-map (live (d .table)) (λ (p : Part). p .id .0) ∙ length-taken (d .table .parts) (d .table .count) n full is-n in
-    let same : (i : ℕ) → i < n → show (d .table .parts) (d .cells .healths) i ≡ shownAt d i =
+    let same : (i : ℕ) → i < n → shownIn (d .table .parts) (d .cells .healths) i ≡ shownAt d i =
     λ i h. ap (λ (p : Part). shownOf p (healthAt d i)) (sym (getD-take (d .table .count) (d .table .parts) i blankPart (omega arith))) in
-    ap (keep (asks q)) (map-upTo (show (d .table .parts) (d .cells .healths)) (shownAt d) n same ∙ ap (λ (m : ℕ). map (shownAt d) (upTo m)) (sym long))
-
--- what the first loop has put down when it ends
-pub all-listed : (d : Device) (q : Request) (places : List ℕ) (number i n : ℕ) → length (d .table .parts) ≡ 128 → n ≡ min (d .table .count) 128 → i ≤ n → n ≤ i
-    → at-places (d .table .parts) (d .cells .healths) places number ≡ asked (d .table .parts) (d .cells .healths) q i
-    → at-places (d .table .parts) (d .cells .healths) places number ≡ listOf d q
-all-listed d q places number i n full is-n low high so =
-    let end : i ≡ n = omega arith in
-    so ∙ ap (asked (d .table .parts) (d .cells .healths) q) end ∙ all-asked d q n full is-n
+    ap (keep (asks q)) (map-upTo (shownIn (d .table .parts) (d .cells .healths)) (shownAt d) n same ∙ ap (λ (m : ℕ). map (shownAt d) (upTo m)) (sym long))
 
 -- ## The bytes
 
@@ -181,66 +177,118 @@ bytesOf x = descriptorBytes Little x
 pub wide : (x : Descriptor) → length (bytesOf x) ≡ 32
 wide x = refl
 
-module _ (d out b : List ℕ) where
-  pub put-there : (e : List ℕ) (at : ℕ) → out ≡ stored d at b → b ≡ e → out ≡ stored d at e
-  put-there e at is-out is-b = is-out ∙ ap (stored d at) is-b
+pub put-there : (d out b e : List ℕ) (at : ℕ) → out ≡ stored d at b → b ≡ e → out ≡ stored d at e
+put-there d out b e at is-out is-b = is-out ∙ ap (stored d at) is-b
 
-  -- the header, of what the code counts
-  pub put-headed : (number pages limit removed r : ℕ) (note : Note) (x : ElementId) → out ≡ stored d 0 b
-      → b ≡ headerBytes Little (record { number = number; returned = r; busy = x; limit = limit; removed = removed }) → r ≡ returnedOf number pages → x ≡ element note
-      → out ≡ stored d 0 (headerBytes Little (headed number pages note limit removed))
-  put-headed number pages limit removed r note x is-out is-b is-r is-x =
-      put-there _ 0 is-out
-      (is-b ∙ (λ i. headerBytes Little (record { number = number; returned = is-r i; busy = is-x i; limit = limit; removed = removed })))
+pub put-shown : (d out b : List ℕ) (at : ℕ) (x y : Descriptor) → out ≡ stored d at b → b ≡ bytesOf x → x ≡ y → out ≡ stored d at (bytesOf y)
+put-shown d out b at x y is-out is-b is-x = is-out ∙ ap (stored d at) (is-b ∙ ap bytesOf is-x)
 
--- zeros over a part, as a store
-pub cleared : (d z : List ℕ) (end size m : ℕ) → end ≤ size → size ≤ length d → z ≡ replicate m 0 → m ≡ size - end
-    → putMid end (size - end) d z ≡ stored d end (replicate (size - end) 0)
-cleared d z end size m low fits is-z is-m =
-    let room : end + (size - end) ≤ length d = omega arith in
-    rw (is-z, is-m, length-replicate, le-leb _ _ room, drop-drop (size - end) end d) (sym (append-assoc (take end d) (replicate (size - end) 0) (drop (end + (size - end)) d)))
+pub zero-none : (d : List ℕ) (end : ℕ) → d ≡ stored d end (replicate (end - end) 0)
+zero-none d end = sym (rw sub-self (stored-none d end))
 
--- what is stored, put together
-module _ (d : Device) (q : Request) (list : List Descriptor) (n r : ℕ) (so : list ≡ listOf d q) (long : length list ≡ n)
-    (is-r : r ≡ returnedOf n (pagesOf q)) (some : 1 ≤ pagesOf q) (g : ℕ) (is-g : g ≡ removedNumber d) where
-  count : n ≡ length (listOf d q)
-  count = sym long ∙ ap length so
+pub zero-next : (d x : List ℕ) (end i : ℕ) → end ≤ i → i < length d → length x ≡ length d → x ≡ stored d end (replicate (i - end) 0) → set x i 0 ≡ stored d end (replicate (i + 1 - end) 0)
+zero-next d x end i low less long is-x =
+    let z : List ℕ = replicate (i - end) 0 in
+    let place : i ≡ end + length z = omega (arith, length-replicate {A = ℕ} (i - end) 0) in
+    let one-more : i + 1 - end ≡ i - end + 1 = omega arith in
+    let more : z ++ (0 ∷ []) ≡ replicate (i + 1 - end) 0 = rw one-more (replicate-append-replicate (i - end) 1 0) in
+    let room : end + length (z ++ (0 ∷ [])) ≤ length d = rw (more, length-replicate) (omega arith) in
+    let one : set x i 0 ≡ stored x i (0 ∷ []) = set-split x i 0 (omega arith) ∙ rw (le-leb (i + 1) (length x) (omega arith), add-one i) (sym (append-assoc (take i x) (0 ∷ []) (drop (suc i) x))) in
+    one ∙ (λ j. stored (is-x j) (place j) (0 ∷ [])) ∙ stored-more d end z (0 ∷ []) room ∙ ap (stored d end) more
 
-  cut : take (roomOf (pagesOf q)) (listOf d q) ≡ take r list
+-- ## The header
+
+pub header-made : (d : Device) (n pages r g : ℕ) (x : ElementId) → r ≡ returnedOf n pages → x ≡ record { 0 = busyOf (d .cells .note) } → g ≡ removedNumber d
+    → record { number = n; returned = r; busy = x; limit = d .table .limit; removed = g } ≡ headed n pages (d .cells .note) (d .table .limit) (removedNumber d)
+header-made d n pages r g x is-r is-x is-g = λ i. record { number = n; returned = is-r i; busy = is-x i; limit = d .table .limit; removed = is-g i }
+
+-- ## The page, put together from what is stored
+
+module _ (d : Device) (q : Request) (h : Header) (l : List Descriptor) (is-h : h ≡ headerOf d q) (is-l : l ≡ take (h .returned) (listOf d q)) (some : 1 ≤ pagesOf q) where
+  is-r : h .returned ≡ returnedOf (length (listOf d q)) (pagesOf q)
+  is-r = ap (λ (x : Header). x .returned) is-h
+
+  cut : take (roomOf (pagesOf q)) (listOf d q) ≡ l
   cut =
-      let less : r ≡ min (roomOf (pagesOf q)) (length (listOf d q)) = omega (arith, count) in
-      sym (take-min (roomOf (pagesOf q)) (listOf d q)) ∙ rw (← less, ← so)
+      let less : h .returned ≡ min (roomOf (pagesOf q)) (length (listOf d q)) = omega (arith, is-r) in
+      sym (take-min (roomOf (pagesOf q)) (listOf d q)) ∙ rw (← less, ← is-l)
 
-  pub filled : (b b₁ b₂ b₃ : List ℕ) → 512 * pagesOf q ≤ length b → b₁ ≡ stored b 0 (headerBytes Little (headed n (pagesOf q) (d .cells .note) (d .table .limit) g))
-      → b₂ ≡ stored b₁ 32 (flat bytesOf (take r list)) → b₃ ≡ stored b₂ (32 + 32 * r) (replicate (512 * pagesOf q - (32 + 32 * r)) 0)
-      → b₃ ≡ pageOf d q ++ drop (512 * pagesOf q) b
+  together : (b b₁ b₂ b₃ : List ℕ) → 512 * pagesOf q ≤ length b → b₁ ≡ stored b 0 (headerBytes Little h) → b₂ ≡ stored b₁ 32 (flat bytesOf l)
+      → b₃ ≡ stored b₂ (32 + 32 * h .returned) (replicate (512 * pagesOf q - (32 + 32 * h .returned)) 0) → b₃ ≡ pageOf d q ++ drop (512 * pagesOf q) b
   unfolding pageOf
-  filled b b₁ b₂ b₃ large is-b₁ is-b₂ is-b₃ =
-      let h : List ℕ = headerBytes Little (headed n (pagesOf q) (d .cells .note) (d .table .limit) g) in
-      let l : List ℕ = flat bytesOf (take r list) in
+  together b b₁ b₂ b₃ large is-b₁ is-b₂ is-b₃ =
+      let r : ℕ = h .returned in
+      let f : List ℕ = flat bytesOf l in
+      let g : List ℕ = headerBytes Little h ++ f in
       let z : List ℕ = replicate (512 * pagesOf q - (32 + 32 * r)) 0 in
-      let wide-list : length l ≡ 32 * r = length-flat bytesOf 32 wide (take r list) ∙ rw (length-take-le r list (omega (arith, long))) in
-      let wide-both : length (h ++ l) ≡ 32 + 32 * r = length-append h l ∙ rw wide-list in
-      let wide-all : length ((h ++ l) ++ z) ≡ 512 * pagesOf q = rw (length-append (h ++ l) z, wide-both, length-replicate) (omega arith) in
-      let first : _≡_ {A = ℕ} 32 (0 + length h) = refl in
-      let second : 32 + 32 * r ≡ 0 + length (h ++ l) = omega (arith, wide-both) in
-      let two : b₂ ≡ stored b 0 (h ++ l) = is-b₂ ∙ (λ i. stored (is-b₁ i) (first i) l) ∙ stored-more b 0 h l (omega (arith, wide-both)) in
-      let three : b₃ ≡ stored b 0 ((h ++ l) ++ z) = is-b₃ ∙ (λ i. stored (two i) (second i) z) ∙ stored-more b 0 (h ++ l) z (omega (arith, wide-all)) in
-      let zeros : 512 * pagesOf q - 32 * (headerOf d q .returned + 1) ≡ 512 * pagesOf q - (32 + 32 * r) = rw (is-r, count) (omega arith) in
-      let whole : (h ++ l) ++ z ≡ pageOf d q =
-      λ i. (headerBytes Little (headed (count i) (pagesOf q) (d .cells .note) (d .table .limit) (is-g i)) ++ flat bytesOf (sym cut i)) ++ replicate (sym zeros i) 0 in
-      three ∙ stored-front b ((h ++ l) ++ z) (omega (arith, wide-all)) ∙ (λ i. whole i ++ drop (wide-all i) b)
+      let few : length l ≡ r = ap length is-l ∙ length-take-le r (listOf d q) (omega (arith, is-r)) in
+      let wide-list : length f ≡ 32 * r = length-flat bytesOf 32 wide l ∙ rw few in
+      let wide-both : length g ≡ 32 + 32 * r = length-append (headerBytes Little h) f ∙ rw wide-list in
+      let wide-all : length (g ++ z) ≡ 512 * pagesOf q = rw (length-append g z, wide-both, length-replicate) (omega (arith, is-r)) in
+      let first : _≡_ {A = ℕ} 32 (0 + length (headerBytes Little h)) = refl in
+      let second : 32 + 32 * r ≡ 0 + length g = omega (arith, wide-both) in
+      let two : b₂ ≡ stored b 0 g = is-b₂ ∙ (λ i. stored (is-b₁ i) (first i) f) ∙ stored-more b 0 (headerBytes Little h) f (omega (arith, wide-both, is-r)) in
+      let three : b₃ ≡ stored b 0 (g ++ z) = is-b₃ ∙ (λ i. stored (two i) (second i) z) ∙ stored-more b 0 g z (omega (arith, wide-all)) in
+      let zeros : 512 * pagesOf q - (32 + 32 * r) ≡ 512 * pagesOf q - 32 * (headerOf d q .returned + 1) = rw is-r (omega arith) in
+      let whole : g ++ z ≡ pageOf d q = λ i. (headerBytes Little (is-h i) ++ flat bytesOf (sym cut i)) ++ replicate (zeros i) 0 in
+      three ∙ stored-front b (g ++ z) (omega (arith, wide-all)) ∙ (λ i. whole i ++ drop (wide-all i) b)
 
 -- ## What the loops come to
 
-module _ (ps : List Part) (hs places : List ℕ) (number r pages : ℕ) (b : List ℕ) (long : length places ≡ 128) (few : number ≤ 128)
-    (is-r : r ≡ returnedOf number pages) (some : 1 ≤ pages) (large : 512 * pages ≤ length b) where
-  pub put-next : (k : ℕ) (x y : List ℕ) (d : Descriptor) → k < r → x ≡ stored b 32 (flat bytesOf (take k (at-places ps hs places number)))
-      → d ≡ shownOf (getD ps (getD places k 0) blankPart) (getD hs (getD places k 0) 0) → y ≡ stored x (32 + 32 * k) (bytesOf d) → y ≡ stored b 32 (flat bytesOf (take (k + 1) (at-places ps hs places number)))
-  unfolding show
-  put-next k x y d less is-x is-d is-y =
-      stored-each bytesOf 32 wide (at-places ps hs places number) b x y 32 k (show ps hs 0) (omega arith) (omega (arith, length-places ps hs places number long few)) is-x
-      (is-y ∙ ap (λ (z : Descriptor). stored x (32 + 32 * k) (bytesOf z)) (is-d ∙ at-place ps hs places number k (omega arith)))
+-- the first loop after i turns of n
+abbrev pub Listing : Device → Request → ℕ → List ℕ → ℕ → ℕ → Type 0
+Listing d q n places number i =
+    (i ≤ n) × (n ≡ min (d .table .count) 128) × (length (d .table .parts) ≡ 128) × (length (d .cells .healths) ≡ 128)
+    × Listed (d .table .parts) (d .cells .healths) q places number i
+
+module _ (d : Device) (q : Request) (n : ℕ) (places : List ℕ) (number i : ℕ) (listing : Listing d q n places number i) where
+  pub listing-next : i < n → (b : Bool) → b ≡ asks q (shownOf (getD (d .table .parts) i blankPart) (getD (d .cells .healths) i 0))
+      → Listing d q n (set places number i) (number + boolByte b) (i + 1)
+  listing-next low b is-b =
+      (omega arith, listing .1, listing .2, listing .3, list-turn (d .table .parts) (d .cells .healths) q places number i (listing .4) (omega (arith, listing)) b is-b)
+
+  module _ (h : Header) (is-h : h ≡ headed number (pagesOf q) (d .cells .note) (d .table .limit) (removedNumber d)) (some : 1 ≤ pagesOf q) where
+    is-returned : h .returned ≡ returnedOf number (pagesOf q)
+    is-returned = ap (λ (x : Header). x .returned) is-h
+
+    pub returned-word : h .returned < 2 ^ 64
+    returned-word = omega (arith, is-returned, listing)
+
+    pub returned-few : h .returned ≤ 128
+    returned-few = omega (arith, is-returned, listing)
+
+    pub returned-fits : 32 + 32 * h .returned ≤ 512 * pagesOf q
+    returned-fits = omega (arith, is-returned)
+
+    pub returned-room : (room there : ℕ) → 512 * pagesOf q ≤ room → there ≡ room → 32 + 32 * h .returned ≤ there
+    returned-room room there large same = omega (arith, is-returned)
+
+    pub filled : n ≤ i → (b b₁ b₂ b₃ : List ℕ) → 512 * pagesOf q ≤ length b → b₁ ≡ stored b 0 (headerBytes Little h)
+        → b₂ ≡ stored b₁ 32 (flat bytesOf (shownThere (d .table .parts) (d .cells .healths) places (h .returned)))
+        → b₃ ≡ stored b₂ (32 + 32 * h .returned) (replicate (512 * pagesOf q - (32 + 32 * h .returned)) 0) → b₃ ≡ pageOf d q ++ drop (512 * pagesOf q) b
+    filled high =
+        let all : i ≡ min (d .table .count) 128 = omega (arith, listing) in
+        let so : shownThere (d .table .parts) (d .cells .healths) places number ≡ listOf d q = listing .4 .0 ∙ all-listed d q i (listing .2) all in
+        let long : number ≡ length (listOf d q) =
+        sym (length-there (d .table .parts) (d .cells .healths) places number (omega (arith, listing))) ∙ ap length so in
+        let headed-so : h ≡ headerOf d q = is-h ∙ ap (λ (m : ℕ). headed m (pagesOf q) (d .cells .note) (d .table .limit) (removedNumber d)) long in
+        let first : shownThere (d .table .parts) (d .cells .healths) places (h .returned) ≡ take (h .returned) (listOf d q) =
+        sym (take-there (d .table .parts) (d .cells .healths) places number (h .returned) (omega (arith, is-returned))) ∙ ap (take (h .returned)) so in
+        together d q h (shownThere (d .table .parts) (d .cells .healths) places (h .returned)) headed-so first some
+
+module _ (ps : List Part) (hs places : List ℕ) (r : ℕ) (b : List ℕ) (long : length places ≡ 128) (few : r ≤ 128) (room : 32 + 32 * r ≤ length b) where
+  pub put-next : (k : ℕ) (x y : List ℕ) → k < r → x ≡ stored b 32 (flat bytesOf (take k (shownThere ps hs places r)))
+      → y ≡ stored x (32 + 32 * k) (bytesOf (shownOf (getD ps (getD places k 0) blankPart) (getD hs (getD places k 0) 0)))
+      → y ≡ stored b 32 (flat bytesOf (take (k + 1) (shownThere ps hs places r)))
+  unfolding shownIn
+  put-next k x y less is-x is-y =
+      stored-each bytesOf 32 wide (shownThere ps hs places r) b x y 32 k (shownIn ps hs 0) (omega arith) (omega (arith, length-there ps hs places r (omega arith))) is-x
+      (is-y ∙ ap (λ (z : Descriptor). stored x (32 + 32 * k) (bytesOf z)) (at-place ps hs places r k less))
+
+  pub put-all : (k : ℕ) (x : List ℕ) → k ≤ r → r ≤ k → x ≡ stored b 32 (flat bytesOf (take k (shownThere ps hs places r)))
+      → x ≡ stored b 32 (flat bytesOf (shownThere ps hs places r))
+  put-all k x low high is-x =
+      is-x ∙ ap (λ (l : List Descriptor). stored b 32 (flat bytesOf l)) (take-all k (shownThere ps hs places r) (omega (arith, length-there ps hs places r (omega arith))))
 
 -- ## The answer, and the buffer
 
@@ -276,8 +324,8 @@ module _ (s : Security) (q : Request) (room n : ℕ) (a : Answer) (is-a : number
   pages-fit = answered s q room (sym is-a ∙ sym is-n ∙ z) .1
 
 module _ (d : Device) (s : Security) (q : Request) (buf : List ℕ) (a : Answer) (is-a : numberOf a ≡ statusNumber s q (length buf)) (n : ℕ) (is-n : n ≡ numberOf a) where
-  pub shown-done : n ≡ 0 → (out : List ℕ) → ((x : Device) → x .table ≡ d .table → x .cells ≡ d .cells → out ≡ pageOf x q ++ drop (512 * pagesOf q) buf) → said a out ≡ shown d s q buf
-  shown-done z out is-out = rw (is-a, is-out d refl refl, eq-eqb _ _ (sym is-a ∙ sym is-n ∙ z))
+  pub shown-done : n ≡ 0 → (out : List ℕ) → out ≡ pageOf d q ++ drop (512 * pagesOf q) buf → said a out ≡ shown d s q buf
+  shown-done z out is-out = rw (is-a, is-out, eq-eqb _ _ (sym is-a ∙ sym is-n ∙ z))
 
   pub shown-refused : (n ≡ 0 → ⊥) → said a buf ≡ shown d s q buf
   shown-refused ne = rw (is-a, ne-eqb _ _ (λ z. ne (is-n ∙ is-a ∙ z)))

@@ -1,16 +1,17 @@
 // GET PHYSICAL ELEMENT STATUS: the list and the filled page. The device is only read.
 ghost use mathlib.Core.Path.{_≡_};
 ghost use mathlib.Core.List.{_++_};
-ghost use Prim.Native.Nat.{_+_, _-_, _*_, _≤_, min};
+ghost use Prim.Native.Nat.{_+_, _-_, _*_, _≤_};
 ghost use lib.ListN.{length, drop, replicate};
 ghost use Rattle.paper.specs.Answers.{numberOf};
 ghost use Rattle.paper.specs.Told.{said};
-ghost use Rattle.words.specs.Lists.{stored};
+ghost use Rattle.words.specs.Lists.{flat, stored};
+ghost use Rattle.device.specs.Cells.{removedNumber};
 ghost use Rattle.device.specs.Commands.{statusNumber};
-ghost use Rattle.layout.specs.Bytes.{headerBytes, descriptorBytes, returnedOf};
+ghost use Rattle.layout.specs.Bytes.{headerBytes, descriptorBytes};
 ghost use Rattle.layout.specs.Requests.{pagesOf};
 ghost use Rattle.status.specs.Page.{capacityOf, shownOf, asks, busyOf, headed, pageOf, shown};
-use device::Cells;
+ghost use Rattle.status.specs.Places.{Slots, shownThere};
 use device::Device;
 use device::Note;
 use layout::Descriptor;
@@ -22,14 +23,7 @@ use paper::ElementId;
 use paper::PageCount;
 use paper::Security;
 use table::Part;
-use table::Table;
 use words::Order;
-
-fn smaller(a: usize, b: usize) -> usize
-    ensures { λ r. ⌜ r ≡ min a b ⌝ }
-{
-    if a < b { a } else { b }
-}
 
 fn capacity(p: Part) -> u64
     ensures { λ r. ⌜ r ≡ capacityOf p ⌝ }
@@ -55,9 +49,11 @@ fn shown_of(p: Part, health: u8) -> Descriptor
     }
 }
 
-fn does_ask(request: Request, x: Descriptor) -> bool
-    ensures { λ r. ⌜ r ≡ asks request x ⌝ }
+// Whether a request asks for the element of this part and health.
+fn does_ask(request: Request, p: Part, health: u8) -> bool
+    ensures { λ r. ⌜ r ≡ asks request (shownOf p health) ⌝ }
 {
+    let x = shown_of(p, health);
     if !request.takes_id(x.id) {
         return false;
     }
@@ -76,46 +72,37 @@ fn busy(note: Note) -> ElementId
     }
 }
 
-fn clear(part: &mut [u8])
-    ensures { λ _. ⌜ now (part .exit) ≡ replicate (length (now (part .entry))) 0 ⌝ }
-{
-    let mut i = 0;
-    while i < part.len() {
-        part[i] = 0;
-        i += 1;
-    }
-}
-
-// Stores the header of a list of this number, and gives how many of them it returns.
-fn put_header(
-    number: usize,
-    count: PageCount,
-    note: Note,
-    limit: u16,
-    removed: u16,
-    buf: &mut [u8],
-) -> usize
+// The header of a list of this number. The number at FFh is of the whole table.
+fn header_of(d: Device, number: usize, count: PageCount) -> Header
     requires { ⌜ (number ≤ 128) × (1 ≤ count .0) ⌝ }
-    ensures { λ r. ⌜ (r ≡ returnedOf number (count .0)) × (now (buf .exit) ≡ stored (now (buf .entry)) 0 (headerBytes Order.Little (headed number (count .0) note limit removed))) ⌝ }
+    ensures { λ r. ⌜ r ≡ headed number (count .0) (d .cells .note) (d .table .limit) (removedNumber d) ⌝ }
 {
-    let returned = smaller(number, 16 * (count.0 as usize) - 1);
-    let header = Header {
+    let cells = d.cells;
+    let note = cells.note;
+    let hs = cells.healths;
+    let returned = words::smaller(number, 16 * (count.0 as usize) - 1);
+    Header {
         number: number as u32,
         returned: returned as u32,
         busy: busy(note),
-        limit,
-        removed,
-    };
-    let bytes = header.bytes(Order::Little);
-    words::put(buf, 0, &bytes);
-    returned
+        limit: d.table.limit,
+        removed: table::removed(hs, d.table.count),
+    }
 }
 
-// Stores a descriptor behind the header and the k before it.
-fn put_descriptor(x: Descriptor, k: usize, buf: &mut [u8])
-    requires { ⌜ k ≤ 128 ⌝ }
-    ensures { λ _. ⌜ now (buf .exit) ≡ stored (now (buf .entry)) (32 + 32 * k) (descriptorBytes Order.Little x) ⌝ }
+fn put_header(header: Header, buf: &mut [u8])
+    ensures { λ _. ⌜ now (buf .exit) ≡ stored (now (buf .entry)) 0 (headerBytes Order.Little header) ⌝ }
 {
+    let bytes = header.bytes(Order::Little);
+    words::put(buf, 0, &bytes);
+}
+
+// Stores the descriptor of the element of this part and health, behind the header and the k before it.
+fn put_descriptor(p: Part, health: u8, k: usize, buf: &mut [u8])
+    requires { ⌜ k ≤ 128 ⌝ }
+    ensures { λ _. ⌜ now (buf .exit) ≡ stored (now (buf .entry)) (32 + 32 * k) (descriptorBytes Order.Little (shownOf p health)) ⌝ }
+{
+    let x = shown_of(p, health);
     let bytes = x.bytes(Order::Little);
     words::put(buf, 32 + 32 * k, &bytes);
 }
@@ -125,47 +112,51 @@ fn put_zeros(returned: usize, count: PageCount, buf: &mut [u8])
     requires { ⌜ (returned ≤ 128) × (32 + 32 * returned ≤ 512 * count .0) × (512 * count .0 ≤ length (now buf)) ⌝ }
     ensures { λ _. ⌜ now (buf .exit) ≡ stored (now (buf .entry)) (32 + 32 * returned) (replicate (512 * count .0 - (32 + 32 * returned)) 0) ⌝ }
 {
-    let end = 32 + 32 * returned;
+    let mut i = 32 + 32 * returned;
     let size = 512 * (count.0 as usize);
-    clear(&mut buf[end..size]);
-}
-
-// Fills the page of a device of this table and these cells, in ascending order, each byte once: the header, the descriptors, the zeros.
-// The places of what is asked for are put down first, so that each element is judged once.
-fn fill(t: Table, c: Cells, request: Request, buf: &mut [u8])
-    requires { ⌜ (1 ≤ pagesOf request) × (512 * pagesOf request ≤ length (now buf)) ⌝ }
-    ensures { λ _.
-        ⌜ ((d : Device) → d .table ≡ t → d .cells ≡ c
-        → now (buf .exit) ≡ pageOf d request ++ drop (512 * pagesOf request) (now (buf .entry))) ⌝ }
-{
-    let ps = t.parts;
-    let hs = c.healths;
-    let note = c.note;
-    let count = request.count;
-    let n = smaller(t.count, 128);
-    let mut places: [u8; 128] = [0; 128];
-    let mut number: usize = 0;
-    let mut i: usize = 0;
-    while i < n {
-        let p = ps[i];
-        let x = shown_of(p, hs[i]);
-        if does_ask(request, x) {
-            places[number] = i as u8;
-            number += 1;
-        }
+    while i < size {
+        buf[i] = 0;
         i += 1;
     }
-    let removed = table::removed(hs, t.count);
-    let returned = put_header(number, count, note, t.limit, removed, buf);
+}
+
+// Stores the descriptors of the elements at the first of the places.
+fn put_list(ps: [Part; 128], hs: [u8; 128], places: [u8; 128], returned: usize, buf: &mut [u8])
+    requires { ⌜ (returned ≤ 128) × (32 + 32 * returned ≤ length (now buf)) × Slots places ⌝ }
+    ensures { λ _. ⌜ now (buf .exit) ≡ stored (now (buf .entry)) 32 (flat (descriptorBytes Order.Little) (shownThere ps hs places returned)) ⌝ }
+{
     let mut k: usize = 0;
     while k < returned {
         let j = places[k] as usize;
         let p = ps[j];
-        let x = shown_of(p, hs[j]);
-        put_descriptor(x, k, buf);
+        put_descriptor(p, hs[j], k, buf);
         k += 1;
     }
-    put_zeros(returned, count, buf);
+}
+
+// Fills the page, in ascending order, each byte once: the header, the descriptors, the zeros.
+// The places of what is asked for are put down first, so that each element is judged once.
+fn fill(d: Device, request: Request, buf: &mut [u8])
+    requires { ⌜ (1 ≤ pagesOf request) × (512 * pagesOf request ≤ length (now buf)) ⌝ }
+    ensures { λ _. ⌜ now (buf .exit) ≡ pageOf d request ++ drop (512 * pagesOf request) (now (buf .entry)) ⌝ }
+{
+    let ps = d.table.parts;
+    let hs = d.cells.healths;
+    let n = words::smaller(d.table.count, 128);
+    let mut places: [u8; 128] = [0; 128];
+    let mut number: usize = 0;
+    let mut i: usize = 0;
+    while i < n {
+        places[number] = i as u8;
+        let p = ps[i];
+        number += does_ask(request, p, hs[i]) as usize;
+        i += 1;
+    }
+    let header = header_of(d, number, request.count);
+    put_header(header, buf);
+    let returned = header.returned as usize;
+    put_list(ps, hs, places, returned, buf);
+    put_zeros(returned, request.count, buf);
 }
 
 // What a request is answered, over the length of the lent buffer.
@@ -190,9 +181,7 @@ pub fn show(d: Device, security: Security, request: Request, buf: &mut [u8]) -> 
 {
     let answer = judge(security, request, buf.len());
     if paper::number_of(answer) == 0 {
-        let t = d.table;
-        let c = d.cells;
-        fill(t, c, request, buf);
+        fill(d, request, buf);
     }
     answer
 }
