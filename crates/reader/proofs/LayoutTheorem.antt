@@ -15,7 +15,6 @@ use Rattle.layout.specs.declared.Descriptor.{Descriptor}
 use Rattle.layout.specs.declared.Header.{Header}
 use Rattle.layout.specs.declared.Request.{Request}
 use Rattle.paper.specs.Told.{Told, tells}
-use Rattle.words.specs.declared.Order.the-variants.{Little}
 use Rattle.words.specs.declared.Order.{Order}
 use Rattle.reader.specs.Checks.{baseOf, descriptorAt, lastBefore, inTurn, earned, checkOf, offenceAt, paddingAt, pageOffence}
 use Rattle.reader.specs.First.{unless, _orElse_, firstBelow}
@@ -142,23 +141,23 @@ unfolding placed
 refused-at Clean h p e = absurd (let no : _≡_ {A = ℕ} 0 9 = ap (λ (t : Told Values). t .number) e in omega arith)
 refused-at (At r) h p e = ap At (ap (λ (t : Told Values). placed (t .state)) e)
 
-module _ (s : List ℕ) (q : Request) where
-  decided : (a : Offence) → pageOffence Little s q ≡ a → Decides a (pageRules Little s q)
-  decided a e = subst (λ (x : Offence). Decides x (pageRules Little s q)) e (page-decides Little s q)
+module _ (o : Order) (s : List ℕ) (q : Request) where
+  decided : (a : Offence) → pageOffence o s q ≡ a → Decides a (pageRules o s q)
+  decided a e = subst (λ (x : Offence). Decides x (pageRules o s q)) e (page-decides o s q)
 
-  said : (a : Offence) → pageOffence Little s q ≡ a → readOf s q ≡ answerOf a (headerIn Little s)
-  said a e = ap (λ (x : Offence). answerOf x (headerIn Little s)) e
+  said : (a : Offence) → pageOffence o s q ≡ a → readOf o s q ≡ answerOf a (headerIn o s)
+  said a e = ap (λ (x : Offence). answerOf x (headerIn o s)) e
 
 pub takes-exactly : Takes-exactly
-takes-exactly s q = (
-  λ e. decided s q Clean (taken (pageOffence Little s q) (headerIn Little s) e),
-  λ each. said s q Clean (clean-if (pageOffence Little s q) (pageRules Little s q) (page-decides Little s q) each),
+takes-exactly o s q = (
+  λ e. decided o s q Clean (taken (pageOffence o s q) (headerIn o s) e),
+  λ each. said o s q Clean (clean-if (pageOffence o s q) (pageRules o s q) (page-decides o s q) each),
 )
 
 pub refuses-exactly : Refuses-exactly
-refuses-exactly s q p = (
-  λ e. decided s q (At p) (refused-at (pageOffence Little s q) (headerIn Little s) p e),
-  λ first. said s q (At p) (at-if (pageOffence Little s q) (pageRules Little s q) p (page-decides Little s q) first),
+refuses-exactly o s q p = (
+  λ e. decided o s q (At p) (refused-at (pageOffence o s q) (headerIn o s) p e),
+  λ first. said o s q (At p) (at-if (pageOffence o s q) (pageRules o s q) p (page-decides o s q) first),
 )
 
 -- ## A header that was given
@@ -177,5 +176,5 @@ header-of Clean g h e = (refl, ap (given g) e)
 header-of (At p) g h e = absurd (let no : _≡_ {A = ℕ} 1 0 = ap tag e in omega arith)
 
 -- it goes with 0, and is the page's
-pub with-header : (s : List ℕ) (q : Request) (h : Header) → readOf s q .state ≡ header h → (readOf s q .number ≡ 0) × (headerIn Little s ≡ h)
-with-header s q h = header-of (pageOffence Little s q) (headerIn Little s) h
+pub with-header : (o : Order) (s : List ℕ) (q : Request) (h : Header) → readOf o s q .state ≡ header h → (readOf o s q .number ≡ 0) × (headerIn o s ≡ h)
+with-header o s q h = header-of (pageOffence o s q) (headerIn o s) h

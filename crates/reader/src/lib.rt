@@ -5,6 +5,7 @@ ghost use lib.ListN.{length};
 ghost use Rattle.reader.specs.Checks.{descriptorAt, inTurn, earned, checkOf, offenceAt, paddingAt, contentsOf};
 ghost use Rattle.reader.specs.First.{firstBelow};
 ghost use Rattle.reader.specs.Judgement as paper;
+ghost use Rattle.words.specs.declared.Order.the-variants.{Little};
 use layout::Descriptor;
 use layout::Header;
 use layout::Request;
@@ -144,7 +145,7 @@ fn answer(found: Offence, h: Header) -> Judgement
 
 // A page as the answer to a request.
 pub fn read(page: &[u8], request: Request) -> Judgement
-    ensures { λ r. ⌜ paper.heard r ≡ paper.readOf (now (page .entry)) request ⌝ }
+    ensures { λ r. ⌜ paper.heard r ≡ paper.readOf Little (now (page .entry)) request ⌝ }
 {
     if request.is_refused() {
         return Judgement::Refused(0);
@@ -161,7 +162,7 @@ pub fn read(page: &[u8], request: Request) -> Judgement
 
 // Descriptor k of a page; outside at or above returned. A byte past the end counts as 0.
 pub fn descriptor(page: &[u8], k: u32) -> Slot
-    ensures { λ r. ⌜ r ≡ paper.slotOf (now (page .entry)) k ⌝ }
+    ensures { λ r. ⌜ r ≡ paper.slotOf Little (now (page .entry)) k ⌝ }
 {
     let h = Header::read(page, Order::Little);
     if h.returned <= k {
