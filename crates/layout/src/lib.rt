@@ -2,6 +2,7 @@
 ghost use mathlib.Core.Path.{_≡_};
 ghost use Rattle.layout.specs.Requests.{filterOf, reportTypeOf, startOf, refused, takesId, takesType, takesHealth};
 ghost use Rattle.layout.specs.Bytes.{headerBytes, headerIn, descriptorBytes, descriptorIn};
+ghost use Rattle.paper.specs.Elements.{slow};
 ghost use Rattle.words.specs.Lists.{one};
 use paper::ElementId;
 use paper::Lba;
@@ -89,14 +90,20 @@ impl Request {
         if self.filter() != 1 {
             return true;
         }
-        if health < 0x65 {
-            return false;
-        }
-        if health <= 0xCF {
+        if is_slow(health) {
             return true;
         }
         health == 0xFF
     }
+}
+
+fn is_slow(health: u8) -> bool
+    ensures { λ r. ⌜ r ≡ slow health ⌝ }
+{
+    if health < 0x65 {
+        return false;
+    }
+    health <= 0xCF
 }
 
 impl Header {

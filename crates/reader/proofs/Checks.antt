@@ -91,11 +91,8 @@ pub heard-at : (f : Offence) (h : Header) (p : ℕ) → f ≡ At p → heard (Re
 heard-at f h p e = ap (λ (x : Offence). answerOf x h) (sym e)
 
 module _ (q : Request) (b : Bool) (is-b : b ≡ refused q) (n : b ≡ false) where
-  some-pages : 1 ≤ pagesOf q
+  pub some-pages : 1 ≤ pagesOf q
   some-pages = accepted q (sym is-b ∙ n) .2
-
-  pub some-room : 1 ≤ 16 * pagesOf q
-  some-room = omega (arith, some-pages)
 
 module _ (o : Order) (s : List ℕ) (q : Request) (b : Bool) (is-b : b ≡ refused q) where
   pub read-refused : b ≡ true → heard (Refused 0) ≡ readOf o s q

@@ -7,7 +7,7 @@ use lib.Dec.{eqb}
 use lib.ListN.{replicate, set, take}
 use Rattle.layout.specs.Requests.{refused, takesHealth}
 use Rattle.layout.specs.declared.Request.{Request}
-use Rattle.paper.specs.Told.{Told, tells}
+use Rattle.paper.specs.Told.{tells}
 use Rattle.words.specs.Lists.{all}
 use Rattle.words.specs.declared.Order.the-variants.{Little}
 use Rattle.reader.specs.Judgement.{Values, header, place, readOf, slotOf}

@@ -1,14 +1,13 @@
 -- The layout theorem: the reader takes exactly the pages that keep each rule, and refuses any other at the first that is broken.
 use Prim.Native.Nat.{ℕ, _+_, _-_, _*_, _≤_, _<_}
-use mathlib.Core.Bool.{Bool, true, false, not, _&&_, _||_, or-true, false≢true}
+use mathlib.Core.Bool.{Bool, true, false, not, _&&_, false≢true}
 use mathlib.Core.List.{List, _∷_, _++_}
-use mathlib.Core.Logic.{_⊎_, inl, inr, ⊎-elim}
 use mathlib.Core.Path.{_≡_, refl, ap, subst}
 use native.Mathlib.Omega.{arith}
-use lib.Dec.{eqb, leb, ltb}
+use lib.Dec.{eqb, ltb}
 use lib.ListN.{length, getD}
 use borrow.Author.Tests.{eq-eqb, ne-eqb, le-leb, lt-leb, le-ltb, lt-ltb, eqb-true, eqb-false, leb-true, ltb-true, not-true}
-use Rattle.layout.proofs.Requests.{accepted}
+use Rattle.layout.proofs.Requests.{accepted, implied, implies, type-exactly, health-exactly}
 use Rattle.layout.specs.Bytes.{headerIn, returnedOf}
 use Rattle.layout.specs.Requests.{filterOf, reportTypeOf, pagesOf, startOf, refused, takesId, takesType, takesHealth}
 use Rattle.layout.specs.declared.Descriptor.{Descriptor}
@@ -19,7 +18,7 @@ use Rattle.words.specs.declared.Order.{Order}
 use Rattle.reader.specs.Checks.{baseOf, descriptorAt, lastBefore, inTurn, earned, checkOf, offenceAt, paddingAt, pageOffence}
 use Rattle.reader.specs.First.{unless, _orElse_, firstBelow}
 use Rattle.reader.specs.Judgement.{Values, header, place, answerOf, readOf}
-use Rattle.reader.specs.Layout.{Rule, rule, below, Asked, InFilter, descriptorRules, rulesAt, paddingRules, pageRules}
+use Rattle.reader.specs.Layout.{Rule, rule, below, Asked, descriptorRules, rulesAt, paddingRules, pageRules}
 use Rattle.reader.specs.Promises.{Takes-exactly, Refuses-exactly}
 use Rattle.reader.specs.declared.Offence.the-variants.{Clean, At}
 use Rattle.reader.specs.declared.Offence.{Offence}
@@ -30,19 +29,6 @@ use Rattle.reader.proofs.Rules.{Decides, one, join, next, all-below, cl
 pub and-both : (a b : Bool) → (a && b) ≡ true → (a ≡ true) × (b ≡ true)
 and-both true b e = (refl, e)
 and-both false b e = absurd (false≢true e)
-
-or-either : (a b : Bool) → (a || b) ≡ true → (a ≡ true) ⊎ (b ≡ true)
-or-either true b e = inl refl
-or-either false b e = inr e
-
--- "if the first then the second", tested
-implied : (a b : Bool) → (not a || b) ≡ true → a ≡ true → b ≡ true
-implied true b e y = e
-implied false b e y = absurd (false≢true y)
-
-implies : (a b : Bool) → (a ≡ true → b ≡ true) → (not a || b) ≡ true
-implies true b f = f refl
-implies false b f = refl
 
 asked-to : (q : Request) → not (refused q) ≡ true → Asked q
 asked-to q e = accepted q (not-true _ e)
@@ -62,46 +48,23 @@ module _ (q : Request) (last id : ℕ) where
   turn-from : (1 ≤ id) × (startOf q ≤ id) × (last < id) → inTurn q last id ≡ true
   turn-from (some, from, after) = rw (ne-eqb id 0 (omega arith), le-leb (startOf q) id from, lt-ltb last id after)
 
-in-filter-to : (h : ℕ) → ((leb 0x65 h && leb h 0xCF) || eqb h 0xFF) ≡ true → InFilter h
-in-filter-to h e =
-    ⊎-elim
-    (λ x. let b = and-both (leb 0x65 h) (leb h 0xCF) x in inl (leb-true _ _ (b .0), leb-true _ _ (b .1)))
-    (λ x. inr (eqb-true _ _ x))
-    (or-either (leb 0x65 h && leb h 0xCF) (eqb h 0xFF) e)
-
-in-filter-from : (h : ℕ) → InFilter h → ((leb 0x65 h && leb h 0xCF) || eqb h 0xFF) ≡ true
-in-filter-from h (inl (low, high)) = rw (le-leb 0x65 h low, le-leb h 0xCF high)
-in-filter-from h (inr e) = rw (eq-eqb h 0xFF e, or-true)
-
-module _ (q : Request) (d : Descriptor) where
+module _ (d : Descriptor) where
   earned-to : earned d ≡ true → d .restorable ≡ true → d .health ≡ 0xFF
   earned-to e y = eqb-true _ _ (implied (d .restorable) (eqb (d .health) 0xFF) e y)
 
   earned-from : (d .restorable ≡ true → d .health ≡ 0xFF) → earned d ≡ true
   earned-from f = implies (d .restorable) (eqb (d .health) 0xFF) (λ y. eq-eqb _ _ (f y))
 
-  pub type-to : takesType (reportTypeOf q) (d .kind) ≡ true → reportTypeOf q ≡ 1 → d .kind ≡ 1
-  type-to e y = eqb-true _ _ (implied (eqb (reportTypeOf q) 1) (eqb (d .kind) 1) e (eq-eqb _ _ y))
-
-  type-from : (reportTypeOf q ≡ 1 → d .kind ≡ 1) → takesType (reportTypeOf q) (d .kind) ≡ true
-  type-from f = implies (eqb (reportTypeOf q) 1) (eqb (d .kind) 1) (λ y. eq-eqb _ _ (f (eqb-true _ _ y)))
-
-  pub health-to : takesHealth (filterOf q) (d .health) ≡ true → filterOf q ≡ 1 → InFilter (d .health)
-  unfolding takesHealth
-  health-to e y = in-filter-to (d .health) (implied (eqb (filterOf q) 1) _ e (eq-eqb _ _ y))
-
-  health-from : (filterOf q ≡ 1 → InFilter (d .health)) → takesHealth (filterOf q) (d .health) ≡ true
-  unfolding takesHealth
-  health-from f = implies (eqb (filterOf q) 1) _ (λ y. in-filter-from (d .health) (f (eqb-true _ _ y)))
-
 -- ## The checks decide the rules
 
 descriptor-decides : (q : Request) (last base : ℕ) (d : Descriptor) → Decides (checkOf q last base d) (descriptorRules q last base d)
 descriptor-decides q last base d =
+    let type = type-exactly (reportTypeOf q) (d .kind) in
+    let health = health-exactly (filterOf q) (d .health) in
     next (inTurn q last (d .id .0)) (rule (base + 4) _) (turn-to q last (d .id .0)) (turn-from q last (d .id .0)) _ _
-    (next (earned d) (rule (base + 13) _) (earned-to q d) (earned-from q d) _ _
-    (next (takesType (reportTypeOf q) (d .kind)) (rule (base + 14) _) (type-to q d) (type-from q d) _ _
-    (one (takesHealth (filterOf q) (d .health)) (rule (base + 15) _) (health-to q d) (health-from q d))))
+    (next (earned d) (rule (base + 13) _) (earned-to d) (earned-from d) _ _
+    (next (takesType (reportTypeOf q) (d .kind)) (rule (base + 14) _) (type .0) (type .1) _ _
+    (one (takesHealth (filterOf q) (d .health)) (rule (base + 15) _) (health .0) (health .1))))
 
 next-same : (a b p : ℕ) (c : Offence) (rs : List Rule) → Decides c rs → Decides (unless (eqb a b) p orElse c) (rule p (a ≡ b) ∷ rs)
 next-same a b p = next (eqb a b) (rule p (a ≡ b)) (eqb-true a b) (eq-eqb a b)
