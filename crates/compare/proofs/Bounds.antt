@@ -26,7 +26,7 @@ use Rattle.compare.specs.declared.Turn.the-variants.{Older, Newer}
 
 -- ## A page judged
 
-module _ (s : List ℕ) (q : Request) (r : Judgement) (is-r : judgement.heard r ≡ judgement.readOf s q) where
+module _ (s : List ℕ) (q : Request) (r : Judgement) (is-r : judgement.heard r ≡ judgement.readOf Little s q) where
   pub accepted-yes : (h : Header) → r ≡ says.Accepted h → true ≡ accepted s q
   unfolding accepted
   accepted-yes h e = sym (rw (← is-r, e))

@@ -27,7 +27,7 @@ use Rattle.compare.specs.declared.Line.the-variants.{OnlyOlder, OnlyNewe
 use Rattle.compare.specs.declared.Line.{Line}
 use Rattle.compare.specs.declared.Opening.the-variants.{Accepted, Refused}
 use Rattle.compare.specs.declared.Opening.{Opening}
-use Rattle.compare.proofs.Ascending.{idAt, rules, count-room}
+use Rattle.compare.proofs.Ascending.{idAt, is-taken, count-room}
 
 -- ## What was heard gives the answer back
 
@@ -141,7 +141,7 @@ descriptor-part o l =
 pub hands-out : Hands-out
 unfolding descriptorPart elementAt
 hands-out s q k is-accepted l =
-    let long : length s ≡ 512 * pagesOf q = rules s q is-accepted .1 .0 in
+    let long : length s ≡ 512 * pagesOf q = is-taken s q is-accepted .long in
     let room : baseOf k + 32 ≤ length s = omega (arith, l, long, count-room s q is-accepted) in
     let whole : descriptorPart s k ≡ take 32 (drop (baseOf k) s) = rw (lt-ltb k (countOf s) l, le-leb (baseOf k + 32) (length s) room) in (
       ap length whole ∙ length-take-le 32 (drop (baseOf k) s) (omega (arith, room, length-drop (baseOf k) s)),

@@ -9,7 +9,6 @@ use native.Mathlib.Omega.{arith}
 use lib.Dec.{eqb, ltb}
 use borrow.Author.Tests.{ltb-true, ltb-false, eqb-true, eqb-false}
 use Rattle.compare.specs.Differences.{alike, absent, standing, differenceAt, differencesIn, differencesOf}
-use Rattle.compare.specs.Opening.{accepted}
 use Rattle.compare.specs.Pages.{countOf, elementAt, boundOf, endOf}
 use Rattle.compare.specs.Promises.{Walk-gives}
 use Rattle.compare.specs.Walk.{cursor, first, idWithin, agreeAt, stepAt, nextOf, ahead, after, walkFrom}

@@ -1,7 +1,7 @@
 -- A page that the reader takes: its rules by name, as callers use the layout theorem.
 use Prim.Native.Nat.{ℕ, _+_, _-_, _*_, _≤_, _<_}
 use mathlib.Core.Bool.{true}
-use mathlib.Core.List.{List, _++_}
+use mathlib.Core.List.{List}
 use mathlib.Core.Path.{_≡_}
 use native.Mathlib.Nat.{min-le-right}
 use native.Mathlib.Omega.{arith}
@@ -14,7 +14,7 @@ use Rattle.paper.specs.Told.{tells}
 use Rattle.words.specs.declared.Order.{Order}
 use Rattle.reader.specs.Checks.{baseOf, descriptorAt, lastBefore}
 use Rattle.reader.specs.Judgement.{header, readOf}
-use Rattle.reader.specs.Layout.{Rule, Each, below, Asked, descriptorRules, rulesAt, paddingRules, pageRules}
+use Rattle.reader.specs.Layout.{Rule, Each, below, Asked, descriptorRules, rulesAt, paddingRules}
 use Rattle.reader.proofs.LayoutTheorem.{takes-exactly}
 use Rattle.reader.proofs.Rules.{each-both, each-first, each-second, each-at, each-below}
 
@@ -74,5 +74,5 @@ module _ (o : Order) (s : List ℕ) (q : Request) where
       takes-exactly o s q .1 (t .asked, (t .long, (t .returned, each-both list-rules padding-rules list padding)))
 
   -- its descriptors are at most "16p - 1"
-  pub few : Taken o s q → n ≤ roomOf (pagesOf q)
-  few t = omega (arith, t .returned, min-le-right (headerIn o s .number) (roomOf (pagesOf q)))
+  pub room : Taken o s q → n ≤ roomOf (pagesOf q)
+  room t = omega (arith, t .returned, min-le-right (headerIn o s .number) (roomOf (pagesOf q)))
