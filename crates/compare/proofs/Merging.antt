@@ -12,7 +12,7 @@ use Rattle.paper.specs.declared.ElementId.{ElementId}
 use Rattle.compare.specs.Differences.{alike, absent, standing, differenceAt, differencesIn, differencesOf}
 use Rattle.compare.specs.Pages.{countOf, elementAt, boundOf, endOf}
 use Rattle.compare.specs.Promises.{Walk-gives}
-use Rattle.compare.specs.Walk.{cursor, first, keyAt, agreeAt, stepBy, nextOf, ahead, after, walkFrom}
+use Rattle.compare.specs.Walk.{cursor, first, keyAt, agreeAt, foundBy, stepAt, nextOf, ahead, after, walkFrom}
 use Rattle.compare.specs.declared.Cursor.{Cursor}
 use Rattle.compare.specs.declared.Line.the-variants.{OnlyOlder, OnlyNewer, Changed}
 use Rattle.compare.specs.declared.Line.{Line}
@@ -20,7 +20,7 @@ use Rattle.compare.specs.declared.Step.the-variants.{Done}
 use Rattle.compare.specs.declared.Step.{Step}
 use Rattle.compare.proofs.Ascending.{Ascends, ascends}
 use Rattle.compare.proofs.Standings.{Split, between, nearer-to, not-below, stands-there, past-it}
-use Rattle.compare.proofs.Steps.{inside, agree-other, agree-beyond, agree-if, stepped, step-done, step-older, step-newer, step-changed, least-first, least-second, next-on, next-here}
+use Rattle.compare.proofs.Steps.{inside, agree-other, agree-beyond, agree-if, step-done, step-found, found-older, found-newer, found-changed, least-first, least-second, next-on, next-here}
 use Rattle.compare.proofs.Walking.{walk-done, walk-found, walk-ends}
 
 -- an identifier of a number
@@ -77,9 +77,13 @@ module _ (s t : List ℕ) where
         skip (m - a) (suc (end .0 - m)) n a m (omega (arith, all)) (omega arith) (nowhere m l r)
         ∙ ap (λ (k : ℕ). differenceAt s t (numbered m) ++ differencesIn s t k (end .0 - m)) (sym (add-one m))
 
-    steps : (r : Step) → agreeAt s t end c ≡ false → r ≡ stepBy x y end c → r ≡ nextOf s t c
-    unfolding nextOf end x y
-    steps r n is-r = next-here s t end c false (sym n) refl r (stepped s t end c x y refl refl r is-r)
+    steps : (r : Step) → agreeAt s t end c ≡ false → r ≡ stepAt s t end c → r ≡ nextOf s t c
+    unfolding nextOf end
+    steps r n is-r = next-here s t (endOf (boundOf s t)) c false (sym n) refl r is-r
+
+    finds : (r : Step) → agreeAt s t end c ≡ false → min x y ≤ end .0 → r ≡ foundBy x y c → r ≡ nextOf s t c
+    unfolding x y
+    finds r n l is-r = steps r n (step-found s t end c x y refl refl (min x y) refl l r is-r)
 
     apart : (x ≡ y → ⊥) → agreeAt s t end c ≡ false
     unfolding x y
@@ -98,7 +102,7 @@ module _ (s t : List ℕ) where
     none-left : end .0 < x → end .0 < y → Right c a n
     unfolding x y differencesIn Right
     none-left l r =
-        walk-done s t c (steps Done (beyond l) (step-done x y end c (min x y) refl (le-min l r)))
+        walk-done s t c (steps Done (beyond l) (step-done s t end c x y refl refl (min x y) refl (le-min l r)))
         ∙ sym (skip n 0 n a (a + n) (omega arith) refl (nowhere (a + n) (omega (arith, all)) (omega (arith, all))))
 
     only-older : x < y → x ≤ end .0 → Right c a n
@@ -108,7 +112,7 @@ module _ (s t : List ℕ) where
         let inside-s : c .older < countOf s = inside s (c .older) end in-end in
         let line : differenceAt s t (numbered x) ≡ OnlyOlder (c .older) ∷ [] =
         rw (stands-there s up-s (c .older) end a of-s x refl in-end, between t up-t (c .newer) end a of-t (numbered x) low l) in
-        walk-found s t c _ (steps _ (apart (λ e. omega arith)) (step-older x y end c (min x y) refl (omega (arith, min-le-left x y)) l _ refl))
+        walk-found s t c _ (finds _ (apart (λ e. omega arith)) (omega (arith, min-le-left x y)) (found-older x y c _ l refl))
         ∙ ap (λ (ls : List Line). OnlyOlder (c .older) ∷ ls)
         (further (cursor (c .older + 1) (c .newer)) (x + 1) (end .0 - x) (omega (arith, inside-s)) (omega arith)
         (past-it s up-s (c .older) end a of-s x refl in-end)
@@ -123,7 +127,7 @@ module _ (s t : List ℕ) where
         let inside-t : c .newer < countOf t = inside t (c .newer) end in-end in
         let line : differenceAt s t (numbered y) ≡ OnlyNewer (c .newer) ∷ [] =
         rw (between s up-s (c .older) end a of-s (numbered y) low l, stands-there t up-t (c .newer) end a of-t y refl in-end) in
-        walk-found s t c _ (steps _ (apart (λ e. omega arith)) (step-newer x y end c (min x y) refl (omega (arith, min-le-right x y)) l _ refl))
+        walk-found s t c _ (finds _ (apart (λ e. omega arith)) (omega (arith, min-le-right x y)) (found-newer x y c _ l refl))
         ∙ ap (λ (ls : List Line). OnlyNewer (c .newer) ∷ ls)
         (further (cursor (c .older) (c .newer + 1)) (y + 1) (end .0 - y) (omega (arith, inside-t)) (omega arith)
         (nearer-to s up-s (c .older) end a of-s (y + 1) (omega (arith, low)) (omega arith))
@@ -167,8 +171,7 @@ module _ (s t : List ℕ) where
       changed e =
           let line : differenceAt s t (numbered x) ≡ Changed c ∷ [] = both-stand ∙ ap (λ (b : Bool). cond b [] (Changed c ∷ [])) e in
           walk-found s t c _
-          (steps _ (sym agree ∙ e)
-          (step-changed x y end c (min x y) refl (omega (arith, in-end, min-le-left x y)) (omega (arith, same)) (omega (arith, same)) _ refl))
+          (finds _ (sym agree ∙ e) (omega (arith, in-end, min-le-left x y)) (found-changed x y c _ (omega (arith, same)) (omega (arith, same)) refl))
           ∙ ap (λ (ls : List Line). Changed c ∷ ls) rest
           ∙ ap (λ (ls : List Line). ls ++ differencesIn s t (x + 1) (end .0 - x)) (sym line)
 

@@ -16,7 +16,7 @@ use Rattle.reader.specs.Checks.{descriptorAt}
 use Rattle.words.specs.declared.Order.the-variants.{Little}
 use Rattle.compare.specs.Differences.{alike}
 use Rattle.compare.specs.Pages.{countOf, elementAt, boundOf, endOf}
-use Rattle.compare.specs.Walk.{cursor, keyAt, agreeAt, found, stepBy, stepAt, past, nextTo, nextOf}
+use Rattle.compare.specs.Walk.{cursor, keyAt, agreeAt, found, foundBy, stepAt, past, nextTo, nextOf}
 use Rattle.compare.specs.declared.Bound.{Bound}
 use Rattle.compare.specs.declared.Cursor.{Cursor}
 use Rattle.compare.specs.declared.Line.the-variants.{OnlyOlder, OnlyNewer, Changed}
@@ -87,23 +87,24 @@ module _ (s t : List ℕ) (end : ElementId) (c : Cursor) (a b : ℕ) (is-a : a �
     unfolding elementAt
     agree-alike d e is-d is-e r is-r = is-r ∙ (λ k. alike (is-d k) (is-e k)) ∙ agree-if
 
-  pub stepped : (x : Step) → x ≡ stepBy a b end c → x ≡ stepAt s t end c
-  unfolding stepAt
-  stepped x is-x = is-x ∙ (λ k. stepBy (is-a k) (is-b k) end c)
+  module _ (m : ℕ) (is-m : m ≡ min a b) where
+    pub step-done : end .0 < m → Done ≡ stepAt s t end c
+    unfolding stepAt
+    step-done l = sym (rw (← is-a, ← is-b, ← is-m, lt-ltb _ _ l))
 
-module _ (a b : ℕ) (end : ElementId) (c : Cursor) (m : ℕ) (is-m : m ≡ min a b) where
-  pub step-done : end .0 < m → Done ≡ stepBy a b end c
-  step-done l = sym (rw (← is-m, lt-ltb _ _ l))
+    pub step-found : m ≤ end .0 → (x : Step) → x ≡ foundBy a b c → x ≡ stepAt s t end c
+    unfolding stepAt
+    step-found l x is-x = is-x ∙ sym (rw (← is-a, ← is-b, ← is-m, le-ltb _ _ l))
 
-  module _ (within : m ≤ end .0) where
-    pub step-older : a < b → (x : Step) → x ≡ found (OnlyOlder (c .older)) (c .older + 1) (c .newer) → x ≡ stepBy a b end c
-    step-older l x is-x = is-x ∙ sym (rw (← is-m, le-ltb _ _ within, lt-ltb _ _ l))
+module _ (a b : ℕ) (c : Cursor) (x : Step) where
+  pub found-older : a < b → x ≡ found (OnlyOlder (c .older)) (c .older + 1) (c .newer) → x ≡ foundBy a b c
+  found-older l is-x = is-x ∙ sym (rw (lt-ltb _ _ l))
 
-    pub step-newer : b < a → (x : Step) → x ≡ found (OnlyNewer (c .newer)) (c .older) (c .newer + 1) → x ≡ stepBy a b end c
-    step-newer l x is-x = is-x ∙ sym (rw (← is-m, le-ltb _ _ within, le-ltb a b (omega arith), lt-ltb _ _ l))
+  pub found-newer : b < a → x ≡ found (OnlyNewer (c .newer)) (c .older) (c .newer + 1) → x ≡ foundBy a b c
+  found-newer l is-x = is-x ∙ sym (rw (le-ltb a b (omega arith), lt-ltb _ _ l))
 
-    pub step-changed : b ≤ a → a ≤ b → (x : Step) → x ≡ found (Changed c) (c .older + 1) (c .newer + 1) → x ≡ stepBy a b end c
-    step-changed l g x is-x = is-x ∙ sym (rw (← is-m, le-ltb _ _ within, le-ltb _ _ l, le-ltb _ _ g))
+  pub found-changed : b ≤ a → a ≤ b → x ≡ found (Changed c) (c .older + 1) (c .newer + 1) → x ≡ foundBy a b c
+  found-changed l g is-x = is-x ∙ sym (rw (le-ltb _ _ g, le-ltb _ _ l))
 
 -- ## Past what agrees
 

@@ -33,19 +33,21 @@ agreeAt s t end c =
 abbrev pub found : Line → ℕ → ℕ → Step
 found l i j = Found (record { line = l; next = cursor i j })
 
--- the step where the older's key is a, the newer's b
-abbrev pub stepBy : ℕ → ℕ → ElementId → Cursor → Step
-stepBy a b end c =
+-- the difference there, where the older's key is a, the newer's b
+abbrev pub foundBy : ℕ → ℕ → Cursor → Step
+foundBy a b c =
     let i = c .older in
     let j = c .newer in
-    cond (ltb (end .0) (min a b)) Done
-    (cond (ltb a b) (found (OnlyOlder i) (i + 1) j)
+    cond (ltb a b) (found (OnlyOlder i) (i + 1) j)
     (cond (ltb b a) (found (OnlyNewer j) i (j + 1))
-    (found (Changed c) (i + 1) (j + 1))))
+    (found (Changed c) (i + 1) (j + 1)))
 
 -- what stands there, where they do not agree
 unfoldable pub stepAt : List ℕ → List ℕ → ElementId → Cursor → Step
-stepAt s t end c = stepBy (keyAt s (c .older) end) (keyAt t (c .newer) end) end c
+stepAt s t end c =
+    let a = keyAt s (c .older) end in
+    let b = keyAt t (c .newer) end in
+    cond (ltb (end .0) (min a b)) Done (foundBy a b c)
 
 -- ## From a cursor on
 

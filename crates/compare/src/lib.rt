@@ -7,7 +7,7 @@ ghost use Rattle.compare.specs.Opening.{heard, openOf, accepted};
 ghost use Rattle.compare.specs.Pages.{reachOf, smallest, boundOf, endOf};
 ghost use Rattle.compare.specs.Parts.{firstPart, descriptorPart, partOf};
 ghost use Rattle.compare.specs.Walk as paper;
-ghost use Rattle.compare.specs.Walk.{first, keyAt, agreeAt, stepBy, stepAt, nextOf};
+ghost use Rattle.compare.specs.Walk.{first, keyAt, agreeAt, foundBy, stepAt, nextOf};
 ghost use Rattle.reader.specs.Checks.{lastBefore};
 ghost use Rattle.words.specs.declared.Order.the-variants.{Little};
 use layout::Descriptor;
@@ -197,16 +197,13 @@ fn found(line: Line, older: u32, newer: u32) -> Step
     })
 }
 
-// The step at the cursor, where the older's key is a, the newer's b.
-fn step_by(a: usize, b: usize, end: ElementId, at: Cursor) -> Step
-    requires { ⌜ (a ≤ end .0 → at .older + 1 < 2 ^ 32) × (b ≤ end .0 → at .newer + 1 < 2 ^ 32) ⌝ }
-    ensures { λ r. ⌜ r ≡ stepBy a b end at ⌝ }
+// The difference at the cursor, where the older's key is a, the newer's b. After the nearer one there is a place.
+fn found_by(a: usize, b: usize, at: Cursor) -> Step
+    requires { ⌜ (a ≤ b → at .older + 1 < 2 ^ 32) × (b ≤ a → at .newer + 1 < 2 ^ 32) ⌝ }
+    ensures { λ r. ⌜ r ≡ foundBy a b at ⌝ }
 {
     let i = at.older;
     let j = at.newer;
-    if (end.0 as usize) < words::smaller(a, b) {
-        return Step::Done;
-    }
     if a < b {
         return found(Line::OnlyOlder(i), i + 1, j);
     }
@@ -221,7 +218,11 @@ fn step_at(older: &[u8], newer: &[u8], end: ElementId, at: Cursor) -> Step
     ensures { λ r. ⌜ r ≡ stepAt (now (older .entry)) (now (newer .entry)) end at ⌝ }
 {
     let a = key_at(older, at.older, end);
-    step_by(a, key_at(newer, at.newer, end), end, at)
+    let b = key_at(newer, at.newer, end);
+    if (end.0 as usize) < words::smaller(a, b) {
+        return Step::Done;
+    }
+    found_by(a, b, at)
 }
 
 // The next difference from a cursor on; what lies before the cursor counts as not there.

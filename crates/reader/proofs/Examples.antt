@@ -1,6 +1,6 @@
 -- The definitions tried: G1's page is read, and each offence is found at its place, the first before the others.
 use Prim.Native.Nat.{ℕ}
-use mathlib.Core.Bool.{Bool, true, false, _&&_}
+use mathlib.Core.Bool.{Bool, true, false}
 use mathlib.Core.List.{List, [], _∷_, _++_}
 use mathlib.Core.Path.{_≡_, refl}
 use lib.Dec.{eqb}
@@ -9,7 +9,7 @@ use Rattle.layout.specs.Requests.{refused, takesHealth}
 use Rattle.layout.specs.declared.Request.{Request}
 use Rattle.paper.specs.Told.{tells}
 use Rattle.words.specs.Lists.{all}
-use Rattle.words.specs.declared.Order.the-variants.{Little}
+use Rattle.words.specs.declared.Order.the-variants.{Little, Big}
 use Rattle.reader.specs.Judgement.{Values, header, place, readOf, slotOf}
 use Rattle.reader.specs.declared.Slot.the-variants.{Outside, Holds}
 
@@ -65,6 +65,8 @@ tried : all (λ (b : Bool). b)
     -- the first of several
     ∷ refusedAt 45 (set (set (set g1 45 1) 46 2) 511 7)
     ∷ refusedAt 47 (set (set g1 47 0) 64 9)
+    -- in the other order N is 0100_0000h
+    ∷ isAt 4 (readOf Big g1 (request 0x4100 1 0) .state)
     ∷ []) ≡ true
 unfolding refused takesHealth
 tried = refl
