@@ -23,27 +23,27 @@ use Rattle.compare.specs.declared.Bound.the-variants.{Whole, UpTo}
 use Rattle.compare.specs.declared.Bound.{Bound}
 use Rattle.compare.specs.declared.Turn.the-variants.{Older, Newer}
 
--- ## A page judged
+-- ## Both judged
 
 module _ (s : List ℕ) (q : Request) (r : Judgement) (is-r : judgement.heard r ≡ judgement.readOf Little s q) where
-  pub accepted-yes : (h : Header) → r ≡ says.Accepted h → true ≡ accepted s q
+  accepted-yes : (h : Header) → r ≡ says.Accepted h → accepted s q ≡ true
   unfolding accepted
-  accepted-yes h e = sym (rw (← is-r, e))
+  accepted-yes h e = rw (← is-r, e)
 
-  pub accepted-no : (p : ℕ) → r ≡ says.Refused p → false ≡ accepted s q
+  accepted-no : (p : ℕ) → r ≡ says.Refused p → accepted s q ≡ false
   unfolding accepted
-  accepted-no p e = sym (rw (← is-r, e))
+  accepted-no p e = rw (← is-r, e)
 
-module _ (s t : List ℕ) (q : Request) (a : Bool) (is-a : a ≡ accepted s q) where
-  pub open-older : a ≡ false → tells 9 (turn Older) ≡ openOf s t q
-  open-older n = sym (rw (sym is-a ∙ n))
+module _ (s t : List ℕ) (q : Request) (a : Judgement) (is-a : judgement.heard a ≡ judgement.readOf Little s q) where
+  pub open-older : (p : ℕ) → a ≡ says.Refused p → tells 9 (turn Older) ≡ openOf s t q
+  open-older p e = sym (rw (accepted-no s q a is-a p e))
 
-  module _ (y : a ≡ true) (b : Bool) (is-b : b ≡ accepted t q) where
-    pub open-newer : b ≡ false → tells 9 (turn Newer) ≡ openOf s t q
-    open-newer n = sym (rw (sym is-a ∙ y, sym is-b ∙ n))
+  module _ (h : Header) (y : a ≡ says.Accepted h) (b : Judgement) (is-b : judgement.heard b ≡ judgement.readOf Little t q) where
+    pub open-newer : (p : ℕ) → b ≡ says.Refused p → tells 9 (turn Newer) ≡ openOf s t q
+    open-newer p e = sym (rw (accepted-yes s q a is-a h y, accepted-no t q b is-b p e))
 
-    pub open-both : b ≡ true → (m : Bound) → m ≡ boundOf s t → tells 0 (bound m) ≡ openOf s t q
-    open-both z m is-m = sym (rw (sym is-a ∙ y, sym is-b ∙ z, ← is-m))
+    pub open-both : (g : Header) → b ≡ says.Accepted g → (m : Bound) → m ≡ boundOf s t → tells 0 (bound m) ≡ openOf s t q
+    open-both g z m is-m = sym (rw (accepted-yes s q a is-a h y, accepted-yes t q b is-b g z, ← is-m))
 
 -- ## How far
 

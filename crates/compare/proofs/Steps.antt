@@ -109,7 +109,7 @@ module _ (a b : ℕ) (c : Cursor) (x : Step) where
 -- ## Past what agrees
 
 module _ (s t : List ℕ) (end : ElementId) where
-  pub agree-inside : (c : Cursor) → agreeAt s t end c ≡ true → (c .older < countOf s) × (c .newer < countOf t)
+  agree-inside : (c : Cursor) → agreeAt s t end c ≡ true → (c .older < countOf s) × (c .newer < countOf t)
   unfolding agreeAt
   agree-inside c e =
       let a : ℕ = keyAt s (c .older) end in

@@ -3,7 +3,7 @@ ghost use mathlib.Core.Path.{_≡_};
 ghost use mathlib.Core.Bool.{true};
 ghost use Prim.Native.Nat.{_+_, _^_, _≤_, _<_};
 ghost use Rattle.compare.specs.Differences.{alike};
-ghost use Rattle.compare.specs.Opening.{heard, openOf, accepted};
+ghost use Rattle.compare.specs.Opening.{heard, openOf};
 ghost use Rattle.compare.specs.Pages.{reachOf, smallest, boundOf, endOf};
 ghost use Rattle.compare.specs.Parts.{firstPart, descriptorPart, partOf};
 ghost use Rattle.compare.specs.Walk as paper;
@@ -62,16 +62,6 @@ pub enum Step {
 
 // ---- Both pages
 
-fn is_accepted(page: &[u8], request: Request) -> bool
-    ensures { λ r. ⌜ r ≡ accepted (now (page .entry)) request ⌝ }
-{
-    let judgement = reader::read(page, request);
-    match judgement {
-        Judgement::Accepted(_) => true,
-        Judgement::Refused(_) => false,
-    }
-}
-
 // The identifier before descriptor k, 0 before the first.
 fn id_before(page: &[u8], k: u32) -> ElementId
     ensures { λ r. ⌜ r .0 ≡ lastBefore Little (now (page .entry)) k ⌝ }
@@ -116,10 +106,10 @@ fn bound_of(older: &[u8], newer: &[u8]) -> Bound
 pub fn open(older: &[u8], newer: &[u8], request: Request) -> Opening
     ensures { λ r. ⌜ heard r ≡ openOf (now (older .entry)) (now (newer .entry)) request ⌝ }
 {
-    if !is_accepted(older, request) {
+    if let Judgement::Refused(_) = reader::read(older, request) {
         return Opening::Refused(Turn::Older);
     }
-    if !is_accepted(newer, request) {
+    if let Judgement::Refused(_) = reader::read(newer, request) {
         return Opening::Refused(Turn::Newer);
     }
     Opening::Accepted(bound_of(older, newer))

@@ -88,7 +88,3 @@ health-exactly f h = (
   λ e y. implied (eqb f 1) (inFilter h) e (eq-eqb _ _ y),
   λ g. implies (eqb f 1) (inFilter h) (λ y. g (eqb-true _ _ y)),
 )
-
--- without a filter every health is taken
-pub filter-none : (h : ℕ) → takesHealth 0 h ≡ true
-filter-none h = sym (filter-any h 0 0 refl (omega arith))

@@ -1,6 +1,5 @@
 -- Laws of numbers as bytes, each over the width and the order.
 --     number-bytesOf   a number that fits is read back from its bytes
---     numberAt-lay     the same at the place where the bytes were laid
 --     number-halves    a number of two halves, as the code reads it
 use Prim.Native.Nat.{ℕ, zero, suc, _+_, _-_, _*_, _/_, _%_, _^_, _<_}
 use mathlib.Core.List.{List, [], _∷_, _++_, reverse, reverse-append, reverse-reverse}
@@ -9,7 +8,7 @@ use native.Mathlib.Nat.{pow-suc, zero-add, suc-add, add-mul, mul-assoc, add-asso
 use native.Mathlib.Omega.{arith}
 use lib.Dec.{lit<}
 use lib.ListN.{length, getD, take, drop, length-drop, length-reverse}
-use lib.Seq.{take-all, drop-drop, drop-at, getD-drop}
+use lib.Seq.{take-all, drop-drop, getD-drop}
 use Rattle.words.specs.Bytes.{lowBytes, value, ordered, bytesOf, number, front, numberAt, joined}
 use Rattle.words.specs.declared.Order.the-variants.{Little, Big}
 use Rattle.words.specs.declared.Order.{Order}
@@ -33,31 +32,11 @@ number-bytesOf o w x h = ap value (ordered-twice o (lowBytes w x)) ∙ value-low
 pub in-order : (w : ℕ) {o p : Order} (x : ℕ) → o ≡ p → bytesOf p w x ≡ bytesOf o w x
 in-order w x e = sym (ap (λ (q : Order). bytesOf q w x) e)
 
-length-lowBytes : (w x : ℕ) → length (lowBytes w x) ≡ w
-length-lowBytes zero x = refl
-length-lowBytes (suc w) x = ap suc (length-lowBytes w (x / 256))
-
-pub length-bytesOf : (o : Order) (w x : ℕ) → length (bytesOf o w x) ≡ w
-length-bytesOf Little w x = length-lowBytes w x
-length-bytesOf Big w x = length-reverse (lowBytes w x) ∙ length-lowBytes w x
-
 -- ## Reading at a place
 
 -- a part that goes on to the end
 pub part-end : (s : List ℕ) (at : ℕ) → take (length s - at) (drop at s) ≡ drop at s
 part-end s at = take-all (length s - at) (drop at s) (simp length-drop (omega arith))
-
-front-append : (w : ℕ) (bs rest : List ℕ) → length bs ≡ w → front w (bs ++ rest) ≡ bs
-front-append zero [] rest e = refl
-front-append zero (b ∷ bs) rest e = absurd (omega arith)
-front-append (suc w) [] rest e = absurd (omega arith)
-front-append (suc w) (b ∷ bs) rest e = ap (λ (r : List ℕ). b ∷ r) (front-append w bs rest (omega arith))
-
-pub numberAt-lay : (o : Order) (w x at : ℕ) (before rest : List ℕ) → length before ≡ at → x < 256 ^ w → numberAt o w (before ++ (bytesOf o w x ++ rest)) at ≡ x
-numberAt-lay o w x at before rest e h =
-    ap (λ (s : List ℕ). number o (front w s)) (drop-at before (bytesOf o w x ++ rest) at e)
-    ∙ ap (number o) (front-append w (bytesOf o w x) rest (length-bytesOf o w x))
-    ∙ number-bytesOf o w x h
 
 -- ## A number of two halves
 
