@@ -11,20 +11,19 @@ use lib.Seq.{drop-append-add, getD-append-add, getD-take}
 use borrow.Author.Tests.{lt-ltb, leb-true}
 use Rattle.device.specs.declared.Device.{Device}
 use Rattle.layout.proofs.Bytes.{header-back, descriptor-back}
-use Rattle.layout.proofs.Requests.{accepted}
+use Rattle.layout.proofs.Requests.{accepted, type-exactly, health-exactly}
 use Rattle.layout.specs.Bytes.{headerBytes, headerIn, descriptorIn, roomOf, returnedOf, HeaderFits, DescriptorFits}
-use Rattle.layout.specs.Requests.{reportTypeOf, pagesOf, refused, takesId, takesType}
+use Rattle.layout.specs.Requests.{filterOf, reportTypeOf, pagesOf, refused, takesId, takesType}
 use Rattle.layout.specs.declared.Descriptor.{Descriptor}
 use Rattle.layout.specs.declared.Header.{Header}
 use Rattle.layout.specs.declared.Request.{Request}
 use Rattle.paper.specs.Elements.{removedHealth}
 use Rattle.paper.specs.Told.{tells}
-use Rattle.reader.proofs.LayoutTheorem.{and-both, type-to, health-to, takes-exactly}
-use Rattle.reader.proofs.Rules.{each-both, each-below}
+use Rattle.reader.proofs.LayoutTheorem.{and-both}
+use Rattle.reader.proofs.Taken.{Listed, Taken, takes}
 use Rattle.reader.specs.Checks as checks
 use Rattle.reader.specs.Checks.{baseOf, lastBefore}
 use Rattle.reader.specs.Judgement.{header, slotOf}
-use Rattle.reader.specs.Layout.{Rule, Each, below, descriptorRules, rulesAt, paddingRules, pageRules}
 use Rattle.reader.specs.declared.Slot.the-variants.{Holds}
 use Rattle.status.proofs.EveryPage.{whole-pages}
 use Rattle.status.proofs.Page.{bytesOf, wide, shown-ids}
@@ -61,13 +60,20 @@ bit-clear : (d : Device) (n : ℕ) → Every (λ (x : Descriptor). x .restorable
 unfolding shownOf
 bit-clear d n = every-below (λ (x : Descriptor). x .restorable ≡ false) (shownAt d) n (λ i _. refl)
 
--- what a listed element keeps of the rules of its place
-element-each : (q : Request) (last base : ℕ) (x : Descriptor) → asks q x ≡ true → x .restorable ≡ false → last < x .id .0 → Each (descriptorRules q last base x)
+-- an element that the request asks for keeps the rules of its place
+asked-listed : (q : Request) (last : ℕ) (x : Descriptor) → asks q x ≡ true → x .restorable ≡ false → last < x .id .0 → Listed q last x
 unfolding asks
-element-each q last base x a clear up =
+asked-listed q last x a clear up =
     let id = and-both (takesId q (x .id .0)) _ a in
     let rest = and-both (takesType (reportTypeOf q) (x .kind)) _ (id .1) in
-    ((omega (arith, up), leb-true _ _ (id .0), up), ((λ r. absurd (false≢true (sym clear ∙ r))), (type-to q x (rest .0), (health-to q x (rest .1), tt))))
+    record {
+      some = omega (arith, up);
+      started = leb-true _ _ (id .0);
+      rises = up;
+      earned = λ r. absurd (false≢true (sym clear ∙ r));
+      typed = type-exactly (reportTypeOf q) (x .kind) .0 (rest .0);
+      filtered = health-exactly (filterOf q) (x .health) .0 (rest .1);
+    }
 
 getD-there : {A : Type 0} (l : List A) (k : ℕ) (x y : A) → k < length l → getD l k x ≡ getD l k y
 getD-there [] k x y h = absurd (omega arith)
@@ -178,41 +184,34 @@ module _ (d : Device) (q : Request) (fits : Fits d) (asc : ascending 0 (identifi
   last-here zero l = refl
   last-here (suc k) l = ap idOf (descriptor-here k (omega arith)) ∙ sym (id-at k (omega arith))
 
-  list-each : (k : ℕ) → k < n → Each (rulesAt Little (pageOf d q) q k)
-  list-each k l =
+  list-here : (k : ℕ) → k < n → Listed q (lastBefore Little (pageOf d q) k) (checks.descriptorAt Little (pageOf d q) k)
+  list-here k l =
       let e = getD (listOf d q) k none in
       let asked : asks q e ≡ true = every-at (λ (x : Descriptor). asks q x ≡ true) (listOf d q) k none (omega arith) list-asked in
       let clear : e .restorable ≡ false = every-at (λ (x : Descriptor). x .restorable ≡ false) (listOf d q) k none (omega arith) list-clear in
       let up : before 0 (map idOf (listOf d q)) k < idOf e =
       subst (λ (m : ℕ). before 0 (map idOf (listOf d q)) k < m) (id-at k l) (ascending-at 0 (map idOf (listOf d q)) k (rw (length-map (listOf d q) idOf) (omega arith)) list-ascends) in
-      subst (λ (x : Descriptor). Each (descriptorRules q (lastBefore Little (pageOf d q) k) (baseOf k) x)) (sym (descriptor-here k l))
-      (subst (λ (m : ℕ). Each (descriptorRules q m (baseOf k) e)) (sym (last-here k l)) (element-each q (before 0 (map idOf (listOf d q)) k) (baseOf k) e asked clear up))
+      subst (λ (x : Descriptor). Listed q (lastBefore Little (pageOf d q) k) x) (sym (descriptor-here k l))
+      (subst (λ (m : ℕ). Listed q m e) (sym (last-here k l)) (asked-listed q (before 0 (map idOf (listOf d q)) k) e asked clear up))
 
   returned-here : headerIn Little (pageOf d q) .returned ≡ n
   returned-here = ap (λ (h : Header). h .returned) header-here
 
-  -- the rules of m descriptors, and of the padding after them
-  abbrev list-rules : ℕ → List Rule
-  list-rules m = below m (rulesAt Little (pageOf d q) q)
-
-  abbrev padding-rules : ℕ → List Rule
-  padding-rules m = below (length (pageOf d q) - baseOf m) (paddingRules (pageOf d q) (baseOf m))
-
-  contents-each : Each (list-rules n ++ padding-rules n)
-  contents-each =
-      each-both (list-rules n) (padding-rules n) (each-below n (rulesAt Little (pageOf d q) q) list-each)
-      (each-below (length (pageOf d q) - baseOf n) (paddingRules (pageOf d q) (baseOf n)) (λ i l. (padding-here i l, tt)))
-
-  keeps : Each (pageRules Little (pageOf d q) q)
+  keeps : Taken Little (pageOf d q) q
   keeps =
-      let right = returned-here ∙ ap (λ (h : Header). returnedOf (h .number) (pagesOf q)) (sym header-here) in
-      (accepted q ok, (whole-pages d q (accepted q ok .2), (right, subst (λ (m : ℕ). Each (list-rules m ++ padding-rules m)) (sym returned-here) contents-each)))
+      record {
+        asked = accepted q ok;
+        long = whole-pages d q (accepted q ok .2);
+        returned = returned-here ∙ ap (λ (h : Header). returnedOf (h .number) (pagesOf q)) (sym header-here);
+        list = λ k l. list-here k (rw returned-here at l);
+        padding = subst (λ (m : ℕ). (i : ℕ) → i < length (pageOf d q) - baseOf m → getD (pageOf d q) (baseOf m + i) 0 ≡ 0) (sym returned-here) padding-here;
+      }
 
-  slot-here : (k : ℕ) → k < n → slotOf (pageOf d q) k ≡ Holds (getD (listOf d q) k none)
+  slot-here : (k : ℕ) → k < n → slotOf Little (pageOf d q) k ≡ Holds (getD (listOf d q) k none)
   slot-here k l =
       let less : ltb k (headerIn Little (pageOf d q) .returned) ≡ true = rw returned-here (lt-ltb k n l) in
       rw less (ap Holds (descriptor-here k l))
 
 pub agrees : Agrees
 agrees d q fits asc ok =
-    (takes-exactly (pageOf d q) q .1 (keeps d q fits asc ok) ∙ ap (λ (h : Header). tells 0 (header h)) (header-here d q fits asc ok), slot-here d q fits asc ok)
+    (takes Little (pageOf d q) q (keeps d q fits asc ok) ∙ ap (λ (h : Header). tells 0 (header h)) (header-here d q fits asc ok), slot-here d q fits asc ok)

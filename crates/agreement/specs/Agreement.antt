@@ -14,6 +14,7 @@ use Rattle.table.specs.Check.{ascending}
 use Rattle.table.specs.Elements.{identifiers, blankPart}
 use Rattle.table.specs.declared.Part.{Part}
 use Rattle.words.specs.Lists.{Every}
+use Rattle.words.specs.declared.Order.the-variants.{Little}
 
 -- numbers that fit their types: taken, as the types of the code's records bound them
 pub record PartFits (p : Part) : Type 0 where
@@ -34,5 +35,5 @@ pub record Fits (d : Device) : Type 0 where
 abbrev pub Agrees : Type 0
 Agrees =
     (d : Device) (q : Request) → Fits d → ascending 0 (identifiers (d .table)) ≡ true → refused q ≡ false
-    → (readOf (pageOf d q) q ≡ tells 0 (header (headerOf d q)))
-    × ((k : ℕ) → k < headerOf d q .returned → slotOf (pageOf d q) k ≡ Holds (getD (listOf d q) k (shownOf blankPart 0)))
+    → (readOf Little (pageOf d q) q ≡ tells 0 (header (headerOf d q)))
+    × ((k : ℕ) → k < headerOf d q .returned → slotOf Little (pageOf d q) k ≡ Holds (getD (listOf d q) k (shownOf blankPart 0)))

@@ -1,63 +1,57 @@
 -- Both pages judged, and how far they are compared: a law for each way out.
-use Prim.Native.Nat.{ℕ, zero, suc, _+_, _-_, _*_, _≤_, _<_}
-use mathlib.Core.Bool.{Bool, true, false, cond}
+use Prim.Native.Nat.{ℕ, zero, suc, _-_, _^_, _≤_, _<_}
+use mathlib.Core.Bool.{true, false, cond}
 use mathlib.Core.List.{List}
 use mathlib.Core.Path.{_≡_, refl, sym, ap, _∙_}
 use native.Mathlib.Omega.{arith}
 use lib.Dec.{ltb}
-use lib.ListN.{drop}
 use borrow.Author.Tests.{lt-ltb, le-ltb}
-use Rattle.layout.specs.Bytes.{headerIn, descriptorIn}
+use Rattle.layout.specs.Bytes.{headerIn}
 use Rattle.layout.specs.declared.Descriptor.{Descriptor}
 use Rattle.layout.specs.declared.Header.{Header}
 use Rattle.layout.specs.declared.Request.{Request}
 use Rattle.paper.specs.Told.{tells}
 use Rattle.paper.specs.declared.ElementId.{ElementId}
-use Rattle.reader.specs.Checks.{lastBefore}
+use Rattle.reader.specs.Checks.{descriptorAt, lastBefore}
 use Rattle.reader.specs.Judgement as judgement
 use Rattle.reader.specs.declared.Judgement.the-variants as says
 use Rattle.reader.specs.declared.Judgement.{Judgement}
 use Rattle.words.specs.declared.Order.the-variants.{Little}
 use Rattle.compare.specs.Opening.{openOf, accepted, bound, turn}
-use Rattle.compare.specs.Pages.{countOf, elementAt, reachOf, smallest, boundOf}
+use Rattle.compare.specs.Pages.{countOf, reachOf, smallest, boundOf, endOf}
 use Rattle.compare.specs.declared.Bound.the-variants.{Whole, UpTo}
 use Rattle.compare.specs.declared.Bound.{Bound}
 use Rattle.compare.specs.declared.Turn.the-variants.{Older, Newer}
 
--- ## A page judged
+-- ## Both judged
 
-module _ (s : List ℕ) (q : Request) (r : Judgement) (is-r : judgement.heard r ≡ judgement.readOf s q) where
-  pub accepted-yes : (h : Header) → r ≡ says.Accepted h → true ≡ accepted s q
+module _ (s : List ℕ) (q : Request) (r : Judgement) (is-r : judgement.heard r ≡ judgement.readOf Little s q) where
+  accepted-yes : (h : Header) → r ≡ says.Accepted h → accepted s q ≡ true
   unfolding accepted
-  accepted-yes h e = sym (rw (← is-r, e))
+  accepted-yes h e = rw (← is-r, e)
 
-  pub accepted-no : (p : ℕ) → r ≡ says.Refused p → false ≡ accepted s q
+  accepted-no : (p : ℕ) → r ≡ says.Refused p → accepted s q ≡ false
   unfolding accepted
-  accepted-no p e = sym (rw (← is-r, e))
+  accepted-no p e = rw (← is-r, e)
 
-module _ (s t : List ℕ) (q : Request) (a : Bool) (is-a : a ≡ accepted s q) where
-  pub open-older : a ≡ false → tells 9 (turn Older) ≡ openOf s t q
-  open-older n = sym (rw (sym is-a ∙ n))
+module _ (s t : List ℕ) (q : Request) (a : Judgement) (is-a : judgement.heard a ≡ judgement.readOf Little s q) where
+  pub open-older : (p : ℕ) → a ≡ says.Refused p → tells 9 (turn Older) ≡ openOf s t q
+  open-older p e = sym (rw (accepted-no s q a is-a p e))
 
-  module _ (y : a ≡ true) (b : Bool) (is-b : b ≡ accepted t q) where
-    pub open-newer : b ≡ false → tells 9 (turn Newer) ≡ openOf s t q
-    open-newer n = sym (rw (sym is-a ∙ y, sym is-b ∙ n))
+  module _ (h : Header) (y : a ≡ says.Accepted h) (b : Judgement) (is-b : judgement.heard b ≡ judgement.readOf Little t q) where
+    pub open-newer : (p : ℕ) → b ≡ says.Refused p → tells 9 (turn Newer) ≡ openOf s t q
+    open-newer p e = sym (rw (accepted-yes s q a is-a h y, accepted-no t q b is-b p e))
 
-    pub open-both : b ≡ true → (m : Bound) → m ≡ boundOf s t → tells 0 (bound m) ≡ openOf s t q
-    open-both z m is-m = sym (rw (sym is-a ∙ y, sym is-b ∙ z, ← is-m))
+    pub open-both : (g : Header) → b ≡ says.Accepted g → (m : Bound) → m ≡ boundOf s t → tells 0 (bound m) ≡ openOf s t q
+    open-both g z m is-m = sym (rw (accepted-yes s q a is-a h y, accepted-yes t q b is-b g z, ← is-m))
 
 -- ## How far
 
-pub element-read : (s u : List ℕ) (k : ℕ) → u ≡ drop (32 + 32 * k) s → (d : Descriptor) → d ≡ descriptorIn Little u → d ≡ elementAt s k
-unfolding elementAt
-element-read s u k is-u d is-d = is-d ∙ rw is-u
-
-pub before-some : (s : List ℕ) (k : ℕ) (some : k ≡ 0 → ⊥) (d : Descriptor) → d ≡ elementAt s (k - 1) → d .id .0 ≡ lastBefore Little s k
-unfolding elementAt
+pub before-some : (s : List ℕ) (k : ℕ) (some : k ≡ 0 → ⊥) (d : Descriptor) → d ≡ descriptorAt Little s (k - 1) → d .id .0 ≡ lastBefore Little s k
 before-some s zero some d is-d = absurd (some refl)
 before-some s (suc k) some d is-d =
     let back : suc k - 1 ≡ k = omega arith in
-    ap (λ (x : Descriptor). x .id .0) is-d ∙ ap (λ (j : ℕ). elementAt s j .id .0) back
+    ap (λ (x : Descriptor). x .id .0) is-d ∙ ap (λ (j : ℕ). descriptorAt Little s j .id .0) back
 
 module _ (s : List ℕ) (h : Header) (is-h : h ≡ headerIn Little s) where
   pub count-read : h .returned ≡ countOf s
@@ -88,3 +82,9 @@ module _ (a b : Bound) (x : ElementId) (is-a : a ≡ UpTo x) where
 pub bound-joined : (s t : List ℕ) (a b r : Bound) → a ≡ reachOf s → b ≡ reachOf t → r ≡ smallest a b → r ≡ boundOf s t
 unfolding boundOf
 bound-joined s t a b r is-a is-b is-r = is-r ∙ rw (is-a, is-b)
+
+pub end-whole : (b : Bound) → b ≡ Whole → record { 0 = 2 ^ 32 - 1 } ≡ endOf b
+end-whole b e = sym (rw e)
+
+pub end-there : (b : Bound) (id : ElementId) → b ≡ UpTo id → id ≡ endOf b
+end-there b id e = sym (rw e)

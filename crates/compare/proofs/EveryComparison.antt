@@ -7,12 +7,13 @@ use native.Mathlib.Omega.{arith}
 use lib.Dec.{eqb}
 use lib.ListN.{length, take, drop, getD, length-drop}
 use lib.Seq.{length-take-le, getD-take, getD-drop, drop-drop}
-use borrow.Author.Tests.{eqb-true, eqb-false, lt-ltb, le-leb}
+use borrow.Author.Tests.{eqb-true, eqb-false, lt-ltb, le-ltb}
 use Rattle.layout.specs.Bytes.{descriptorIn}
 use Rattle.layout.specs.Requests.{pagesOf}
 use Rattle.layout.specs.declared.Descriptor.{Descriptor}
 use Rattle.layout.specs.declared.Request.{Request}
 use Rattle.paper.specs.Told.{Told}
+use Rattle.paper.specs.declared.ElementId.{ElementId}
 use Rattle.reader.specs.Checks.{baseOf}
 use Rattle.words.specs.Bytes.{number, front, numberAt}
 use Rattle.words.specs.Lists.{Every}
@@ -27,7 +28,7 @@ use Rattle.compare.specs.declared.Line.the-variants.{OnlyOlder, OnlyNewe
 use Rattle.compare.specs.declared.Line.{Line}
 use Rattle.compare.specs.declared.Opening.the-variants.{Accepted, Refused}
 use Rattle.compare.specs.declared.Opening.{Opening}
-use Rattle.compare.proofs.Ascending.{idAt, rules, count-room}
+use Rattle.compare.proofs.Ascending.{idAt, is-taken, count-room}
 
 -- ## What was heard gives the answer back
 
@@ -48,22 +49,25 @@ one-opening s t q a b is-a is-b = sym (back a) ∙ ap answer (is-a ∙ sym is-b)
 -- ## Standings
 
 -- what a standing says of an identifier, among the first n descriptors
-Says : List ℕ → ℕ → ℕ → Standing → Type 0
-Says s n id absent = (k : ℕ) → k < n → idAt s k ≡ id → ⊥
-Says s n id (stands k) = (k < n) × (idAt s k ≡ id)
+Says : List ℕ → ℕ → ElementId → Standing → Type 0
+Says s n id absent = (k : ℕ) → k < n → elementAt s k .id ≡ id → ⊥
+Says s n id (stands k) = (k < n) × (elementAt s k .id ≡ id)
 
-says : (s : List ℕ) (n id : ℕ) → Says s n id (standingIn s n id)
+same : (a b : ElementId) → a .0 ≡ b .0 → a ≡ b
+same a b e = λ i. record { 0 = e i }
+
+says : (s : List ℕ) (n : ℕ) (id : ElementId) → Says s n id (standingIn s n id)
 unfolding Says
 says s zero id = λ k l e. omega arith
-says s (suc n) id = by-test (eqb (idAt s n) id) refl (standingIn s n id) (says s n id)
+says s (suc n) id = by-test (eqb (idAt s n) (id .0)) refl (standingIn s n id) (says s n id)
   where
-    by-test : (b : Bool) → eqb (idAt s n) id ≡ b → (x : Standing) → Says s n id x → Says s (suc n) id (cond b (stands n) x)
-    by-test true p x h = (omega arith, eqb-true _ _ p)
+    by-test : (b : Bool) → eqb (idAt s n) (id .0) ≡ b → (x : Standing) → Says s n id x → Says s (suc n) id (cond b (stands n) x)
+    by-test true p x h = (omega arith, same _ _ (eqb-true _ _ p))
     by-test false p (stands k) (l, e) = (omega arith, e)
     by-test false p absent h = λ k l e. other k l e (eqb k n) refl
       where
-        other : (k : ℕ) → k < suc n → idAt s k ≡ id → (b : Bool) → eqb k n ≡ b → ⊥
-        other k l e true r = eqb-false _ _ p (ap (idAt s) (sym (eqb-true k n r)) ∙ e)
+        other : (k : ℕ) → k < suc n → elementAt s k .id ≡ id → (b : Bool) → eqb k n ≡ b → ⊥
+        other k l e true r = eqb-false _ _ p (ap (idAt s) (sym (eqb-true k n r)) ∙ ap (λ (x : ElementId). x .0) e)
         other k l e false r = h k (omega (arith, eqb-false k n r)) e
 
 pub stands-for : Stands-for
@@ -75,42 +79,43 @@ stands-for s id k = (
 
 -- ## Each once
 
-ascending-lower : (a b : ℕ) (xs : List ℕ) → a ≤ b → Ascending b xs → Ascending a xs
+ascending-lower : (a b : ℕ) (xs : List ElementId) → a ≤ b → Ascending b xs → Ascending a xs
 ascending-lower a b [] l r = tt
 ascending-lower a b (x ∷ xs) l (m, r) = (omega arith, r)
 
 module _ (s t : List ℕ) where
-  ascending-after : (id : ℕ) (rest : List Line) → Ascending (suc id) (map (idOf s t) rest) → Ascending id (map (idOf s t) (differenceAt s t (suc id) ++ rest))
+  ascending-after : (id : ElementId) (low : ℕ) (rest : List Line) → low < id .0 → Ascending (id .0) (map (idOf s t) rest)
+      → Ascending low (map (idOf s t) (differenceAt s t id ++ rest))
   unfolding differenceAt
-  ascending-after id rest r =
-      by-standings (standing s (suc id)) (standing t (suc id)) (λ k e. stands-for s (suc id) k .0 e .1) (λ k e. stands-for t (suc id) k .0 e .1)
+  ascending-after id low rest l r =
+      by-standings (standing s id) (standing t id) (λ k e. stands-for s id k .0 e .1) (λ k e. stands-for t id k .0 e .1)
     where
-      first : (l : Line) → idOf s t l ≡ suc id → Ascending id (map (idOf s t) (l ∷ rest))
-      first l e = (omega (arith, e), ascending-lower (idOf s t l) (suc id) (map (idOf s t) rest) (omega (arith, e)) r)
+      first : (m : Line) → idOf s t m ≡ id → Ascending low (map (idOf s t) (m ∷ rest))
+      first m e = subst (λ (x : ElementId). (low < x .0) × Ascending (x .0) (map (idOf s t) rest)) (sym e) (l, r)
 
-      none : Ascending id (map (idOf s t) rest)
-      none = ascending-lower id (suc id) (map (idOf s t) rest) (omega arith) r
+      none : Ascending low (map (idOf s t) rest)
+      none = ascending-lower low (id .0) (map (idOf s t) rest) (omega (arith, l)) r
 
-      by-alike : (b : Bool) (l : Line) → idOf s t l ≡ suc id → Ascending id (map (idOf s t) (cond b [] (l ∷ []) ++ rest))
-      by-alike true l e = none
-      by-alike false l e = first l e
+      by-alike : (b : Bool) (m : Line) → idOf s t m ≡ id → Ascending low (map (idOf s t) (cond b [] (m ∷ []) ++ rest))
+      by-alike true m e = none
+      by-alike false m e = first m e
 
-      by-standings : (x y : Standing) → ((k : ℕ) → x ≡ stands k → idAt s k ≡ suc id) → ((k : ℕ) → y ≡ stands k → idAt t k ≡ suc id)
-          → Ascending id (map (idOf s t) (difference s t x y ++ rest))
+      by-standings : (x y : Standing) → ((k : ℕ) → x ≡ stands k → elementAt s k .id ≡ id) → ((k : ℕ) → y ≡ stands k → elementAt t k .id ≡ id)
+          → Ascending low (map (idOf s t) (difference s t x y ++ rest))
       by-standings absent absent p q = none
       by-standings (stands i) absent p q = first (OnlyOlder i) (p i refl)
       by-standings absent (stands j) p q = first (OnlyNewer j) (q j refl)
       by-standings (stands i) (stands j) p q =
           by-alike (alike (elementAt s i) (elementAt t j)) (Changed (record { older = i; newer = j })) (q j refl)
 
-  ascending-in : (n id : ℕ) → Ascending id (map (idOf s t) (differencesIn s t (suc id) n))
+  ascending-in : (n low : ℕ) → Ascending low (map (idOf s t) (differencesIn s t (suc low) n))
   unfolding differencesIn
-  ascending-in zero id = tt
-  ascending-in (suc n) id = ascending-after id (differencesIn s t (suc (suc id)) n) (ascending-in n (suc id))
+  ascending-in zero low = tt
+  ascending-in (suc n) low = ascending-after (record { 0 = suc low }) low (differencesIn s t (suc (suc low)) n) (omega arith) (ascending-in n (suc low))
 
 pub each-once : Each-once
 unfolding differencesOf
-each-once s t = ascending-in s t (endOf (boundOf s t)) 0
+each-once s t = ascending-in s t (endOf (boundOf s t) .0) 0
 
 -- ## Parts
 
@@ -141,29 +146,29 @@ descriptor-part o l =
 pub hands-out : Hands-out
 unfolding descriptorPart elementAt
 hands-out s q k is-accepted l =
-    let long : length s ≡ 512 * pagesOf q = rules s q is-accepted .1 .0 in
-    let room : baseOf k + 32 ≤ length s = omega (arith, l, long, count-room s q is-accepted) in
-    let whole : descriptorPart s k ≡ take 32 (drop (baseOf k) s) = rw (lt-ltb k (countOf s) l, le-leb (baseOf k + 32) (length s) room) in (
-      ap length whole ∙ length-take-le 32 (drop (baseOf k) s) (omega (arith, room, length-drop (baseOf k) s)),
+    let long : length s ≡ 512 * pagesOf q = is-taken s q is-accepted .long in
+    let room : 32 ≤ length (drop (baseOf k) s) = omega (arith, l, long, count-room s q is-accepted, length-drop (baseOf k) s) in
+    let whole : descriptorPart s k ≡ take 32 (drop (baseOf k) s) = rw (lt-ltb k (countOf s) l, le-ltb (length (drop (baseOf k) s)) 32 room) in (
+      ap length whole ∙ length-take-le 32 (drop (baseOf k) s) room,
       ap (descriptorIn Little) whole ∙ descriptor-part Little (drop (baseOf k) s),
     )
 
 module _ (s t : List ℕ) (q : Request) (of-s : accepted s q ≡ true) (of-t : accepted t q ≡ true) where
   -- what is promised of a line
   abbrev Handed : Line → Type 0
-  Handed l = (length (partOf s t l) ≡ 32) × (descriptorIn Little (partOf s t l) .id .0 ≡ idOf s t l)
+  Handed l = (length (partOf s t l) ≡ 32) × (descriptorIn Little (partOf s t l) .id ≡ idOf s t l)
 
-  of-older : (id i : ℕ) → standing s id ≡ stands i → Handed (OnlyOlder i)
-  of-older id i e = let (long, same) = hands-out s q i of-s (stands-for s id i .0 e .0) in (long, ap (λ (d : Descriptor). d .id .0) same)
+  of-older : (id : ElementId) (i : ℕ) → standing s id ≡ stands i → Handed (OnlyOlder i)
+  of-older id i e = let (long, equal) = hands-out s q i of-s (stands-for s id i .0 e .0) in (long, ap (λ (d : Descriptor). d .id) equal)
 
-  of-newer : (id j : ℕ) → standing t id ≡ stands j → Handed (OnlyNewer j)
-  of-newer id j e = let (long, same) = hands-out t q j of-t (stands-for t id j .0 e .0) in (long, ap (λ (d : Descriptor). d .id .0) same)
+  of-newer : (id : ElementId) (j : ℕ) → standing t id ≡ stands j → Handed (OnlyNewer j)
+  of-newer id j e = let (long, equal) = hands-out t q j of-t (stands-for t id j .0 e .0) in (long, ap (λ (d : Descriptor). d .id) equal)
 
   every-both : (ls ms : List Line) → Every Handed ls → Every Handed ms → Every Handed (ls ++ ms)
   every-both [] ms p q = q
   every-both (l ∷ ls) ms (h, p) q = (h, every-both ls ms p q)
 
-  handed-at : (id : ℕ) → Every Handed (differenceAt s t id)
+  handed-at : (id : ElementId) → Every Handed (differenceAt s t id)
   unfolding differenceAt
   handed-at id = by-standings (standing s id) (standing t id) (of-older id) (of-newer id)
     where
@@ -178,11 +183,12 @@ module _ (s t : List ℕ) (q : Request) (of-s : accepted s q ≡ true) (of-t : a
       by-standings absent (stands j) p q = (q j refl, tt)
       by-standings (stands i) (stands j) p q = by-alike (alike (elementAt s i) (elementAt t j)) (Changed (record { older = i; newer = j })) (q j refl)
 
-  handed-in : (n id : ℕ) → Every Handed (differencesIn s t id n)
+  handed-in : (n from : ℕ) → Every Handed (differencesIn s t from n)
   unfolding differencesIn
-  handed-in zero id = tt
-  handed-in (suc n) id = every-both (differenceAt s t id) (differencesIn s t (suc id) n) (handed-at id) (handed-in n (suc id))
+  handed-in zero from = tt
+  handed-in (suc n) from =
+      every-both (differenceAt s t (record { 0 = from })) (differencesIn s t (suc from) n) (handed-at (record { 0 = from })) (handed-in n (suc from))
 
 pub hands-out-each : Hands-out-each
 unfolding differencesOf
-hands-out-each s t q of-s of-t = handed-in s t q of-s of-t (endOf (boundOf s t)) 1
+hands-out-each s t q of-s of-t = handed-in s t q of-s of-t (endOf (boundOf s t) .0) 1

@@ -11,7 +11,7 @@ use Rattle.words.specs.declared.Order.the-variants.{Little}
 use Rattle.compare.specs.Differences.{standing, differenceAt, differencesIn, differencesOf}
 use Rattle.compare.specs.Pages.{countOf, elementAt, reachOf, boundOf}
 use Rattle.compare.specs.Parts.{descriptorPart, partOf}
-use Rattle.compare.specs.Walk.{cursor, first, idWithin, agreeAt, stepAt, past, nextTo, nextOf, walk, walkFrom}
+use Rattle.compare.specs.Walk.{cursor, first, keyAt, agreeAt, stepAt, past, nextTo, nextOf, walk, walkFrom}
 use Rattle.compare.specs.declared.Line.the-variants.{OnlyOlder, OnlyNewer, Changed}
 
 -- a page's header and descriptors
@@ -31,7 +31,7 @@ abbrev pub newer : List ℕ
 newer = page 3 3 (element 3 0x10 ∷ element 4 0 ∷ element 0x10003 0xFF ∷ [])
 
 walked : walkFrom older newer first ≡ OnlyOlder 0 ∷ OnlyNewer 1 ∷ Changed (cursor 2 2) ∷ []
-unfolding countOf elementAt reachOf boundOf idWithin agreeAt stepAt past nextTo nextOf walk walkFrom
+unfolding countOf elementAt reachOf boundOf keyAt agreeAt stepAt past nextTo nextOf walk walkFrom
 walked = refl
 
 -- cut after 3: 4 and what is above it are not compared
@@ -43,7 +43,7 @@ unfolding cut countOf elementAt reachOf boundOf standing differenceAt difference
 up-to-3 = refl
 
 walked-to-3 : walkFrom cut newer first ≡ OnlyOlder 0 ∷ Changed (cursor 1 0) ∷ []
-unfolding cut countOf elementAt reachOf boundOf idWithin agreeAt stepAt past nextTo nextOf walk walkFrom
+unfolding cut countOf elementAt reachOf boundOf keyAt agreeAt stepAt past nextTo nextOf walk walkFrom
 walked-to-3 = refl
 
 -- both cut, after 3 and after 1: only 1 is compared
@@ -59,7 +59,7 @@ flagged : Bool → List ℕ
 flagged b = page 1 1 (record { id = record { 0 = 0xFFFF_FFFF }; restorable = b; kind = 1; health = 0xFF; capacity = 500 } ∷ [])
 
 flag-alone : walkFrom (flagged false) (flagged true) first ≡ Changed (cursor 0 0) ∷ []
-unfolding flagged countOf elementAt reachOf boundOf idWithin agreeAt stepAt past nextTo nextOf walk walkFrom
+unfolding flagged countOf elementAt reachOf boundOf keyAt agreeAt stepAt past nextTo nextOf walk walkFrom
 flag-alone = refl
 
 -- the newer's part of a changed element, and none of a wild line

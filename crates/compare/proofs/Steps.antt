@@ -10,11 +10,13 @@ use borrow.Author.Tests.{eq-eqb, ne-eqb, le-leb, lt-leb, lt-ltb, le-ltb, leb-tru
 use Rattle.layout.specs.Bytes.{headerIn}
 use Rattle.layout.specs.declared.Descriptor.{Descriptor}
 use Rattle.layout.specs.declared.Header.{Header}
+use Rattle.paper.specs.declared.ElementId.{ElementId}
 use Rattle.reader.proofs.LayoutTheorem.{and-both}
+use Rattle.reader.specs.Checks.{descriptorAt}
 use Rattle.words.specs.declared.Order.the-variants.{Little}
 use Rattle.compare.specs.Differences.{alike}
 use Rattle.compare.specs.Pages.{countOf, elementAt, boundOf, endOf}
-use Rattle.compare.specs.Walk.{cursor, idWithin, agreeAt, found, stepAt, past, nextTo, nextOf}
+use Rattle.compare.specs.Walk.{cursor, keyAt, agreeAt, found, foundBy, stepAt, past, nextTo, nextOf}
 use Rattle.compare.specs.declared.Bound.{Bound}
 use Rattle.compare.specs.declared.Cursor.{Cursor}
 use Rattle.compare.specs.declared.Line.the-variants.{OnlyOlder, OnlyNewer, Changed}
@@ -22,22 +24,22 @@ use Rattle.compare.specs.declared.Step.the-variants.{Done}
 use Rattle.compare.specs.declared.Step.{Step}
 use Rattle.compare.proofs.Bounds.{count-read}
 
--- ## An identifier
+-- ## A key
 
-module _ (s : List ℕ) (k end : ℕ) (h : Header) (is-h : h ≡ headerIn Little s) where
-  pub id-none : h .returned ≤ k → end + 1 ≡ idWithin s k end
-  unfolding idWithin
-  id-none l = sym (rw (le-ltb k (countOf s) (omega (arith, count-read s h is-h))))
+module _ (s : List ℕ) (k : ℕ) (end : ElementId) (h : Header) (is-h : h ≡ headerIn Little s) where
+  pub key-none : h .returned ≤ k → end .0 + 1 ≡ keyAt s k end
+  unfolding keyAt
+  key-none l = sym (rw (le-ltb k (countOf s) (omega (arith, count-read s h is-h))))
 
-  pub id-there : k < h .returned → (d : Descriptor) → d ≡ elementAt s k → d .id .0 ≡ idWithin s k end
-  unfolding idWithin
-  id-there l d is-d = sym (rw (lt-ltb k (countOf s) (omega (arith, count-read s h is-h)), ← is-d))
+  pub key-there : k < h .returned → (d : Descriptor) → d ≡ descriptorAt Little s k → d .id .0 ≡ keyAt s k end
+  unfolding keyAt elementAt
+  key-there l d is-d = ap (λ (x : Descriptor). x .id .0) is-d ∙ sym (rw (lt-ltb k (countOf s) (omega (arith, count-read s h is-h))))
 
-pub inside : (s : List ℕ) (k end : ℕ) → idWithin s k end ≤ end → k < countOf s
-unfolding idWithin
+pub inside : (s : List ℕ) (k : ℕ) (end : ElementId) → keyAt s k end ≤ end .0 → k < countOf s
+unfolding keyAt
 inside s k end = by-test (ltb k (countOf s)) refl
   where
-    by-test : (b : Bool) → ltb k (countOf s) ≡ b → cond b (elementAt s k .id .0) (end + 1) ≤ end → k < countOf s
+    by-test : (b : Bool) → ltb k (countOf s) ≡ b → cond b (elementAt s k .id .0) (end .0 + 1) ≤ end .0 → k < countOf s
     by-test true e l = ltb-true _ _ e
     by-test false e l = absurd (omega arith)
 
@@ -67,47 +69,54 @@ module _ (d e : Descriptor) where
 
 -- ## At a cursor
 
-module _ (s t : List ℕ) (end : ℕ) (c : Cursor) (a b : ℕ) (is-a : a ≡ idWithin s (c .older) end) (is-b : b ≡ idWithin t (c .newer) end) where
+module _ (s t : List ℕ) (end : ElementId) (c : Cursor) (a b : ℕ) (is-a : a ≡ keyAt s (c .older) end) (is-b : b ≡ keyAt t (c .newer) end) where
   pub agree-other : (a ≡ b → ⊥) → false ≡ agreeAt s t end c
   unfolding agreeAt
   agree-other n = sym (rw (← is-a, ← is-b, ne-eqb _ _ n))
 
-  pub agree-beyond : a ≡ b → end < a → false ≡ agreeAt s t end c
+  pub agree-beyond : a ≡ b → end .0 < a → false ≡ agreeAt s t end c
   unfolding agreeAt
   agree-beyond e l = sym (rw (← is-a, ← is-b, eq-eqb _ _ e, lt-leb _ _ l))
 
-  pub agree-alike : a ≡ b → a ≤ end → (d e : Descriptor) → d ≡ elementAt s (c .older) → e ≡ elementAt t (c .newer) → (r : Bool) → r ≡ alike d e → r ≡ agreeAt s t end c
-  unfolding agreeAt
-  agree-alike i l d e is-d is-e r is-r = is-r ∙ sym (rw (← is-a, ← is-b, eq-eqb _ _ i, le-leb _ _ l, ← is-d, ← is-e))
+  module _ (i : a ≡ b) (l : a ≤ end .0) where
+    pub agree-if : alike (elementAt s (c .older)) (elementAt t (c .newer)) ≡ agreeAt s t end c
+    unfolding agreeAt
+    agree-if = sym (rw (← is-a, ← is-b, eq-eqb _ _ i, le-leb _ _ l))
 
-  pub step-done : (m : ℕ) → m ≡ min a b → end < m → Done ≡ stepAt s t end c
-  unfolding stepAt
-  step-done m is-m l = sym (rw (← is-a, ← is-b, ← is-m, lt-ltb _ _ l))
+    pub agree-alike : (d e : Descriptor) → d ≡ descriptorAt Little s (c .older) → e ≡ descriptorAt Little t (c .newer) → (r : Bool) → r ≡ alike d e → r ≡ agreeAt s t end c
+    unfolding elementAt
+    agree-alike d e is-d is-e r is-r = is-r ∙ (λ k. alike (is-d k) (is-e k)) ∙ agree-if
 
-  module _ (m : ℕ) (is-m : m ≡ min a b) (within : m ≤ end) where
-    pub step-older : a < b → (x : Step) → x ≡ found (OnlyOlder (c .older)) (c .older + 1) (c .newer) → x ≡ stepAt s t end c
+  module _ (m : ℕ) (is-m : m ≡ min a b) where
+    pub step-done : end .0 < m → Done ≡ stepAt s t end c
     unfolding stepAt
-    step-older l x is-x = is-x ∙ sym (rw (← is-a, ← is-b, ← is-m, le-ltb _ _ within, lt-ltb _ _ l))
+    step-done l = sym (rw (← is-a, ← is-b, ← is-m, lt-ltb _ _ l))
 
-    pub step-newer : b < a → (x : Step) → x ≡ found (OnlyNewer (c .newer)) (c .older) (c .newer + 1) → x ≡ stepAt s t end c
+    pub step-found : m ≤ end .0 → (x : Step) → x ≡ foundBy a b c → x ≡ stepAt s t end c
     unfolding stepAt
-    step-newer l x is-x = is-x ∙ sym (rw (← is-a, ← is-b, ← is-m, le-ltb _ _ within, le-ltb a b (omega arith), lt-ltb _ _ l))
+    step-found l x is-x = is-x ∙ sym (rw (← is-a, ← is-b, ← is-m, le-ltb _ _ l))
 
-    pub step-changed : b ≤ a → a ≤ b → (x : Step) → x ≡ found (Changed c) (c .older + 1) (c .newer + 1) → x ≡ stepAt s t end c
-    unfolding stepAt
-    step-changed l g x is-x = is-x ∙ sym (rw (← is-a, ← is-b, ← is-m, le-ltb _ _ within, le-ltb _ _ l, le-ltb _ _ g))
+module _ (a b : ℕ) (c : Cursor) (x : Step) where
+  pub found-older : a < b → x ≡ found (OnlyOlder (c .older)) (c .older + 1) (c .newer) → x ≡ foundBy a b c
+  found-older l is-x = is-x ∙ sym (rw (lt-ltb _ _ l))
+
+  pub found-newer : b < a → x ≡ found (OnlyNewer (c .newer)) (c .older) (c .newer + 1) → x ≡ foundBy a b c
+  found-newer l is-x = is-x ∙ sym (rw (le-ltb a b (omega arith), lt-ltb _ _ l))
+
+  pub found-changed : b ≤ a → a ≤ b → x ≡ found (Changed c) (c .older + 1) (c .newer + 1) → x ≡ foundBy a b c
+  found-changed l g is-x = is-x ∙ sym (rw (le-ltb _ _ g, le-ltb _ _ l))
 
 -- ## Past what agrees
 
-module _ (s t : List ℕ) (end : ℕ) where
-  pub agree-inside : (c : Cursor) → agreeAt s t end c ≡ true → (c .older < countOf s) × (c .newer < countOf t)
+module _ (s t : List ℕ) (end : ElementId) where
+  agree-inside : (c : Cursor) → agreeAt s t end c ≡ true → (c .older < countOf s) × (c .newer < countOf t)
   unfolding agreeAt
   agree-inside c e =
-      let a : ℕ = idWithin s (c .older) end in
-      let b : ℕ = idWithin t (c .newer) end in
-      let same = and-both (eqb a b) (leb a end && alike (elementAt s (c .older)) (elementAt t (c .newer))) e in
-      let within = and-both (leb a end) (alike (elementAt s (c .older)) (elementAt t (c .newer))) (same .1) in
-      let low : a ≤ end = leb-true _ _ (within .0) in
+      let a : ℕ = keyAt s (c .older) end in
+      let b : ℕ = keyAt t (c .newer) end in
+      let same = and-both (eqb a b) (leb a (end .0) && alike (elementAt s (c .older)) (elementAt t (c .newer))) e in
+      let within = and-both (leb a (end .0)) (alike (elementAt s (c .older)) (elementAt t (c .newer))) (same .1) in
+      let low : a ≤ end .0 = leb-true _ _ (within .0) in
       (inside s (c .older) end low, inside t (c .newer) end (omega (arith, low, eqb-true a b (same .0))))
 
   pub next-on : (c : Cursor) (r : Bool) → r ≡ agreeAt s t end c → r ≡ true → nextTo s t end c ≡ nextTo s t end (cursor (c .older + 1) (c .newer + 1))
@@ -135,4 +144,4 @@ module _ (s t : List ℕ) (end : ℕ) where
   pub next-whole : (b : Bound) → b ≡ boundOf s t → end ≡ endOf b → (c at : Cursor) → nextTo s t end c ≡ nextTo s t end at
       → (x : Step) → x ≡ nextTo s t end at → x ≡ nextOf s t c
   unfolding nextOf
-  next-whole b is-b is-end c at inv x is-x = is-x ∙ sym inv ∙ ap (λ (e : ℕ). nextTo s t e c) (is-end ∙ ap endOf is-b)
+  next-whole b is-b is-end c at inv x is-x = is-x ∙ sym inv ∙ ap (λ (e : ElementId). nextTo s t e c) (is-end ∙ ap endOf is-b)

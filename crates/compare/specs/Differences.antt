@@ -5,6 +5,7 @@ use mathlib.Core.Bool.{Bool, Bool·beq, cond, _&&_}
 use mathlib.Core.List.{List, [], _∷_, _++_}
 use lib.Dec.{eqb}
 use Rattle.layout.specs.declared.Descriptor.{Descriptor}
+use Rattle.paper.specs.declared.ElementId.{ElementId}
 use Rattle.compare.specs.Pages.{countOf, elementAt, boundOf, endOf}
 use Rattle.compare.specs.declared.Line.the-variants.{OnlyOlder, OnlyNewer, Changed}
 use Rattle.compare.specs.declared.Line.{Line}
@@ -23,11 +24,11 @@ pub data Standing : Type 0 where
   stands : ℕ → Standing
 
 -- among the first n descriptors; where several have it, the last (an accepted page has no two)
-abbrev pub standingIn : List ℕ → ℕ → ℕ → Standing
+abbrev pub standingIn : List ℕ → ℕ → ElementId → Standing
 standingIn s zero id = absent
-standingIn s (suc n) id = cond (eqb (elementAt s n .id .0) id) (stands n) (standingIn s n id)
+standingIn s (suc n) id = cond (eqb (elementAt s n .id .0) (id .0)) (stands n) (standingIn s n id)
 
-unfoldable pub standing : List ℕ → ℕ → Standing
+unfoldable pub standing : List ℕ → ElementId → Standing
 standing s id = standingIn s (countOf s) id
 
 -- "only in the older, only in the newer, or in both with a different .."
@@ -37,16 +38,16 @@ difference s t (stands i) absent = OnlyOlder i ∷ []
 difference s t absent (stands j) = OnlyNewer j ∷ []
 difference s t (stands i) (stands j) = cond (alike (elementAt s i) (elementAt t j)) [] (Changed (record { older = i; newer = j }) ∷ [])
 
-unfoldable pub differenceAt : List ℕ → List ℕ → ℕ → List Line
+unfoldable pub differenceAt : List ℕ → List ℕ → ElementId → List Line
 differenceAt s t id = difference s t (standing s id) (standing t id)
 
 -- ## All of them
 
--- of the n identifiers from id on
+-- of the n identifiers from a number on
 unfoldable pub differencesIn : List ℕ → List ℕ → ℕ → ℕ → List Line
-differencesIn s t id zero = []
-differencesIn s t id (suc n) = differenceAt s t id ++ differencesIn s t (suc id) n
+differencesIn s t from zero = []
+differencesIn s t from (suc n) = differenceAt s t (record { 0 = from }) ++ differencesIn s t (suc from) n
 
 -- "by ascending identifier", from 1 to the last that is compared
 unfoldable pub differencesOf : List ℕ → List ℕ → List Line
-differencesOf s t = differencesIn s t 1 (endOf (boundOf s t))
+differencesOf s t = differencesIn s t 1 (endOf (boundOf s t) .0)

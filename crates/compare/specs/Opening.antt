@@ -6,6 +6,7 @@ use lib.Dec.{eqb}
 use Rattle.layout.specs.declared.Request.{Request}
 use Rattle.paper.specs.Told.{Told, tells}
 use Rattle.reader.specs.Judgement.{readOf}
+use Rattle.words.specs.declared.Order.the-variants.{Little}
 use Rattle.compare.specs.Pages.{boundOf}
 use Rattle.compare.specs.declared.Bound.{Bound}
 use Rattle.compare.specs.declared.Opening.the-variants.{Accepted, Refused}
@@ -24,7 +25,7 @@ heard (Refused t) = tells 9 (turn t)
 
 -- the reader accepts the page for the request
 unfoldable pub accepted : List ℕ → Request → Bool
-accepted s q = eqb (readOf s q .number) 0
+accepted s q = eqb (readOf Little s q .number) 0
 
 abbrev pub openOf : List ℕ → List ℕ → Request → Told Values
 openOf s t q = cond (accepted s q) (cond (accepted t q) (tells 0 (bound (boundOf s t))) (tells 9 (turn Newer))) (tells 9 (turn Older))

@@ -5,6 +5,7 @@ use mathlib.Core.List.{List}
 use lib.Dec.{ltb}
 use Rattle.layout.specs.Bytes.{headerIn}
 use Rattle.layout.specs.declared.Descriptor.{Descriptor}
+use Rattle.paper.specs.declared.ElementId.{ElementId}
 use Rattle.reader.specs.Checks.{descriptorAt, lastBefore}
 use Rattle.words.specs.declared.Order.the-variants.{Little}
 use Rattle.compare.specs.declared.Bound.the-variants.{Whole, UpTo}
@@ -38,6 +39,6 @@ unfoldable pub boundOf : List ℕ → List ℕ → Bound
 boundOf s t = smallest (reachOf s) (reachOf t)
 
 -- the last identifier that is compared; of all it is FFFF_FFFFh
-abbrev pub endOf : Bound → ℕ
-endOf Whole = 2 ^ 32 - 1
-endOf (UpTo id) = id .0
+abbrev pub endOf : Bound → ElementId
+endOf Whole = record { 0 = 2 ^ 32 - 1 }
+endOf (UpTo id) = id

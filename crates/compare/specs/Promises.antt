@@ -6,6 +6,7 @@ use mathlib.Core.Path.{_≡_}
 use lib.ListN.{length}
 use Rattle.layout.specs.Bytes.{descriptorIn}
 use Rattle.layout.specs.declared.Request.{Request}
+use Rattle.paper.specs.declared.ElementId.{ElementId}
 use Rattle.words.specs.Lists.{Every}
 use Rattle.words.specs.declared.Order.the-variants.{Little}
 use Rattle.compare.specs.Differences.{absent, stands, standing, differencesOf}
@@ -27,20 +28,20 @@ One-opening = (s t : List ℕ) (q : Request) (a b : Opening) → heard a ≡ ope
 -- a descriptor that stands for an identifier has it; of one that is absent there is none
 abbrev pub Stands-for : Type 0
 Stands-for =
-    (s : List ℕ) (id k : ℕ)
-    → (standing s id ≡ stands k → (k < countOf s) × (elementAt s k .id .0 ≡ id))
-    × (standing s id ≡ absent → k < countOf s → elementAt s k .id .0 ≡ id → ⊥)
+    (s : List ℕ) (id : ElementId) (k : ℕ)
+    → (standing s id ≡ stands k → (k < countOf s) × (elementAt s k .id ≡ id))
+    × (standing s id ≡ absent → k < countOf s → elementAt s k .id ≡ id → ⊥)
 
 -- the identifier that a line speaks of
-abbrev pub idOf : List ℕ → List ℕ → Line → ℕ
-idOf s t (OnlyOlder k) = elementAt s k .id .0
-idOf s t (OnlyNewer k) = elementAt t k .id .0
-idOf s t (Changed c) = elementAt t (c .newer) .id .0
+abbrev pub idOf : List ℕ → List ℕ → Line → ElementId
+idOf s t (OnlyOlder k) = elementAt s k .id
+idOf s t (OnlyNewer k) = elementAt t k .id
+idOf s t (Changed c) = elementAt t (c .newer) .id
 
 -- the first is above `low`, and each above the one before
-abbrev pub Ascending : ℕ → List ℕ → Type 0
+abbrev pub Ascending : ℕ → List ElementId → Type 0
 Ascending low [] = Unit {0}
-Ascending low (x ∷ xs) = (low < x) × Ascending x xs
+Ascending low (x ∷ xs) = (low < x .0) × Ascending (x .0) xs
 
 -- "Each difference appears once", "by ascending identifier"
 abbrev pub Each-once : Type 0
@@ -68,4 +69,4 @@ Hands-out =
 abbrev pub Hands-out-each : Type 0
 Hands-out-each =
     (s t : List ℕ) (q : Request) → accepted s q ≡ true → accepted t q ≡ true
-    → Every (λ l. (length (partOf s t l) ≡ 32) × (descriptorIn Little (partOf s t l) .id .0 ≡ idOf s t l)) (differencesOf s t)
+    → Every (λ l. (length (partOf s t l) ≡ 32) × (descriptorIn Little (partOf s t l) .id ≡ idOf s t l)) (differencesOf s t)

@@ -3,6 +3,7 @@ use Prim.Native.Nat.{ℕ, zero, suc, _+_, _-_, min}
 use mathlib.Core.Bool.{Bool, cond, _&&_}
 use mathlib.Core.List.{List, [], _∷_}
 use lib.Dec.{eqb, leb, ltb}
+use Rattle.paper.specs.declared.ElementId.{ElementId}
 use Rattle.compare.specs.Differences.{alike}
 use Rattle.compare.specs.Pages.{countOf, elementAt, boundOf, endOf}
 use Rattle.compare.specs.declared.Cursor.{Cursor}
@@ -19,40 +20,44 @@ first = cursor 0 0
 
 -- ## At a cursor
 
--- the identifier at a place; where the page has none, one above the end
-unfoldable pub idWithin : List ℕ → ℕ → ℕ → ℕ
-idWithin s k end = cond (ltb k (countOf s)) (elementAt s k .id .0) (end + 1)
+-- the key of a place: the identifier's number there; where the page has none, one above the end, which no identifier may be
+unfoldable pub keyAt : List ℕ → ℕ → ElementId → ℕ
+keyAt s k end = cond (ltb k (countOf s)) (elementAt s k .id .0) (end .0 + 1)
 
 -- one element stands there in both pages, not above the end, and unchanged
-unfoldable pub agreeAt : List ℕ → List ℕ → ℕ → Cursor → Bool
+unfoldable pub agreeAt : List ℕ → List ℕ → ElementId → Cursor → Bool
 agreeAt s t end c =
-    let a = idWithin s (c .older) end in
-    eqb a (idWithin t (c .newer) end) && (leb a end && alike (elementAt s (c .older)) (elementAt t (c .newer)))
+    let a = keyAt s (c .older) end in
+    eqb a (keyAt t (c .newer) end) && (leb a (end .0) && alike (elementAt s (c .older)) (elementAt t (c .newer)))
 
 abbrev pub found : Line → ℕ → ℕ → Step
 found l i j = Found (record { line = l; next = cursor i j })
 
--- what stands there, where they do not agree
-unfoldable pub stepAt : List ℕ → List ℕ → ℕ → Cursor → Step
-stepAt s t end c =
+-- the difference there, where the older's key is a, the newer's b
+abbrev pub foundBy : ℕ → ℕ → Cursor → Step
+foundBy a b c =
     let i = c .older in
     let j = c .newer in
-    let a = idWithin s i end in
-    let b = idWithin t j end in
-    cond (ltb end (min a b)) Done
-    (cond (ltb a b) (found (OnlyOlder i) (i + 1) j)
+    cond (ltb a b) (found (OnlyOlder i) (i + 1) j)
     (cond (ltb b a) (found (OnlyNewer j) i (j + 1))
-    (found (Changed c) (i + 1) (j + 1))))
+    (found (Changed c) (i + 1) (j + 1)))
+
+-- what stands there, where they do not agree
+unfoldable pub stepAt : List ℕ → List ℕ → ElementId → Cursor → Step
+stepAt s t end c =
+    let a = keyAt s (c .older) end in
+    let b = keyAt t (c .newer) end in
+    cond (ltb (end .0) (min a b)) Done (foundBy a b c)
 
 -- ## From a cursor on
 
 -- past what agrees, at most n elements
-unfoldable pub past : List ℕ → List ℕ → ℕ → ℕ → Cursor → Cursor
+unfoldable pub past : List ℕ → List ℕ → ElementId → ℕ → Cursor → Cursor
 past s t end zero c = c
 past s t end (suc n) c = cond (agreeAt s t end c) (past s t end n (cursor (c .older + 1) (c .newer + 1))) c
 
 -- with the last identifier that is compared
-unfoldable pub nextTo : List ℕ → List ℕ → ℕ → Cursor → Step
+unfoldable pub nextTo : List ℕ → List ℕ → ElementId → Cursor → Step
 nextTo s t end c = stepAt s t end (past s t end (countOf s - c .older) c)
 
 unfoldable pub nextOf : List ℕ → List ℕ → Cursor → Step

@@ -1,13 +1,13 @@
 // Two status pages compared: by ascending identifier what is only in the older, only in the newer, or in both and changed.
 ghost use mathlib.Core.Path.{_≡_};
 ghost use mathlib.Core.Bool.{true};
-ghost use Prim.Native.Nat.{_+_, _^_, _≤_, _<_, min};
+ghost use Prim.Native.Nat.{_+_, _^_, _≤_, _<_};
 ghost use Rattle.compare.specs.Differences.{alike};
-ghost use Rattle.compare.specs.Opening.{heard, openOf, accepted};
-ghost use Rattle.compare.specs.Pages.{elementAt, reachOf, smallest, boundOf, endOf};
-ghost use Rattle.compare.specs.Parts.{descriptorPart, partOf};
+ghost use Rattle.compare.specs.Opening.{heard, openOf};
+ghost use Rattle.compare.specs.Pages.{reachOf, smallest, boundOf, endOf};
+ghost use Rattle.compare.specs.Parts.{firstPart, descriptorPart, partOf};
 ghost use Rattle.compare.specs.Walk as paper;
-ghost use Rattle.compare.specs.Walk.{first, idWithin, agreeAt, stepAt, nextOf};
+ghost use Rattle.compare.specs.Walk.{first, keyAt, agreeAt, foundBy, stepAt, nextOf};
 ghost use Rattle.reader.specs.Checks.{lastBefore};
 ghost use Rattle.words.specs.declared.Order.the-variants.{Little};
 use layout::Descriptor;
@@ -62,23 +62,6 @@ pub enum Step {
 
 // ---- Both pages
 
-fn is_accepted(page: &[u8], request: Request) -> bool
-    ensures { λ r. ⌜ r ≡ accepted (now (page .entry)) request ⌝ }
-{
-    let judgement = reader::read(page, request);
-    match judgement {
-        Judgement::Accepted(_) => true,
-        Judgement::Refused(_) => false,
-    }
-}
-
-fn element_at(page: &[u8], k: u32) -> Descriptor
-    ensures { λ r. ⌜ r ≡ elementAt (now (page .entry)) k ⌝ }
-{
-    let base = 32 + 32 * (k as usize);
-    Descriptor::read(words::tail(page, base), Order::Little)
-}
-
 // The identifier before descriptor k, 0 before the first.
 fn id_before(page: &[u8], k: u32) -> ElementId
     ensures { λ r. ⌜ r .0 ≡ lastBefore Little (now (page .entry)) k ⌝ }
@@ -86,7 +69,7 @@ fn id_before(page: &[u8], k: u32) -> ElementId
     if k == 0 {
         return ElementId(0);
     }
-    let last = element_at(page, k - 1);
+    let last = reader::descriptor_at(page, k - 1, Order::Little);
     last.id
 }
 
@@ -123,10 +106,10 @@ fn bound_of(older: &[u8], newer: &[u8]) -> Bound
 pub fn open(older: &[u8], newer: &[u8], request: Request) -> Opening
     ensures { λ r. ⌜ heard r ≡ openOf (now (older .entry)) (now (newer .entry)) request ⌝ }
 {
-    if !is_accepted(older, request) {
+    if let Judgement::Refused(_) = reader::read(older, request) {
         return Opening::Refused(Turn::Older);
     }
-    if !is_accepted(newer, request) {
+    if let Judgement::Refused(_) = reader::read(newer, request) {
         return Opening::Refused(Turn::Newer);
     }
     Opening::Accepted(bound_of(older, newer))
@@ -142,26 +125,26 @@ impl Cursor {
     }
 }
 
-fn end_of(b: Bound) -> u32
+fn end_of(b: Bound) -> ElementId
     ensures { λ r. ⌜ r ≡ endOf b ⌝ }
 {
     match b {
-        Bound::Whole => 0xFFFF_FFFF,
-        Bound::UpTo(id) => id.0,
+        Bound::Whole => ElementId(0xFFFF_FFFF),
+        Bound::UpTo(id) => id,
     }
 }
 
-// The identifier at a place; where the page has none, one above the end. After an identifier up to the end there is a place.
-fn id_within(page: &[u8], k: u32, end: u32) -> u64
-    ensures { λ r. ⌜ (r ≡ idWithin (now (page .entry)) k end) × (r ≤ end → k + 1 < 2 ^ 32) ⌝ }
+// The key of a place, by which the pages are merged. After one up to the end there is a place.
+fn key_at(page: &[u8], k: u32, end: ElementId) -> usize
+    ensures { λ r. ⌜ (r ≡ keyAt (now (page .entry)) k end) × (r ≤ end .0 → k + 1 < 2 ^ 32) ⌝ }
 {
     let h = Header::read(page, Order::Little);
     if h.returned <= k {
-        return end as u64 + 1;
+        return end.0 as usize + 1;
     }
-    let d = element_at(page, k);
+    let d = reader::descriptor_at(page, k, Order::Little);
     let id = d.id;
-    id.0 as u64
+    id.0 as usize
 }
 
 fn is_alike(d: Descriptor, e: Descriptor) -> bool
@@ -180,24 +163,19 @@ fn is_alike(d: Descriptor, e: Descriptor) -> bool
 }
 
 // Whether one element stands at the cursor in both pages, not above the end, and unchanged. After it there is a place.
-fn do_agree(older: &[u8], newer: &[u8], end: u32, at: Cursor) -> bool
+fn do_agree(older: &[u8], newer: &[u8], end: ElementId, at: Cursor) -> bool
     ensures { λ r. ⌜ (r ≡ agreeAt (now (older .entry)) (now (newer .entry)) end at) × (r ≡ true → (at .older + 1 < 2 ^ 32) × (at .newer + 1 < 2 ^ 32)) ⌝ }
 {
-    let a = id_within(older, at.older, end);
-    let b = id_within(newer, at.newer, end);
+    let a = key_at(older, at.older, end);
+    let b = key_at(newer, at.newer, end);
     if a != b {
         return false;
     }
-    if (end as u64) < a {
+    if (end.0 as usize) < a {
         return false;
     }
-    is_alike(element_at(older, at.older), element_at(newer, at.newer))
-}
-
-fn smaller(a: u64, b: u64) -> u64
-    ensures { λ r. ⌜ r ≡ min a b ⌝ }
-{
-    if a < b { a } else { b }
+    let d = reader::descriptor_at(older, at.older, Order::Little);
+    is_alike(d, reader::descriptor_at(newer, at.newer, Order::Little))
 }
 
 fn found(line: Line, older: u32, newer: u32) -> Step
@@ -209,17 +187,13 @@ fn found(line: Line, older: u32, newer: u32) -> Step
     })
 }
 
-// What stands at the cursor, where the pages do not agree.
-fn step_at(older: &[u8], newer: &[u8], end: u32, at: Cursor) -> Step
-    ensures { λ r. ⌜ r ≡ stepAt (now (older .entry)) (now (newer .entry)) end at ⌝ }
+// The difference at the cursor, where the older's key is a, the newer's b. After the nearer one there is a place.
+fn found_by(a: usize, b: usize, at: Cursor) -> Step
+    requires { ⌜ (a ≤ b → at .older + 1 < 2 ^ 32) × (b ≤ a → at .newer + 1 < 2 ^ 32) ⌝ }
+    ensures { λ r. ⌜ r ≡ foundBy a b at ⌝ }
 {
     let i = at.older;
     let j = at.newer;
-    let a = id_within(older, i, end);
-    let b = id_within(newer, j, end);
-    if (end as u64) < smaller(a, b) {
-        return Step::Done;
-    }
     if a < b {
         return found(Line::OnlyOlder(i), i + 1, j);
     }
@@ -227,6 +201,18 @@ fn step_at(older: &[u8], newer: &[u8], end: u32, at: Cursor) -> Step
         return found(Line::OnlyNewer(j), i, j + 1);
     }
     found(Line::Changed(at), i + 1, j + 1)
+}
+
+// What stands at the cursor, where the pages do not agree.
+fn step_at(older: &[u8], newer: &[u8], end: ElementId, at: Cursor) -> Step
+    ensures { λ r. ⌜ r ≡ stepAt (now (older .entry)) (now (newer .entry)) end at ⌝ }
+{
+    let a = key_at(older, at.older, end);
+    let b = key_at(newer, at.newer, end);
+    if (end.0 as usize) < words::smaller(a, b) {
+        return Step::Done;
+    }
+    found_by(a, b, at)
 }
 
 // The next difference from a cursor on; what lies before the cursor counts as not there.
@@ -246,6 +232,16 @@ pub fn next(older: &[u8], newer: &[u8], from: Cursor) -> Step
 
 // ---- The descriptor itself
 
+// The first 32 bytes; none of fewer.
+fn first_part(s: &[u8]) -> &[u8]
+    ensures { λ r. ⌜ now r ≡ firstPart (now (s .entry)) ⌝ }
+{
+    if s.len() < 32 {
+        return &s[..0];
+    }
+    &s[0..32]
+}
+
 // The 32 bytes of descriptor k; none where the page has no such descriptor.
 fn descriptor_part(page: &[u8], k: u32) -> &[u8]
     ensures { λ r. ⌜ now r ≡ descriptorPart (now (page .entry)) k ⌝ }
@@ -254,12 +250,7 @@ fn descriptor_part(page: &[u8], k: u32) -> &[u8]
     if h.returned <= k {
         return &page[..0];
     }
-    let from = 32 + 32 * (k as usize);
-    let to = from + 32;
-    if page.len() < to {
-        return &page[..0];
-    }
-    &page[from..to]
+    first_part(words::tail(page, 32 + 32 * (k as usize)))
 }
 
 // The descriptor that a line speaks of, as part of the page that it came from, the newer if it is in both.

@@ -1,40 +1,37 @@
 -- The header's and the descriptor's 32 bytes: as the code lays them, and read back. Both orders compute, so each law goes by the order.
 use Prim.Native.Nat.{ℕ, _%_}
 use mathlib.Core.Bool.{Bool, true, false}
-use mathlib.Core.List.{List, _∷_, _++_}
+use mathlib.Core.List.{List, [], _∷_, _++_}
 use mathlib.Core.Path.{_≡_, refl, _∙_}
 use lib.Dec.{eqb}
 use lib.ListN.{getD, replicate}
 use Rattle.words.proofs.Bytes.{number-bytesOf}
 use Rattle.words.specs.Bytes.{bytesOf, number, numberAt}
-use Rattle.words.specs.Lists.{one}
+use Rattle.words.specs.Lists.{stored, one}
 use Rattle.words.specs.declared.Order.the-variants.{Little, Big}
 use Rattle.words.specs.declared.Order.{Order}
 use Rattle.layout.specs.Bytes.{headerBytes, headerIn, descriptorBytes, descriptorIn, HeaderFits, DescriptorFits}
 use Rattle.layout.specs.declared.Descriptor.{Descriptor}
 use Rattle.layout.specs.declared.Header.{Header}
 
--- the first bytes of a list, one by one
-abbrev two : List ℕ → List ℕ → List ℕ
-two l rest = getD l 0 0 ∷ getD l 1 0 ∷ rest
+-- each field stored at its place, over zeros
+pub header-laid : (o : Order) (h : Header) (n r b l m : List ℕ) (a₁ a₂ a₃ a₄ a₅ : List ℕ)
+    → n ≡ bytesOf o 4 (h .number) → a₁ ≡ stored (replicate 32 0) 0 n
+    → r ≡ bytesOf o 4 (h .returned) → a₂ ≡ stored a₁ 4 r
+    → b ≡ bytesOf o 4 (h .busy .0) → a₃ ≡ stored a₂ 8 b
+    → l ≡ bytesOf o 2 (h .limit) → a₄ ≡ stored a₃ 12 l
+    → m ≡ bytesOf o 2 (h .removed) → a₅ ≡ stored a₄ 14 m
+    → a₅ ≡ headerBytes o h
+header-laid Little h n r b l m a₁ a₂ a₃ a₄ a₅ is-n e₁ is-r e₂ is-b e₃ is-l e₄ is-m e₅ = rw (e₅, e₄, e₃, e₂, e₁, is-n, is-r, is-b, is-l, is-m)
+header-laid Big h n r b l m a₁ a₂ a₃ a₄ a₅ is-n e₁ is-r e₂ is-b e₃ is-l e₄ is-m e₅ = rw (e₅, e₄, e₃, e₂, e₁, is-n, is-r, is-b, is-l, is-m)
 
-abbrev four : List ℕ → List ℕ → List ℕ
-four l rest = two l (getD l 2 0 ∷ getD l 3 0 ∷ rest)
-
-abbrev eight : List ℕ → List ℕ → List ℕ
-eight l rest = four l (getD l 4 0 ∷ getD l 5 0 ∷ getD l 6 0 ∷ getD l 7 0 ∷ rest)
-
-pub header-laid : (o : Order) (h : Header) (n r b l m : List ℕ)
-    → n ≡ bytesOf o 4 (h .number) → r ≡ bytesOf o 4 (h .returned) → b ≡ bytesOf o 4 (h .busy .0) → l ≡ bytesOf o 2 (h .limit) → m ≡ bytesOf o 2 (h .removed)
-    → four n (four r (four b (two l (two m (replicate 16 0))))) ≡ headerBytes o h
-header-laid Little h n r b l m is-n is-r is-b is-l is-m = rw (is-n, is-r, is-b, is-l, is-m)
-header-laid Big h n r b l m is-n is-r is-b is-l is-m = rw (is-n, is-r, is-b, is-l, is-m)
-
-pub descriptor-laid : (o : Order) (d : Descriptor) (i c : List ℕ) (f : ℕ)
-    → i ≡ bytesOf o 4 (d .id .0) → f ≡ one (d .restorable) → c ≡ bytesOf o 8 (d .capacity)
-    → replicate 4 0 ++ four i (replicate 5 0 ++ (f ∷ d .kind ∷ d .health ∷ eight c (replicate 8 0))) ≡ descriptorBytes o d
-descriptor-laid Little d i c f is-i is-f is-c = rw (is-i, is-f, is-c)
-descriptor-laid Big d i c f is-i is-f is-c = rw (is-i, is-f, is-c)
+pub descriptor-laid : (o : Order) (d : Descriptor) (i c : List ℕ) (f : ℕ) (a₁ a₂ a₃ : List ℕ)
+    → i ≡ bytesOf o 4 (d .id .0) → a₁ ≡ stored (replicate 32 0) 4 i
+    → f ≡ one (d .restorable) → a₂ ≡ stored a₁ 13 (f ∷ d .kind ∷ d .health ∷ [])
+    → c ≡ bytesOf o 8 (d .capacity) → a₃ ≡ stored a₂ 16 c
+    → a₃ ≡ descriptorBytes o d
+descriptor-laid Little d i c f a₁ a₂ a₃ is-i e₁ is-f e₂ is-c e₃ = rw (e₃, e₂, e₁, is-i, is-f, is-c)
+descriptor-laid Big d i c f a₁ a₂ a₃ is-i e₁ is-f e₂ is-c e₃ = rw (e₃, e₂, e₁, is-i, is-f, is-c)
 
 -- ## Read field by field
 

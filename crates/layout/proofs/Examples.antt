@@ -47,16 +47,16 @@ tests-tried : all (λ (b : Bool). b)
 unfolding takesHealth
 tests-tried = refl
 
-abbrev slow : Descriptor
-slow = record { id = record { 0 = 0x0001_0003 }; restorable = false; kind = 1; health = 0x70; capacity = 500 }
+abbrev g1 : Descriptor
+g1 = record { id = record { 0 = 0x0001_0003 }; restorable = false; kind = 1; health = 0x70; capacity = 500 }
 
 -- "its bytes 4..7 are 03 00 01 00, 16..17 are F4 01"
-little-tried : descriptorBytes Little slow
+little-tried : descriptorBytes Little g1
     ≡ 0 ∷ 0 ∷ 0 ∷ 0 ∷ 0x03 ∷ 0x00 ∷ 0x01 ∷ 0x00 ∷ 0 ∷ 0 ∷ 0 ∷ 0 ∷ 0 ∷ 0 ∷ 0x01 ∷ 0x70
     ∷ 0xF4 ∷ 0x01 ∷ 0 ∷ 0 ∷ 0 ∷ 0 ∷ 0 ∷ 0 ∷ 0 ∷ 0 ∷ 0 ∷ 0 ∷ 0 ∷ 0 ∷ 0 ∷ 0 ∷ []
 little-tried = refl
 
-big-tried : descriptorBytes Big slow
+big-tried : descriptorBytes Big g1
     ≡ 0 ∷ 0 ∷ 0 ∷ 0 ∷ 0x00 ∷ 0x01 ∷ 0x00 ∷ 0x03 ∷ 0 ∷ 0 ∷ 0 ∷ 0 ∷ 0 ∷ 0 ∷ 0x01 ∷ 0x70
     ∷ 0 ∷ 0 ∷ 0 ∷ 0 ∷ 0 ∷ 0 ∷ 0x01 ∷ 0xF4 ∷ 0 ∷ 0 ∷ 0 ∷ 0 ∷ 0 ∷ 0 ∷ 0 ∷ 0 ∷ []
 big-tried = refl

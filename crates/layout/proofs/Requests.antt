@@ -1,11 +1,12 @@
 -- Laws of a request: what the code's tests say of it, a law for each way out, and what callers use of the shut definitions.
 use Prim.Native.Nat.{ℕ, _≤_, _<_}
-use mathlib.Core.Bool.{Bool, true, false, true≢false, _||_}
-use mathlib.Core.Path.{_≡_, refl, sym}
+use mathlib.Core.Bool.{Bool, true, false, true≢false, false≢true, not, _||_}
+use mathlib.Core.Path.{_≡_, refl, sym, _∙_}
 use native.Mathlib.Omega.{arith}
 use lib.Dec.{leb, ltb, eqb}
-use borrow.Author.Tests.{le-leb, lt-leb, lt-ltb, le-ltb, eq-eqb, ne-eqb, leb-false, ltb-false, eqb-false}
-use Rattle.layout.specs.Requests.{filterOf, reportTypeOf, pagesOf, refused, takesType, takesHealth}
+use borrow.Author.Tests.{le-leb, lt-leb, lt-ltb, le-ltb, eq-eqb, ne-eqb, leb-false, ltb-false, eqb-true, eqb-false}
+use Rattle.paper.specs.Elements.{storageType, slow}
+use Rattle.layout.specs.Requests.{filterOf, reportTypeOf, pagesOf, refused, takesType, inFilter, takesHealth}
 use Rattle.layout.specs.declared.Request.{Request}
 
 -- ## Which requests are due 4
@@ -31,22 +32,25 @@ type-storage kind t r e h = sym (rw (eq-eqb r 1 (omega arith)))
 pub type-any : (kind t r : ℕ) → t ≡ r → (t ≡ 1 → ⊥) → true ≡ takesType r kind
 type-any kind t r e h = sym (rw (ne-eqb r 1 (λ g. h (omega arith))))
 
+pub slow-below : (h : ℕ) → h < 0x65 → false ≡ slow h
+slow-below h l = sym (rw (lt-leb 0x65 h l))
+
+pub slow-from : (h : ℕ) → 0x65 ≤ h → leb h 0xCF ≡ slow h
+slow-from h l = sym (rw (le-leb 0x65 h l))
+
 module _ (h f r : ℕ) (is-f : f ≡ r) where
   pub filter-any : (f ≡ 1 → ⊥) → true ≡ takesHealth r h
   unfolding takesHealth
   filter-any n = sym (rw (ne-eqb r 1 (λ g. n (omega arith))))
 
-  pub filter-low : f ≡ 1 → h < 0x65 → false ≡ takesHealth r h
-  unfolding takesHealth
-  filter-low e l = sym (rw (eq-eqb r 1 (omega arith), lt-leb 0x65 h l, ne-eqb h 0xFF (omega arith)))
+  module _ (only : f ≡ 1) (b : Bool) (is-b : b ≡ slow h) where
+    pub filter-slow : b ≡ true → true ≡ takesHealth r h
+    unfolding takesHealth
+    filter-slow y = sym (rw (eq-eqb r 1 (omega arith), sym is-b ∙ y))
 
-  pub filter-slow : f ≡ 1 → 0x65 ≤ h → h ≤ 0xCF → true ≡ takesHealth r h
-  unfolding takesHealth
-  filter-slow e l m = sym (rw (eq-eqb r 1 (omega arith), le-leb 0x65 h l, le-leb h 0xCF m))
-
-  pub filter-high : f ≡ 1 → 0x65 ≤ h → 0xCF < h → eqb h 0xFF ≡ takesHealth r h
-  unfolding takesHealth
-  filter-high e l m = sym (rw (eq-eqb r 1 (omega arith), le-leb 0x65 h l, lt-leb h 0xCF m))
+    pub filter-removed : b ≡ false → eqb h 0xFF ≡ takesHealth r h
+    unfolding takesHealth
+    filter-removed n = sym (rw (eq-eqb r 1 (omega arith), sym is-b ∙ n))
 
 -- ## For callers
 
@@ -62,6 +66,25 @@ accepted q e =
     let two = or-false-both (leb 2 (filterOf q)) (ltb 1 (reportTypeOf q)) (first .0) in
     (omega (arith, leb-false 2 (filterOf q) (two .0)), ltb-false 1 (reportTypeOf q) (two .1), omega (arith, eqb-false (pagesOf q) 0 (first .1)))
 
--- without a filter every health is taken
-pub filter-none : (h : ℕ) → takesHealth 0 h ≡ true
-filter-none h = sym (filter-any h 0 0 refl (omega arith))
+-- "if the first then the second", tested
+pub implied : (a b : Bool) → (not a || b) ≡ true → a ≡ true → b ≡ true
+implied true b e y = e
+implied false b e y = absurd (false≢true y)
+
+pub implies : (a b : Bool) → (a ≡ true → b ≡ true) → (not a || b) ≡ true
+implies true b f = f refl
+implies false b f = refl
+
+-- the tests of a type and of a health as statements
+pub type-exactly : (r kind : ℕ) → (takesType r kind ≡ true → r ≡ 1 → kind ≡ 1) × ((r ≡ 1 → kind ≡ 1) → takesType r kind ≡ true)
+type-exactly r kind = (
+  λ e y. eqb-true _ _ (implied (eqb r 1) (storageType kind) e (eq-eqb _ _ y)),
+  λ f. implies (eqb r 1) (storageType kind) (λ y. eq-eqb _ _ (f (eqb-true _ _ y))),
+)
+
+pub health-exactly : (f h : ℕ) → (takesHealth f h ≡ true → f ≡ 1 → inFilter h ≡ true) × ((f ≡ 1 → inFilter h ≡ true) → takesHealth f h ≡ true)
+unfolding takesHealth
+health-exactly f h = (
+  λ e y. implied (eqb f 1) (inFilter h) e (eq-eqb _ _ y),
+  λ g. implies (eqb f 1) (inFilter h) (λ y. g (eqb-true _ _ y)),
+)

@@ -1,8 +1,8 @@
 -- Document 01, "GET PHYSICAL ELEMENT STATUS (12h)": a request's fields, which requests are due 4, and the tests of an element.
 use Prim.Native.Nat.{ℕ, _/_, _%_, _^_}
-use mathlib.Core.Bool.{Bool, not, _&&_, _||_}
+use mathlib.Core.Bool.{Bool, not, _||_}
 use lib.Dec.{leb, ltb, eqb}
-use Rattle.paper.specs.Elements.{storageType, removedHealth}
+use Rattle.paper.specs.Elements.{storageType, removedHealth, slow}
 use Rattle.paper.specs.Registers.{low48}
 use Rattle.layout.specs.declared.Request.{Request}
 
@@ -37,6 +37,9 @@ takesId q id = leb (startOf q) id
 abbrev pub takesType : ℕ → ℕ → Bool
 takesType report kind = not (eqb report 1) || storageType kind
 
--- "with filter 01b only health 65h to CFh, or FFh (000, table 14)"
+-- what filter 01b lets through: "only health 65h to CFh, or FFh (000, table 14)"
+abbrev pub inFilter : ℕ → Bool
+inFilter health = slow health || removedHealth health
+
 unfoldable pub takesHealth : ℕ → ℕ → Bool
-takesHealth filter health = not (eqb filter 1) || ((leb 0x65 health && leb health 0xCF) || removedHealth health)
+takesHealth filter health = not (eqb filter 1) || inFilter health

@@ -2,6 +2,7 @@
 ghost use mathlib.Core.Path.{_≡_};
 ghost use Rattle.layout.specs.Requests.{filterOf, reportTypeOf, startOf, refused, takesId, takesType, takesHealth};
 ghost use Rattle.layout.specs.Bytes.{headerBytes, headerIn, descriptorBytes, descriptorIn};
+ghost use Rattle.paper.specs.Elements.{slow};
 ghost use Rattle.words.specs.Lists.{one};
 use paper::ElementId;
 use paper::Lba;
@@ -89,59 +90,33 @@ impl Request {
         if self.filter() != 1 {
             return true;
         }
-        if health < 0x65 {
-            return false;
-        }
-        if health <= 0xCF {
+        if is_slow(health) {
             return true;
         }
         health == 0xFF
     }
 }
 
+fn is_slow(health: u8) -> bool
+    ensures { λ r. ⌜ r ≡ slow health ⌝ }
+{
+    if health < 0x65 {
+        return false;
+    }
+    health <= 0xCF
+}
+
 impl Header {
     pub fn bytes(self, o: Order) -> [u8; 32]
         ensures { λ r. ⌜ r ≡ headerBytes o self ⌝ }
     {
-        let n = words::bytes4(self.number, o);
-        let r = words::bytes4(self.returned, o);
-        let b = words::bytes4(self.busy.0, o);
-        let l = words::bytes2(self.limit, o);
-        let m = words::bytes2(self.removed, o);
-        [
-            n[0],
-            n[1],
-            n[2],
-            n[3],
-            r[0],
-            r[1],
-            r[2],
-            r[3],
-            b[0],
-            b[1],
-            b[2],
-            b[3],
-            l[0],
-            l[1],
-            m[0],
-            m[1],
-            0,
-            0,
-            0,
-            0,
-            0,
-            0,
-            0,
-            0,
-            0,
-            0,
-            0,
-            0,
-            0,
-            0,
-            0,
-            0,
-        ]
+        let mut b = [0; 32];
+        words::put(&mut b, 0, &words::bytes4(self.number, o));
+        words::put(&mut b, 4, &words::bytes4(self.returned, o));
+        words::put(&mut b, 8, &words::bytes4(self.busy.0, o));
+        words::put(&mut b, 12, &words::bytes2(self.limit, o));
+        words::put(&mut b, 14, &words::bytes2(self.removed, o));
+        b
     }
 
     // The header that a slice starts with; a byte past its end counts as 0.
@@ -162,43 +137,11 @@ impl Descriptor {
     pub fn bytes(self, o: Order) -> [u8; 32]
         ensures { λ r. ⌜ r ≡ descriptorBytes o self ⌝ }
     {
-        let i = words::bytes4(self.id.0, o);
-        let f = bit(self.restorable);
-        let c = words::bytes8(self.capacity, o);
-        [
-            0,
-            0,
-            0,
-            0,
-            i[0],
-            i[1],
-            i[2],
-            i[3],
-            0,
-            0,
-            0,
-            0,
-            0,
-            f,
-            self.kind,
-            self.health,
-            c[0],
-            c[1],
-            c[2],
-            c[3],
-            c[4],
-            c[5],
-            c[6],
-            c[7],
-            0,
-            0,
-            0,
-            0,
-            0,
-            0,
-            0,
-            0,
-        ]
+        let mut b = [0; 32];
+        words::put(&mut b, 4, &words::bytes4(self.id.0, o));
+        words::put(&mut b, 13, &[bit(self.restorable), self.kind, self.health]);
+        words::put(&mut b, 16, &words::bytes8(self.capacity, o));
+        b
     }
 
     // The descriptor that a slice starts with; a byte past its end counts as 0.

@@ -1,17 +1,16 @@
 -- 80,000 bytes are enough for every listing (specs/Promises).
-use Prim.Native.Nat.{ℕ, _-_, _*_, _/_, _≤_}
+use Prim.Native.Nat.{ℕ, _≤_}
 use mathlib.Core.Bool.{Bool, true, false, cond}
 use mathlib.Core.List.{List}
 use mathlib.Core.Path.{_≡_, refl, ap}
-use native.Mathlib.Nat.{min-le-right}
 use native.Mathlib.Omega.{arith}
 use lib.Dec.{ltb}
 use lib.ListN.{length, length-append}
 use borrow.Author.Tests.{le-ltb, ltb-false}
-use Rattle.layout.specs.Bytes.{headerIn, returnedOf}
 use Rattle.layout.specs.declared.Header.{Header}
 use Rattle.paper.specs.Told.{tells}
-use Rattle.reader.proofs.LayoutTheorem.{takes-exactly, with-header}
+use Rattle.reader.proofs.LayoutTheorem.{with-header}
+use Rattle.reader.proofs.Taken.{taken, room}
 use Rattle.reader.specs.Judgement.{Values, header, place, readOf}
 use Rattle.words.specs.declared.Order.the-variants.{Little}
 use Rattle.listing.specs.Listing.{linesBelow, requestOf, judged, firstLine, lineCount, listingOf}
@@ -20,20 +19,19 @@ use Rattle.listing.proofs.Listing.{length-first, length-lines}
 
 -- ## How many lines: 128 pages have room for 2,047
 
-few-read : (s : List ℕ) → length s ≤ 65536 → lineCount (readOf s (requestOf s) .state) ≤ 2047
-few-read s short = by-values (readOf s (requestOf s) .state) refl
+few-read : (s : List ℕ) → length s ≤ 65536 → lineCount (readOf Little s (requestOf s) .state) ≤ 2047
+few-read s short = by-values (readOf Little s (requestOf s) .state) refl
   where
-    by-values : (v : Values) → readOf s (requestOf s) .state ≡ v → lineCount v ≤ 2047
+    by-values : (v : Values) → readOf Little s (requestOf s) .state ≡ v → lineCount v ≤ 2047
     by-values (place p) e = omega arith
     by-values (header h) e =
-        let (is-0, is-h) = with-header s (requestOf s) h e in
-        let cut : headerIn Little s .returned ≡ returnedOf (headerIn Little s .number) (length s / 512) = takes-exactly s (requestOf s) .0 is-0 .1 .1 .0 in
-        omega (arith, cut, ap (λ (g : Header). g .returned) is-h, min-le-right (headerIn Little s .number) (16 * (length s / 512) - 1))
+        let (is-0, is-h) = with-header Little s (requestOf s) h e in
+        omega (arith, room Little s (requestOf s) (taken Little s (requestOf s) is-0), ap (λ (g : Header). g .returned) is-h)
 
 few : (s : List ℕ) → lineCount (judged s .state) ≤ 2047
 few s = by-test (ltb 65536 (length s)) refl
   where
-    by-test : (t : Bool) → ltb 65536 (length s) ≡ t → lineCount (cond t (tells 9 (place 65536)) (readOf s (requestOf s)) .state) ≤ 2047
+    by-test : (t : Bool) → ltb 65536 (length s) ≡ t → lineCount (cond t (tells 9 (place 65536)) (readOf Little s (requestOf s)) .state) ≤ 2047
     by-test true e = omega arith
     by-test false e = few-read s (ltb-false 65536 (length s) e)
 

@@ -55,7 +55,7 @@ module _ (s : List ℕ) where
   pub input-long : 65536 < length s → tells 9 (place 65536) ≡ judged s
   input-long h = sym (rw (lt-ltb _ _ h))
 
-  pub input-read : length s ≤ 65536 → (r : Judgement) → heard r ≡ readOf s (requestOf s) → heard r ≡ judged s
+  pub input-read : length s ≤ 65536 → (r : Judgement) → heard r ≡ readOf Little s (requestOf s) → heard r ≡ judged s
   input-read h r e = e ∙ sym (rw (le-ltb _ _ h))
 
 -- ## How long

@@ -58,7 +58,7 @@ requestOf s = record { feature = 0; count = record { 0 = length s / 512 }; lba =
 
 -- "at most 65,536 bytes ..; longer input is refused at 65536"
 abbrev pub judged : List ℕ → Told Values
-judged s = cond (ltb 65536 (length s)) (tells 9 (place 65536)) (readOf s (requestOf s))
+judged s = cond (ltb 65536 (length s)) (tells 9 (place 65536)) (readOf Little s (requestOf s))
 
 abbrev pub firstLine : Values → List ℕ
 firstLine (header h) = headerLine h

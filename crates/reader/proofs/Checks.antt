@@ -16,7 +16,6 @@ use Rattle.layout.specs.declared.Descriptor.{Descriptor}
 use Rattle.layout.specs.declared.Header.{Header}
 use Rattle.layout.specs.declared.Request.{Request}
 use Rattle.paper.specs.Told.{Told}
-use Rattle.words.specs.declared.Order.the-variants.{Little}
 use Rattle.words.specs.declared.Order.{Order}
 use Rattle.reader.specs.Checks.{baseOf, descriptorAt, lastBefore, inTurn, earned, checkOf, offenceAt, paddingAt, contentsOf}
 use Rattle.reader.specs.First.{firstBelow}
@@ -91,39 +90,37 @@ heard-clean f h e = ap (λ (x : Offence). answerOf x h) (sym e)
 pub heard-at : (f : Offence) (h : Header) (p : ℕ) → f ≡ At p → heard (Refused p) ≡ answerOf f h
 heard-at f h p e = ap (λ (x : Offence). answerOf x h) (sym e)
 
-module _ (s : List ℕ) (q : Request) (b : Bool) (is-b : b ≡ refused q) where
-  pub read-refused : b ≡ true → heard (Refused 0) ≡ readOf s q
+module _ (q : Request) (b : Bool) (is-b : b ≡ refused q) (n : b ≡ false) where
+  pub some-pages : 1 ≤ pagesOf q
+  some-pages = accepted q (sym is-b ∙ n) .2
+
+module _ (o : Order) (s : List ℕ) (q : Request) (b : Bool) (is-b : b ≡ refused q) where
+  pub read-refused : b ≡ true → heard (Refused 0) ≡ readOf o s q
   read-refused y = sym (rw (sym is-b ∙ y))
 
   module _ (n : b ≡ false) where
-    some-pages : 1 ≤ pagesOf q
-    some-pages = accepted q (sym is-b ∙ n) .2
-
-    pub some-room : 1 ≤ 16 * pagesOf q
-    some-room = omega (arith, some-pages)
-
-    pub read-long : (length s ≡ 512 * pagesOf q → ⊥) → heard (Refused 0) ≡ readOf s q
+    pub read-long : (length s ≡ 512 * pagesOf q → ⊥) → heard (Refused 0) ≡ readOf o s q
     read-long m = sym (rw (sym is-b ∙ n, ne-eqb _ _ m))
 
-    module _ (long : length s ≡ 512 * pagesOf q) (h : Header) (is-h : h ≡ headerIn Little s) (r : ℕ) (is-r : r ≡ returnedOf (h .number) (pagesOf q)) where
-      pub read-returned : (h .returned ≡ r → ⊥) → heard (Refused 4) ≡ readOf s q
+    module _ (long : length s ≡ 512 * pagesOf q) (h : Header) (is-h : h ≡ headerIn o s) (r : ℕ) (is-r : r ≡ returnedOf (h .number) (pagesOf q)) where
+      pub read-returned : (h .returned ≡ r → ⊥) → heard (Refused 4) ≡ readOf o s q
       read-returned m =
-          let wrong : headerIn Little s .returned ≡ returnedOf (headerIn Little s .number) (pagesOf q) → ⊥ = λ e. m (rw (is-r, is-h) e) in
+          let wrong : headerIn o s .returned ≡ returnedOf (headerIn o s .number) (pagesOf q) → ⊥ = λ e. m (rw (is-r, is-h) e) in
           sym (rw (sym is-b ∙ n, eq-eqb _ _ long, ne-eqb _ _ wrong))
 
       module _ (so : h .returned ≡ r) where
         pub list-fits : 32 + 32 * h .returned ≤ length s
-        list-fits = omega (arith, some-pages, min-le-right (h .number) (16 * pagesOf q - 1))
+        list-fits = omega (arith, some-pages q b is-b n, min-le-right (h .number) (16 * pagesOf q - 1))
 
-        pub read-contents : (f : Offence) → f ≡ contentsOf Little s q (h .returned) → (t : Told Values) → t ≡ answerOf f h → t ≡ readOf s q
+        pub read-contents : (f : Offence) → f ≡ contentsOf o s q (h .returned) → (t : Told Values) → t ≡ answerOf f h → t ≡ readOf o s q
         read-contents f is-f t is-t =
-            let right : headerIn Little s .returned ≡ returnedOf (headerIn Little s .number) (pagesOf q) =
+            let right : headerIn o s .returned ≡ returnedOf (headerIn o s .number) (pagesOf q) =
             ap (λ (x : Header). x .returned) (sym is-h) ∙ so ∙ is-r ∙ ap (λ (x : Header). returnedOf (x .number) (pagesOf q)) is-h in
             is-t ∙ rw (is-f, is-h) (sym (rw (sym is-b ∙ n, eq-eqb _ _ long, eq-eqb _ _ right)))
 
-module _ (s : List ℕ) (k : ℕ) (h : Header) (is-h : h ≡ headerIn Little s) where
-  pub slot-outside : h .returned ≤ k → Outside ≡ slotOf s k
+module _ (o : Order) (s : List ℕ) (k : ℕ) (h : Header) (is-h : h ≡ headerIn o s) where
+  pub slot-outside : h .returned ≤ k → Outside ≡ slotOf o s k
   slot-outside l = sym (rw (le-ltb _ _ (rw is-h at l)))
 
-  pub slot-holds : k < h .returned → (d : Descriptor) → d ≡ descriptorAt Little s k → Holds d ≡ slotOf s k
+  pub slot-holds : k < h .returned → (d : Descriptor) → d ≡ descriptorAt o s k → Holds d ≡ slotOf o s k
   slot-holds l d is-d = rw is-d (sym (rw (lt-ltb _ _ (rw is-h at l))))

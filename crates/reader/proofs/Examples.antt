@@ -1,12 +1,15 @@
 -- The definitions tried: G1's page is read, and each offence is found at its place, the first before the others.
 use Prim.Native.Nat.{ℕ}
-use mathlib.Core.Bool.{false}
-use mathlib.Core.List.{List, _∷_, _++_}
+use mathlib.Core.Bool.{Bool, true, false}
+use mathlib.Core.List.{List, [], _∷_, _++_}
 use mathlib.Core.Path.{_≡_, refl}
+use lib.Dec.{eqb}
 use lib.ListN.{replicate, set, take}
 use Rattle.layout.specs.Requests.{refused, takesHealth}
 use Rattle.layout.specs.declared.Request.{Request}
-use Rattle.paper.specs.Told.{Told, tells}
+use Rattle.paper.specs.Told.{tells}
+use Rattle.words.specs.Lists.{all}
+use Rattle.words.specs.declared.Order.the-variants.{Little, Big}
 use Rattle.reader.specs.Judgement.{Values, header, place, readOf, slotOf}
 use Rattle.reader.specs.declared.Slot.the-variants.{Outside, Holds}
 
@@ -16,38 +19,66 @@ request feature count lba = record { feature = feature; count = record { 0 = cou
 abbrev zeros : ℕ → List ℕ
 zeros n = replicate n 0
 
+-- header and descriptor
+abbrev front : List ℕ
+front = (1 ∷ zeros 3) ++ (1 ∷ zeros 7) ++ (2 ∷ zeros 23) ++ (0x03 ∷ 0x00 ∷ 0x01 ∷ 0x00 ∷ zeros 6) ++ (0x01 ∷ 0x70 ∷ 0xF4 ∷ 0x01 ∷ zeros 14)
+
 abbrev g1 : List ℕ
-g1 = (1 ∷ zeros 3) ++ (1 ∷ zeros 7) ++ (2 ∷ zeros 23) ++ (0x03 ∷ 0x00 ∷ 0x01 ∷ 0x00 ∷ zeros 6) ++ (0x01 ∷ 0x70 ∷ 0xF4 ∷ 0x01 ∷ zeros 462)
+g1 = front ++ zeros 448
 
--- read as the answer to a request of one page, with a byte of the page changed
-abbrev changed : ℕ → ℕ → ℕ → ℕ → Told Values
-changed feature lba at byte = readOf (set g1 at byte) (request feature 1 lba)
-
-abbrev at : ℕ → Told Values
-at p = tells 9 (place p)
-
-pub G1-read : readOf g1 (request 0x4100 1 0) ≡ tells 0 (header (record { number = 1; returned = 1; busy = record { 0 = 0 }; limit = 2; removed = 0 }))
+G1-read : readOf Little g1 (request 0x4100 1 0) ≡ tells 0 (header (record { number = 1; returned = 1; busy = record { 0 = 0 }; limit = 2; removed = 0 }))
 unfolding refused takesHealth
 G1-read = refl
 
-pub G1-slots : (slotOf g1 0 ≡ Holds (record { id = record { 0 = 0x0001_0003 }; restorable = false; kind = 1; health = 0x70; capacity = 500 }))
-    × (slotOf g1 1 ≡ Outside)
+G1-slots : (slotOf Little g1 0 ≡ Holds (record { id = record { 0 = 0x0001_0003 }; restorable = false; kind = 1; health = 0x70; capacity = 500 }))
+    × (slotOf Little g1 1 ≡ Outside)
 G1-slots = (refl, refl)
 
--- a request due 4, a length that is not 512p, a returned number that is not the smaller
-page-offences : (readOf g1 (request 0x8000 1 0) ≡ at 0) × (readOf g1 (request 0x4100 0 0) ≡ at 0) × (readOf g1 (request 0x4100 2 0) ≡ at 0)
-    × (readOf (take 511 g1) (request 0x4100 1 0) ≡ at 0) × (changed 0x4100 0 4 0 ≡ at 4) × (changed 0x4100 0 0 2 ≡ at 4)
-unfolding refused takesHealth
-page-offences = (refl, refl, refl, refl, refl, refl)
+-- ## A byte or two changed, or another request
 
--- identifier 0 and below the start; the bit unearned; type and health; padding; reserved bytes are not looked at
-descriptor-offences : (readOf (set (set g1 36 0) 38 0) (request 0x4100 1 0) ≡ at 36) × (changed 0x4100 0x0001_0004 0 1 ≡ at 36)
-    × (changed 0x4100 0 45 1 ≡ at 45) × (changed 0x4100 0 46 2 ≡ at 46) × (changed 0x4100 0 47 0x64 ≡ at 47) × (changed 0x4100 0 511 7 ≡ at 511)
-    × (changed 0x4100 0 16 7 ≡ readOf g1 (request 0x4100 1 0)) × (changed 0x4100 0 45 2 ≡ readOf g1 (request 0x4100 1 0))
-unfolding refused takesHealth
-descriptor-offences = (refl, refl, refl, refl, refl, refl, refl, refl)
+abbrev isAt : ℕ → Values → Bool
+isAt p (header h) = false
+isAt p (place r) = eqb p r
 
--- the first of several
-first-offence : (readOf (set (set (set g1 45 1) 46 2) 511 7) (request 0x4100 1 0) ≡ at 45) × (readOf (set (set g1 47 0) 64 9) (request 0x4100 1 0) ≡ at 47)
+-- refused at the place, for a request
+abbrev refusedFor : Request → ℕ → List ℕ → Bool
+refusedFor q p s = isAt p (readOf Little s q .state)
+
+-- for G1's
+abbrev refusedAt : ℕ → List ℕ → Bool
+refusedAt p s = refusedFor (request 0x4100 1 0) p s
+
+tried : all (λ (b : Bool). b)
+    -- a request due 4, a length that is not 512p, a returned number that is not the smaller
+    (refusedFor (request 0x8000 1 0) 0 g1
+    ∷ refusedFor (request 0x4100 0 0) 0 g1
+    ∷ refusedFor (request 0x4100 2 0) 0 g1
+    ∷ refusedAt 0 (take 511 g1)
+    ∷ refusedAt 4 (set g1 4 0)
+    ∷ refusedAt 4 (set g1 0 2)
+    -- identifier 0 and below the start; the bit unearned; type and health
+    ∷ refusedAt 36 (set (set g1 36 0) 38 0)
+    ∷ refusedFor (request 0x4100 1 0x0001_0004) 36 g1
+    ∷ refusedAt 45 (set g1 45 1)
+    ∷ refusedAt 46 (set g1 46 2)
+    ∷ refusedAt 47 (set g1 47 0x64)
+    -- the first of several
+    ∷ refusedAt 45 (set (set (set g1 45 1) 46 2) 511 7)
+    ∷ refusedAt 47 (set (set g1 47 0) 64 9)
+    -- in the other order N is 0100_0000h
+    ∷ isAt 4 (readOf Big g1 (request 0x4100 1 0) .state)
+    ∷ []) ≡ true
 unfolding refused takesHealth
-first-offence = (refl, refl)
+tried = refl
+
+-- ## Read to the last byte
+
+-- padding is looked at
+padding : readOf Little (front ++ zeros 447 ++ (7 ∷ [])) (request 0x4100 1 0) .state ≡ place 511
+unfolding refused takesHealth
+padding = refl
+
+-- reserved bytes are not
+reserved : readOf Little (set (set front 16 7) 45 2 ++ zeros 448) (request 0x4100 1 0) .number ≡ 0
+unfolding refused takesHealth
+reserved = refl

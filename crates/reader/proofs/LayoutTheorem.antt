@@ -1,26 +1,24 @@
 -- The layout theorem: the reader takes exactly the pages that keep each rule, and refuses any other at the first that is broken.
 use Prim.Native.Nat.{ℕ, _+_, _-_, _*_, _≤_, _<_}
-use mathlib.Core.Bool.{Bool, true, false, not, _&&_, _||_, or-true, false≢true}
+use mathlib.Core.Bool.{Bool, true, false, not, _&&_, false≢true}
 use mathlib.Core.List.{List, _∷_, _++_}
-use mathlib.Core.Logic.{_⊎_, inl, inr, ⊎-elim}
 use mathlib.Core.Path.{_≡_, refl, ap, subst}
 use native.Mathlib.Omega.{arith}
-use lib.Dec.{eqb, leb, ltb}
+use lib.Dec.{eqb, ltb}
 use lib.ListN.{length, getD}
 use borrow.Author.Tests.{eq-eqb, ne-eqb, le-leb, lt-leb, le-ltb, lt-ltb, eqb-true, eqb-false, leb-true, ltb-true, not-true}
-use Rattle.layout.proofs.Requests.{accepted}
+use Rattle.layout.proofs.Requests.{accepted, implied, implies, type-exactly, health-exactly}
 use Rattle.layout.specs.Bytes.{headerIn, returnedOf}
 use Rattle.layout.specs.Requests.{filterOf, reportTypeOf, pagesOf, startOf, refused, takesId, takesType, takesHealth}
 use Rattle.layout.specs.declared.Descriptor.{Descriptor}
 use Rattle.layout.specs.declared.Header.{Header}
 use Rattle.layout.specs.declared.Request.{Request}
 use Rattle.paper.specs.Told.{Told, tells}
-use Rattle.words.specs.declared.Order.the-variants.{Little}
 use Rattle.words.specs.declared.Order.{Order}
 use Rattle.reader.specs.Checks.{baseOf, descriptorAt, lastBefore, inTurn, earned, checkOf, offenceAt, paddingAt, pageOffence}
 use Rattle.reader.specs.First.{unless, _orElse_, firstBelow}
 use Rattle.reader.specs.Judgement.{Values, header, place, answerOf, readOf}
-use Rattle.reader.specs.Layout.{Rule, rule, below, Asked, InFilter, descriptorRules, rulesAt, paddingRules, pageRules}
+use Rattle.reader.specs.Layout.{Rule, rule, below, Asked, descriptorRules, rulesAt, paddingRules, pageRules}
 use Rattle.reader.specs.Promises.{Takes-exactly, Refuses-exactly}
 use Rattle.reader.specs.declared.Offence.the-variants.{Clean, At}
 use Rattle.reader.specs.declared.Offence.{Offence}
@@ -31,19 +29,6 @@ use Rattle.reader.proofs.Rules.{Decides, one, join, next, all-below, cl
 pub and-both : (a b : Bool) → (a && b) ≡ true → (a ≡ true) × (b ≡ true)
 and-both true b e = (refl, e)
 and-both false b e = absurd (false≢true e)
-
-or-either : (a b : Bool) → (a || b) ≡ true → (a ≡ true) ⊎ (b ≡ true)
-or-either true b e = inl refl
-or-either false b e = inr e
-
--- "if the first then the second", tested
-implied : (a b : Bool) → (not a || b) ≡ true → a ≡ true → b ≡ true
-implied true b e y = e
-implied false b e y = absurd (false≢true y)
-
-implies : (a b : Bool) → (a ≡ true → b ≡ true) → (not a || b) ≡ true
-implies true b f = f refl
-implies false b f = refl
 
 asked-to : (q : Request) → not (refused q) ≡ true → Asked q
 asked-to q e = accepted q (not-true _ e)
@@ -63,46 +48,23 @@ module _ (q : Request) (last id : ℕ) where
   turn-from : (1 ≤ id) × (startOf q ≤ id) × (last < id) → inTurn q last id ≡ true
   turn-from (some, from, after) = rw (ne-eqb id 0 (omega arith), le-leb (startOf q) id from, lt-ltb last id after)
 
-in-filter-to : (h : ℕ) → ((leb 0x65 h && leb h 0xCF) || eqb h 0xFF) ≡ true → InFilter h
-in-filter-to h e =
-    ⊎-elim
-    (λ x. let b = and-both (leb 0x65 h) (leb h 0xCF) x in inl (leb-true _ _ (b .0), leb-true _ _ (b .1)))
-    (λ x. inr (eqb-true _ _ x))
-    (or-either (leb 0x65 h && leb h 0xCF) (eqb h 0xFF) e)
-
-in-filter-from : (h : ℕ) → InFilter h → ((leb 0x65 h && leb h 0xCF) || eqb h 0xFF) ≡ true
-in-filter-from h (inl (low, high)) = rw (le-leb 0x65 h low, le-leb h 0xCF high)
-in-filter-from h (inr e) = rw (eq-eqb h 0xFF e, or-true)
-
-module _ (q : Request) (d : Descriptor) where
+module _ (d : Descriptor) where
   earned-to : earned d ≡ true → d .restorable ≡ true → d .health ≡ 0xFF
   earned-to e y = eqb-true _ _ (implied (d .restorable) (eqb (d .health) 0xFF) e y)
 
   earned-from : (d .restorable ≡ true → d .health ≡ 0xFF) → earned d ≡ true
   earned-from f = implies (d .restorable) (eqb (d .health) 0xFF) (λ y. eq-eqb _ _ (f y))
 
-  pub type-to : takesType (reportTypeOf q) (d .kind) ≡ true → reportTypeOf q ≡ 1 → d .kind ≡ 1
-  type-to e y = eqb-true _ _ (implied (eqb (reportTypeOf q) 1) (eqb (d .kind) 1) e (eq-eqb _ _ y))
-
-  type-from : (reportTypeOf q ≡ 1 → d .kind ≡ 1) → takesType (reportTypeOf q) (d .kind) ≡ true
-  type-from f = implies (eqb (reportTypeOf q) 1) (eqb (d .kind) 1) (λ y. eq-eqb _ _ (f (eqb-true _ _ y)))
-
-  pub health-to : takesHealth (filterOf q) (d .health) ≡ true → filterOf q ≡ 1 → InFilter (d .health)
-  unfolding takesHealth
-  health-to e y = in-filter-to (d .health) (implied (eqb (filterOf q) 1) _ e (eq-eqb _ _ y))
-
-  health-from : (filterOf q ≡ 1 → InFilter (d .health)) → takesHealth (filterOf q) (d .health) ≡ true
-  unfolding takesHealth
-  health-from f = implies (eqb (filterOf q) 1) _ (λ y. in-filter-from (d .health) (f (eqb-true _ _ y)))
-
 -- ## The checks decide the rules
 
 descriptor-decides : (q : Request) (last base : ℕ) (d : Descriptor) → Decides (checkOf q last base d) (descriptorRules q last base d)
 descriptor-decides q last base d =
+    let type = type-exactly (reportTypeOf q) (d .kind) in
+    let health = health-exactly (filterOf q) (d .health) in
     next (inTurn q last (d .id .0)) (rule (base + 4) _) (turn-to q last (d .id .0)) (turn-from q last (d .id .0)) _ _
-    (next (earned d) (rule (base + 13) _) (earned-to q d) (earned-from q d) _ _
-    (next (takesType (reportTypeOf q) (d .kind)) (rule (base + 14) _) (type-to q d) (type-from q d) _ _
-    (one (takesHealth (filterOf q) (d .health)) (rule (base + 15) _) (health-to q d) (health-from q d))))
+    (next (earned d) (rule (base + 13) _) (earned-to d) (earned-from d) _ _
+    (next (takesType (reportTypeOf q) (d .kind)) (rule (base + 14) _) (type .0) (type .1) _ _
+    (one (takesHealth (filterOf q) (d .health)) (rule (base + 15) _) (health .0) (health .1))))
 
 next-same : (a b p : ℕ) (c : Offence) (rs : List Rule) → Decides c rs → Decides (unless (eqb a b) p orElse c) (rule p (a ≡ b) ∷ rs)
 next-same a b p = next (eqb a b) (rule p (a ≡ b)) (eqb-true a b) (eq-eqb a b)
@@ -142,23 +104,23 @@ unfolding placed
 refused-at Clean h p e = absurd (let no : _≡_ {A = ℕ} 0 9 = ap (λ (t : Told Values). t .number) e in omega arith)
 refused-at (At r) h p e = ap At (ap (λ (t : Told Values). placed (t .state)) e)
 
-module _ (s : List ℕ) (q : Request) where
-  decided : (a : Offence) → pageOffence Little s q ≡ a → Decides a (pageRules Little s q)
-  decided a e = subst (λ (x : Offence). Decides x (pageRules Little s q)) e (page-decides Little s q)
+module _ (o : Order) (s : List ℕ) (q : Request) where
+  decided : (a : Offence) → pageOffence o s q ≡ a → Decides a (pageRules o s q)
+  decided a e = subst (λ (x : Offence). Decides x (pageRules o s q)) e (page-decides o s q)
 
-  said : (a : Offence) → pageOffence Little s q ≡ a → readOf s q ≡ answerOf a (headerIn Little s)
-  said a e = ap (λ (x : Offence). answerOf x (headerIn Little s)) e
+  said : (a : Offence) → pageOffence o s q ≡ a → readOf o s q ≡ answerOf a (headerIn o s)
+  said a e = ap (λ (x : Offence). answerOf x (headerIn o s)) e
 
 pub takes-exactly : Takes-exactly
-takes-exactly s q = (
-  λ e. decided s q Clean (taken (pageOffence Little s q) (headerIn Little s) e),
-  λ each. said s q Clean (clean-if (pageOffence Little s q) (pageRules Little s q) (page-decides Little s q) each),
+takes-exactly o s q = (
+  λ e. decided o s q Clean (taken (pageOffence o s q) (headerIn o s) e),
+  λ each. said o s q Clean (clean-if (pageOffence o s q) (pageRules o s q) (page-decides o s q) each),
 )
 
 pub refuses-exactly : Refuses-exactly
-refuses-exactly s q p = (
-  λ e. decided s q (At p) (refused-at (pageOffence Little s q) (headerIn Little s) p e),
-  λ first. said s q (At p) (at-if (pageOffence Little s q) (pageRules Little s q) p (page-decides Little s q) first),
+refuses-exactly o s q p = (
+  λ e. decided o s q (At p) (refused-at (pageOffence o s q) (headerIn o s) p e),
+  λ first. said o s q (At p) (at-if (pageOffence o s q) (pageRules o s q) p (page-decides o s q) first),
 )
 
 -- ## A header that was given
@@ -177,5 +139,5 @@ header-of Clean g h e = (refl, ap (given g) e)
 header-of (At p) g h e = absurd (let no : _≡_ {A = ℕ} 1 0 = ap tag e in omega arith)
 
 -- it goes with 0, and is the page's
-pub with-header : (s : List ℕ) (q : Request) (h : Header) → readOf s q .state ≡ header h → (readOf s q .number ≡ 0) × (headerIn Little s ≡ h)
-with-header s q h = header-of (pageOffence Little s q) (headerIn Little s) h
+pub with-header : (o : Order) (s : List ℕ) (q : Request) (h : Header) → readOf o s q .state ≡ header h → (readOf o s q .number ≡ 0) × (headerIn o s ≡ h)
+with-header o s q h = header-of (pageOffence o s q) (headerIn o s) h

@@ -6,3 +6,4 @@ pub mod First
 pub mod LayoutTheorem
 pub mod Once
 pub mod Rules
+pub mod Taken

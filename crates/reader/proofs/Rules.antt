@@ -3,8 +3,10 @@ use Prim.Native.Nat.{ℕ, zero, suc, _<_}
 use mathlib.Core.Bool.{Bool, true, false, false≢true}
 use mathlib.Core.List.{List, [], _∷_, _++_}
 use mathlib.Core.Logic.{inl, inr}
-use mathlib.Core.Path.{_≡_, refl, sym, ap, _∙_}
+use mathlib.Core.Path.{_≡_, refl, sym, ap, subst, _∙_}
 use native.Mathlib.Omega.{arith}
+use lib.Dec.{eqb}
+use borrow.Author.Tests.{eqb-true, eqb-false}
 use Rattle.reader.specs.First.{unless, _orElse_, firstBelow}
 use Rattle.reader.specs.Layout.{Rule, Each, FirstBroken, below}
 use Rattle.reader.specs.declared.Offence.the-variants.{Clean, At}
@@ -50,6 +52,24 @@ all-below (suc n) f g v = join (firstBelow n f) (f n) (below n g) (g n) (all-bel
 pub each-below : (n : ℕ) (g : ℕ → List Rule) → ((k : ℕ) → k < n → Each (g k)) → Each (below n g)
 each-below zero g v = tt
 each-below (suc n) g v = each-both (below n g) (g n) (each-below n g (λ k l. v k (omega arith))) (v n (omega arith))
+
+-- ## And taken apart
+
+pub each-first : (rs ss : List Rule) → Each (rs ++ ss) → Each rs
+each-first [] ss e = tt
+each-first (r ∷ rs) ss (h, e) = (h, each-first rs ss e)
+
+pub each-second : (rs ss : List Rule) → Each (rs ++ ss) → Each ss
+each-second [] ss e = e
+each-second (r ∷ rs) ss (h, e) = each-second rs ss e
+
+pub each-at : (n : ℕ) (g : ℕ → List Rule) → Each (below n g) → (k : ℕ) → k < n → Each (g k)
+each-at zero g e k l = absurd (omega arith)
+each-at (suc n) g e k l = by-test (eqb k n) refl (each-at n g (each-first (below n g) (g n) e) k)
+  where
+    by-test : (b : Bool) → eqb k n ≡ b → (k < n → Each (g k)) → Each (g k)
+    by-test true p before = subst (λ (j : ℕ). Each (g j)) (sym (eqb-true k n p)) (each-second (below n g) (g n) e)
+    by-test false p before = before (omega (arith, eqb-false k n p))
 
 -- ## Decided one way only
 

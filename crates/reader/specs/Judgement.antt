@@ -7,7 +7,7 @@ use Rattle.layout.specs.Bytes.{headerIn}
 use Rattle.layout.specs.declared.Header.{Header}
 use Rattle.layout.specs.declared.Request.{Request}
 use Rattle.paper.specs.Told.{Told, tells}
-use Rattle.words.specs.declared.Order.the-variants.{Little}
+use Rattle.words.specs.declared.Order.{Order}
 use Rattle.reader.specs.Checks.{descriptorAt, pageOffence}
 use Rattle.reader.specs.declared.Judgement.the-variants.{Accepted, Refused}
 use Rattle.reader.specs.declared.Judgement.{Judgement}
@@ -30,9 +30,9 @@ abbrev pub answerOf : Offence → Header → Told Values
 answerOf Clean h = tells 0 (header h)
 answerOf (At p) h = tells 9 (place p)
 
--- pages are little-endian
-abbrev pub readOf : List ℕ → Request → Told Values
-readOf s q = answerOf (pageOffence Little s q) (headerIn Little s)
+-- a page whose numbers are in an order; document 01's are little-endian
+abbrev pub readOf : Order → List ℕ → Request → Told Values
+readOf o s q = answerOf (pageOffence o s q) (headerIn o s)
 
-abbrev pub slotOf : List ℕ → ℕ → Slot
-slotOf s k = cond (ltb k (headerIn Little s .returned)) (Holds (descriptorAt Little s k)) Outside
+abbrev pub slotOf : Order → List ℕ → ℕ → Slot
+slotOf o s k = cond (ltb k (headerIn o s .returned)) (Holds (descriptorAt o s k)) Outside

@@ -5,25 +5,25 @@ use mathlib.Core.Path.{_≡_}
 use Rattle.layout.specs.Bytes.{headerIn}
 use Rattle.layout.specs.declared.Request.{Request}
 use Rattle.paper.specs.Told.{tells}
-use Rattle.words.specs.declared.Order.the-variants.{Little}
+use Rattle.words.specs.declared.Order.{Order}
 use Rattle.reader.specs.Judgement.{header, place, heard, readOf}
 use Rattle.reader.specs.Layout.{Each, FirstBroken, pageRules}
 use Rattle.reader.specs.declared.Judgement.{Judgement}
 
 -- no second answer fits
 abbrev pub One-judgement : Type 0
-One-judgement = (s : List ℕ) (q : Request) (a b : Judgement) → heard a ≡ readOf s q → heard b ≡ readOf s q → a ≡ b
+One-judgement = (o : Order) (s : List ℕ) (q : Request) (a b : Judgement) → heard a ≡ readOf o s q → heard b ≡ readOf o s q → a ≡ b
 
--- ## The layout theorem
+-- ## The layout theorem, in either byte order
 
 -- a page is taken, with its header's numbers, exactly if it keeps each rule
 abbrev pub Takes-exactly : Type 0
 Takes-exactly =
-    (s : List ℕ) (q : Request)
-    → (readOf s q .number ≡ 0 → Each (pageRules Little s q)) × (Each (pageRules Little s q) → readOf s q ≡ tells 0 (header (headerIn Little s)))
+    (o : Order) (s : List ℕ) (q : Request)
+    → (readOf o s q .number ≡ 0 → Each (pageRules o s q)) × (Each (pageRules o s q) → readOf o s q ≡ tells 0 (header (headerIn o s)))
 
 -- it is refused at a place exactly if the first rule that it breaks has that place
 abbrev pub Refuses-exactly : Type 0
 Refuses-exactly =
-    (s : List ℕ) (q : Request) (p : ℕ)
-    → (readOf s q ≡ tells 9 (place p) → FirstBroken (pageRules Little s q) p) × (FirstBroken (pageRules Little s q) p → readOf s q ≡ tells 9 (place p))
+    (o : Order) (s : List ℕ) (q : Request) (p : ℕ)
+    → (readOf o s q ≡ tells 9 (place p) → FirstBroken (pageRules o s q) p) × (FirstBroken (pageRules o s q) p → readOf o s q ≡ tells 9 (place p))

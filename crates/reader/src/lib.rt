@@ -1,14 +1,17 @@
 // The host's reader of a status page: the page and the request that it answers, checked in document 01's order. A page is read in place.
 ghost use mathlib.Core.Path.{_≡_};
-ghost use Prim.Native.Nat.{_+_, _-_, _*_, _^_, _≤_, _<_, min};
+ghost use Prim.Native.Nat.{_+_, _-_, _*_, _^_, _≤_, _<_};
 ghost use lib.ListN.{length};
+ghost use Rattle.layout.specs.Bytes.{returnedOf};
 ghost use Rattle.reader.specs.Checks.{descriptorAt, inTurn, earned, checkOf, offenceAt, paddingAt, contentsOf};
 ghost use Rattle.reader.specs.First.{firstBelow};
 ghost use Rattle.reader.specs.Judgement as paper;
+ghost use Rattle.words.specs.declared.Order.the-variants.{Little};
 use layout::Descriptor;
 use layout::Header;
 use layout::Request;
 use paper::ElementId;
+use paper::PageCount;
 use words::Order;
 
 // What a check finds: nothing, or the place of an offence.
@@ -127,10 +130,11 @@ fn check_contents(page: &[u8], request: Request, count: u32, o: Order) -> Offenc
     check_padding(page, 32 + 32 * (count as usize))
 }
 
-fn smaller(a: u32, b: u32) -> u32
-    ensures { λ r. ⌜ r ≡ min a b ⌝ }
+fn returned_of(number: u32, pages: PageCount) -> usize
+    requires { ⌜ 1 ≤ pages .0 ⌝ }
+    ensures { λ r. ⌜ r ≡ returnedOf number (pages .0) ⌝ }
 {
-    if a < b { a } else { b }
+    words::smaller(number as usize, 16 * (pages.0 as usize) - 1)
 }
 
 fn answer(found: Offence, h: Header) -> Judgement
@@ -144,7 +148,7 @@ fn answer(found: Offence, h: Header) -> Judgement
 
 // A page as the answer to a request.
 pub fn read(page: &[u8], request: Request) -> Judgement
-    ensures { λ r. ⌜ paper.heard r ≡ paper.readOf (now (page .entry)) request ⌝ }
+    ensures { λ r. ⌜ paper.heard r ≡ paper.readOf Little (now (page .entry)) request ⌝ }
 {
     if request.is_refused() {
         return Judgement::Refused(0);
@@ -153,7 +157,7 @@ pub fn read(page: &[u8], request: Request) -> Judgement
         return Judgement::Refused(0);
     }
     let h = Header::read(page, Order::Little);
-    if h.returned != smaller(h.number, 16 * (request.count.0 as u32) - 1) {
+    if h.returned as usize != returned_of(h.number, request.count) {
         return Judgement::Refused(4);
     }
     answer(check_contents(page, request, h.returned, Order::Little), h)
@@ -161,7 +165,7 @@ pub fn read(page: &[u8], request: Request) -> Judgement
 
 // Descriptor k of a page; outside at or above returned. A byte past the end counts as 0.
 pub fn descriptor(page: &[u8], k: u32) -> Slot
-    ensures { λ r. ⌜ r ≡ paper.slotOf (now (page .entry)) k ⌝ }
+    ensures { λ r. ⌜ r ≡ paper.slotOf Little (now (page .entry)) k ⌝ }
 {
     let h = Header::read(page, Order::Little);
     if h.returned <= k {

@@ -1,6 +1,6 @@
 -- `compare::descriptor_part`.
 use borrow.Author.Needs.{needs}
-use Rattle.compare.proofs.Portions.{part-none, part-whole, part-short}
+use Rattle.compare.proofs.Portions.{part-none, part-there}
 use Rattle.compare.proofs.descriptor_part.Statement.{statement}
 use Rattle.compare.proofs.descriptor_part.Tie as tie
 
@@ -13,10 +13,6 @@ descriptor-part-spec =
     (λ c. search (part-none))
     (λ c. search needs)
     (λ c. search needs)
-    (λ c. search needs)
-    (λ c. search needs)
-    (λ c. search (part-short))
-    (λ c. search needs)
-    (λ c. search needs)
-    (λ c. search needs)
-    (λ c. search (part-whole)))
+    (λ c κs. search needs)
+    (λ c κs. search needs)
+    (λ c. search (part-there)))

@@ -13,9 +13,10 @@ do-agree-spec =
     (λ c κs. search needs)
     (λ c κs. search needs)
     (λ c. (search (agree-other), λ y. absurd (false≢true y)))
+    (λ c. search needs)
     (λ c. (search (agree-beyond), λ y. absurd (false≢true y)))
     (λ c κs. search needs)
     (λ c κs. search needs)
     (λ c κs. search needs)
-    (λ c. let second = c .before .before .before .before .before in
-    (search (agree-alike), λ y. (second .before .id-within .ensures .1 (omega arith), second .id-within2 .ensures .1 (omega arith)))))
+    (λ c. let second = c .before .before .before .before .before .before in
+    (search (agree-alike), λ y. (second .before .key-at .ensures .1 (omega arith), second .key-at2 .ensures .1 (omega arith)))))

@@ -1,6 +1,5 @@
 -- `compare::open`.
 use borrow.Author.Needs.{needs}
-use borrow.Author.Tests.{not-true, not-false}
 use Rattle.compare.proofs.Bounds.{open-older, open-newer, open-both}
 use Rattle.compare.proofs.open.Statement.{statement}
 use Rattle.compare.proofs.open.Tie as tie
@@ -10,8 +9,12 @@ open-spec =
     tie.close
     (tie.spec
     (λ c κs. search needs)
-    (λ c. search (open-older, not-true))
+    (λ c. search needs)
+    (λ c. search (open-older))
+    (λ c. search needs)
     (λ c κs. search needs)
-    (λ c. search (open-newer, not-true, not-false))
+    (λ c. search needs)
+    (λ c. search (open-newer))
+    (λ c. search needs)
     (λ c κs. search needs)
-    (λ c. search (open-both, not-false)))
+    (λ c. search (open-both)))

@@ -1,7 +1,6 @@
--- `compare::step_at`. The nearer identifier is up to the end, so it stands in its page, and the place after it is a number.
-use native.Mathlib.Omega.{arith}
+-- `compare::step_at`. The nearer key is up to the end, so it stands in its page, and the place after it is a number.
 use borrow.Author.Needs.{needs}
-use Rattle.compare.proofs.Steps.{least-first, least-second, step-done, step-older, step-newer, step-changed}
+use Rattle.compare.proofs.Steps.{least-first, least-second, step-done, step-found}
 use Rattle.compare.proofs.step_at.Statement.{statement}
 use Rattle.compare.proofs.step_at.Tie as tie
 
@@ -11,23 +10,12 @@ step-at-spec =
     (tie.spec
     (λ c κs. search needs)
     (λ c κs. search needs)
+    (λ c. search needs)
     (λ c κs. search needs)
     (λ c. search (step-done))
-    (λ c. let near = c .before in
-    let low = least-first _ _ _ _ (near .before .smaller .ensures) (near .if1 .left) (omega arith) in
-    omega (arith, near .before .before .before .id-within .ensures .1 low))
-    (λ c κs. search needs)
-    (λ c. search (step-older))
-    (λ c. let near = c .before .before in
-    let low = least-second _ _ _ _ (near .before .smaller .ensures) (near .if1 .left) (omega arith) in
-    omega (arith, near .before .before .id-within2 .ensures .1 low))
-    (λ c κs. search needs)
-    (λ c. search (step-newer))
-    (λ c. let near = c .before .before in
-    let low = least-first _ _ _ _ (near .before .smaller .ensures) (near .if1 .left) (omega arith) in
-    omega (arith, near .before .before .before .id-within .ensures .1 low))
-    (λ c. let near = c .before .before in
-    let low = least-second _ _ _ _ (near .before .smaller .ensures) (near .if1 .left) (omega arith) in
-    omega (arith, near .before .before .id-within2 .ensures .1 low))
-    (λ c κs. search needs)
-    (λ c. search (step-changed)))
+    (λ c κs. let keys = c .before .before .before in
+    let nearer = c .before .smaller .ensures in (
+      λ l. keys .before .key-at .ensures .1 (least-first _ _ _ _ nearer (c .if1 .left) l),
+      λ l. keys .key-at2 .ensures .1 (least-second _ _ _ _ nearer (c .if1 .left) l),
+    ))
+    (λ c. search (step-found)))

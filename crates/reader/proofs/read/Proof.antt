@@ -1,6 +1,6 @@
 -- `reader::read`: a law for each way out.
 use borrow.Author.Needs.{needs}
-use Rattle.reader.proofs.Checks.{read-refused, read-long, some-room, read-returned, list-fits, read-contents}
+use Rattle.reader.proofs.Checks.{read-refused, read-long, some-pages, read-returned, list-fits, read-contents}
 use Rattle.reader.proofs.read.Statement.{statement}
 use Rattle.reader.proofs.read.Tie as tie
 
@@ -15,9 +15,7 @@ read-spec =
     (λ c. search (read-long))
     (λ c κs. search needs)
     (λ c. search needs)
-    (λ c. search needs)
-    (λ c. search (some-room))
-    (λ c κs. search needs)
+    (λ c κs. search (some-pages))
     (λ c. search (read-returned))
     (λ c κs. search (list-fits))
     (λ c κs. search needs)

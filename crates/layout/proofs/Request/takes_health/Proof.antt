@@ -1,6 +1,6 @@
 -- `layout::Request::takes_health`: a law for each way out.
 use borrow.Author.Needs.{needs}
-use Rattle.layout.proofs.Requests.{filter-any, filter-low, filter-slow, filter-high}
+use Rattle.layout.proofs.Requests.{filter-any, filter-slow, filter-removed}
 use Rattle.layout.proofs.Request.takes_health.Statement.{statement}
 use Rattle.layout.proofs.Request.takes_health.Tie as tie
 
@@ -10,6 +10,6 @@ takes-health-spec =
     (tie.spec
     (λ c κs. search needs)
     (λ c. search (filter-any))
-    (λ c. search (filter-low))
+    (λ c κs. search needs)
     (λ c. search (filter-slow))
-    (λ c. search (filter-high)))
+    (λ c. search (filter-removed)))
