@@ -1,5 +1,5 @@
 -- 80,000 bytes are enough for every listing (specs/Promises).
-use Prim.Native.Nat.{ℕ, _-_, _*_, _/_, _≤_}
+use Prim.Native.Nat.{ℕ, _-_, _*_, _/_, _%_, _≤_}
 use mathlib.Core.Bool.{Bool, true, false, cond}
 use mathlib.Core.List.{List}
 use mathlib.Core.Path.{_≡_, refl, ap}
@@ -27,8 +27,8 @@ few-read s short = by-values (readOf s (requestOf s) .state) refl
     by-values (place p) e = omega arith
     by-values (header h) e =
         let (is-0, is-h) = with-header s (requestOf s) h e in
-        let cut : headerIn Little s .returned ≡ returnedOf (headerIn Little s .number) (length s / 512) = takes-exactly s (requestOf s) .0 is-0 .1 .1 .0 in
-        omega (arith, cut, ap (λ (g : Header). g .returned) is-h, min-le-right (headerIn Little s .number) (16 * (length s / 512) - 1))
+        let cut : headerIn Little s .returned ≡ returnedOf (headerIn Little s .number) (length s / 512 % 65536) = takes-exactly s (requestOf s) .0 is-0 .1 .1 .0 in
+        omega (arith, cut, ap (λ (g : Header). g .returned) is-h, min-le-right (headerIn Little s .number) (16 * (length s / 512 % 65536) - 1))
 
 few : (s : List ℕ) → lineCount (judged s .state) ≤ 2047
 few s = by-test (ltb 65536 (length s)) refl

@@ -17,6 +17,14 @@ unfolding written
 written-append t [] b = refl
 written-append t (x ∷ a) b = written-append (pushed t x) a b
 
+-- ## One call after another
+
+pub after : (t u r : Text) (a b : List ℕ) → r ≡ written u b → u ≡ written t a → r ≡ written t (a ++ b)
+after t u r a b is-r is-u = is-r ∙ rw is-u (sym (written-append t a b))
+
+pub begun : (u r : Text) (b : List ℕ) → r ≡ written u b → u ≡ nothing → r ≡ written nothing b
+begun u r b is-r is-u = is-r ∙ rw is-u
+
 -- ## The recursion of `spell`
 
 pub spell-none : (t : Text) (b n k : ℕ) → k ≡ 0 → t ≡ written t (digits b k n)
