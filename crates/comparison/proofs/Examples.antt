@@ -7,25 +7,34 @@ use Rattle.compare.proofs.Examples.{page, element, older, newer}
 use Rattle.compare.specs.Opening.{accepted}
 use Rattle.compare.specs.Pages.{countOf, elementAt, reachOf, boundOf}
 use Rattle.compare.specs.Parts.{descriptorPart}
-use Rattle.compare.specs.Walk.{idWithin, agreeAt, stepAt, past, nextTo, nextOf, walk, walkFrom}
+use Rattle.compare.specs.Walk.{first, idWithin, agreeAt, stepAt, past, nextTo, nextOf, walk, walkFrom}
 use Rattle.layout.specs.Requests.{refused, takesHealth}
 use Rattle.layout.specs.declared.Descriptor.{Descriptor}
 use Rattle.text.specs.Text.{ascii}
-use Rattle.comparison.specs.Comparison.{handed, olderOf, lineOf, judged, comparisonOf, linesFrom}
+use Rattle.comparison.specs.Comparison.{handed, olderOf, lineOf, lastLine, judged, comparisonOf, isAccepted, linesFrom}
 use Rattle.comparison.proofs.Accepted.{by-walk}
 
 -- a page of 512 bytes
 abbrev padded : List ℕ → List ℕ
 padded l = l ++ replicate (512 - length l) 0
 
+-- the text by the walk, with all that it is computed from
+walked : List ℕ → List ℕ → List ℕ
+unfolding refused takesHealth accepted countOf elementAt reachOf boundOf descriptorPart idWithin agreeAt stepAt past nextTo nextOf walk walkFrom handed olderOf lineOf judged linesFrom
+walked s t = linesFrom (isAccepted (judged s t .state)) s t first ++ lastLine (judged s t .state)
+
+walks : (s t : List ℕ) → comparisonOf s t ≡ walked s t
+unfolding walked
+walks s t = by-walk s t
+
 -- 1 gone, 3 unchanged, 4 new, 0001_0003h removed
 pub three : comparisonOf (padded older) (padded newer) ≡ ascii "- 00000001 01 20 500\n+ 00000004 01 00 500\n~ 00010003 01 FF 500 <- 01 70 500\n"
-unfolding refused takesHealth accepted countOf elementAt reachOf boundOf descriptorPart idWithin agreeAt stepAt past nextTo nextOf walk walkFrom handed olderOf lineOf judged linesFrom
-three = by-walk (padded older) (padded newer) ∙ refl
+unfolding walked
+three = walks (padded older) (padded newer) ∙ refl
 
 pub none : comparisonOf (padded newer) (padded newer) ≡ []
-unfolding refused takesHealth accepted countOf elementAt reachOf boundOf descriptorPart idWithin agreeAt stepAt past nextTo nextOf walk walkFrom handed olderOf lineOf judged linesFrom
-none = by-walk (padded newer) (padded newer) ∙ refl
+unfolding walked
+none = walks (padded newer) (padded newer) ∙ refl
 
 -- the older has 16, and room for 15: only these are compared
 abbrev upTo : ℕ → List Descriptor
@@ -33,13 +42,13 @@ upTo zero = []
 upTo (suc n) = upTo n ++ (element (suc n) 0x10 ∷ [])
 
 pub cut : comparisonOf (padded (page 16 15 (upTo 15))) (padded (page 14 14 (upTo 14))) ≡ ascii "- 0000000F 01 10 500\ncompared up to 0000000F\n"
-unfolding refused takesHealth accepted countOf elementAt reachOf boundOf descriptorPart idWithin agreeAt stepAt past nextTo nextOf walk walkFrom handed olderOf lineOf judged linesFrom
-cut = by-walk (padded (page 16 15 (upTo 15))) (padded (page 14 14 (upTo 14))) ∙ refl
+unfolding walked
+cut = walks (padded (page 16 15 (upTo 15))) (padded (page 14 14 (upTo 14))) ∙ refl
 
 pub refused-older : comparisonOf [] (padded newer) ≡ ascii "refused 9 older\n"
-unfolding refused takesHealth accepted judged comparisonOf
-refused-older = refl
+unfolding walked
+refused-older = walks [] (padded newer) ∙ refl
 
 pub refused-newer : comparisonOf (padded older) [] ≡ ascii "refused 9 newer\n"
-unfolding refused takesHealth accepted judged comparisonOf
-refused-newer = refl
+unfolding walked
+refused-newer = walks (padded older) [] ∙ refl
