@@ -1,15 +1,15 @@
 -- The text of small comparisons, computed from the definitions; where differences are counted through all identifiers, by the walk.
-use Prim.Native.Nat.{ℕ, zero, suc, _-_}
-use mathlib.Core.List.{List, [], _∷_, _++_}
+use Prim.Native.Nat.{ℕ, _-_}
+use mathlib.Core.List.{List, [], _++_}
 use mathlib.Core.Path.{_≡_, refl, _∙_}
 use lib.ListN.{length, replicate}
-use Rattle.compare.proofs.Examples.{page, element, older, newer}
-use Rattle.compare.specs.Opening.{accepted}
+use Rattle.compare.proofs.Examples.{older, newer}
+use Rattle.compare.specs.Opening.{bound, accepted}
 use Rattle.compare.specs.Pages.{countOf, elementAt, reachOf, boundOf}
 use Rattle.compare.specs.Parts.{descriptorPart}
 use Rattle.compare.specs.Walk.{first, idWithin, agreeAt, stepAt, past, nextTo, nextOf, walk, walkFrom}
+use Rattle.compare.specs.declared.Bound.the-variants.{UpTo}
 use Rattle.layout.specs.Requests.{refused, takesHealth}
-use Rattle.layout.specs.declared.Descriptor.{Descriptor}
 use Rattle.text.specs.Text.{ascii}
 use Rattle.comparison.specs.Comparison.{handed, olderOf, lineOf, lastLine, judged, comparisonOf, isAccepted, linesFrom}
 use Rattle.comparison.proofs.Accepted.{by-walk}
@@ -36,14 +36,9 @@ pub none : comparisonOf (padded newer) (padded newer) ≡ []
 unfolding walked
 none = walks (padded newer) (padded newer) ∙ refl
 
--- the older has 16, and room for 15: only these are compared
-abbrev upTo : ℕ → List Descriptor
-upTo zero = []
-upTo (suc n) = upTo n ++ (element (suc n) 0x10 ∷ [])
-
-pub cut : comparisonOf (padded (page 16 15 (upTo 15))) (padded (page 14 14 (upTo 14))) ≡ ascii "- 0000000F 01 10 500\ncompared up to 0000000F\n"
-unfolding walked
-cut = walks (padded (page 16 15 (upTo 15))) (padded (page 14 14 (upTo 14))) ∙ refl
+-- the last line of pages that were cut
+pub cut : lastLine (bound (UpTo (record { 0 = 15 }))) ≡ ascii "compared up to 0000000F\n"
+cut = refl
 
 pub refused-older : comparisonOf [] (padded newer) ≡ ascii "refused 9 older\n"
 unfolding walked

@@ -70,12 +70,12 @@ length-values d = simp length-append (omega (arith, length-capacity (d .capacity
 pub length-line : (d : Descriptor) → length (descriptorLine d) ≤ 36
 length-line d = simp length-append (omega (arith, length-capacity (d .capacity)))
 
-pub length-header : (h : Header) → length (headerLine h) ≤ 128
+length-header : (h : Header) → length (headerLine h) ≤ 128
 length-header h =
     simp length-append
     (omega (arith, length-decimal (h .number), length-decimal (h .returned), length-decimal (h .limit), length-decimal (h .removed)))
 
-pub length-refused : (p : ℕ) → length (refusedLine p) ≤ 128
+length-refused : (p : ℕ) → length (refusedLine p) ≤ 128
 length-refused p = simp length-append (omega (arith, length-decimal p))
 
 pub length-first : (v : Values) → length (firstLine v) ≤ 128

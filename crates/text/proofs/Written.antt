@@ -70,7 +70,7 @@ holding-all l (b ∷ m) h =
     let g : length (l ++ (b ∷ [])) + length m ≤ 160 = simp length-append (omega arith) in
     ap (λ (t : Text). written t m) (holding-more l b (omega arith)) ∙ (holding-all (l ++ (b ∷ [])) m g ∙ ap holding (append-snoc l b m))
 
-pub written-all : (l : List ℕ) → length l ≤ 160 → written nothing l ≡ holding l
+written-all : (l : List ℕ) → length l ≤ 160 → written nothing l ≡ holding l
 written-all l h = holding-all [] l (omega arith)
 
 pub len-written : (l : List ℕ) → length l ≤ 160 → written nothing l .len ≡ length l
