@@ -26,6 +26,7 @@ use Rattle.compare.specs.declared.Turn.{Turn}
 use Rattle.io.specs.Counts.{Counts}
 use Rattle.layout.specs.Bytes.{descriptorIn}
 use Rattle.layout.specs.declared.Descriptor.{Descriptor}
+use Rattle.layout.specs.declared.Request.{Request}
 use Rattle.listing.proofs.Printing.{printed-small, printed-done, printed-counts}
 use Rattle.listing.specs.Listing.{requestOf, output, printed}
 use Rattle.paper.specs.Told.{tells, said}
@@ -97,9 +98,9 @@ module _ (s t : List ℕ) where
   unfolding judged
   older-long h = sym (rw (lt-ltb _ _ h))
 
-  pub both-read : length s ≤ 65536 → (r : Opening) → heard r ≡ openOf s t (requestOf s) → heard r ≡ judged s t
+  pub both-read : length s ≤ 65536 → (q : Request) → q ≡ requestOf s → (r : Opening) → heard r ≡ openOf s t q → heard r ≡ judged s t
   unfolding judged
-  both-read h r e = e ∙ sym (rw (le-ltb _ _ h))
+  both-read h q is-q r e = e ∙ rw is-q (sym (rw (le-ltb _ _ h)))
 
 pub step-accepted : (s t : List ℕ) (a : Bool) (c : Cursor) → a ≡ true → (x : Step) → x ≡ nextOf s t c → x ≡ stepOf a s t c
 step-accepted s t a c y x is-x = is-x ∙ rw y

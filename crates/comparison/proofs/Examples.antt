@@ -1,40 +1,34 @@
--- The text of small comparisons, computed from the definitions; where differences are counted through all identifiers, by the walk.
-use Prim.Native.Nat.{ℕ, zero, suc, _-_}
-use mathlib.Core.List.{List, [], _∷_, _++_}
+-- Lines of a comparison, and texts that have none, computed from the definitions.
+use Prim.Native.Nat.{ℕ, _-_}
+use mathlib.Core.List.{List, [], _++_}
 use mathlib.Core.Path.{_≡_, refl, _∙_}
 use lib.ListN.{length, replicate}
-use Rattle.compare.proofs.Examples.{page, element, older, newer}
-use Rattle.compare.specs.Opening.{accepted}
+use Rattle.compare.proofs.Examples.{element, older, newer}
+use Rattle.compare.specs.Opening.{bound, accepted}
 use Rattle.compare.specs.Pages.{countOf, elementAt, reachOf, boundOf}
-use Rattle.compare.specs.Parts.{descriptorPart}
 use Rattle.compare.specs.Walk.{keyAt, agreeAt, stepAt, past, nextTo, nextOf, walk, walkFrom}
+use Rattle.compare.specs.declared.Bound.the-variants.{UpTo}
 use Rattle.layout.specs.Requests.{refused, takesHealth}
-use Rattle.layout.specs.declared.Descriptor.{Descriptor}
 use Rattle.text.specs.Text.{ascii}
-use Rattle.comparison.specs.Comparison.{handed, olderOf, lineOf, judged, comparisonOf, linesFrom}
+use Rattle.comparison.specs.Comparison.{signed, changed, lastLine, judged, comparisonOf, linesFrom}
 use Rattle.comparison.proofs.Accepted.{by-walk}
+
+pub one-gone : signed (ascii "- ") (element 1 0x20) ≡ ascii "- 00000001 01 20 500"
+one-gone = refl
+
+pub one-removed : changed (element 0x0001_0003 0xFF) (element 0x0001_0003 0x70) ≡ ascii "~ 00010003 01 FF 500 <- 01 70 500"
+one-removed = refl
+
+pub cut : lastLine (bound (UpTo (record { 0 = 15 }))) ≡ ascii "compared up to 0000000F\n"
+cut = refl
 
 -- a page of 512 bytes
 abbrev padded : List ℕ → List ℕ
 padded l = l ++ replicate (512 - length l) 0
 
--- 1 gone, 3 unchanged, 4 new, 0001_0003h removed
-pub three : comparisonOf (padded older) (padded newer) ≡ ascii "- 00000001 01 20 500\n+ 00000004 01 00 500\n~ 00010003 01 FF 500 <- 01 70 500\n"
-unfolding refused takesHealth accepted countOf elementAt reachOf boundOf descriptorPart keyAt agreeAt stepAt past nextTo nextOf walk walkFrom handed olderOf lineOf judged linesFrom
-three = by-walk (padded older) (padded newer) ∙ refl
-
 pub none : comparisonOf (padded newer) (padded newer) ≡ []
-unfolding refused takesHealth accepted countOf elementAt reachOf boundOf descriptorPart keyAt agreeAt stepAt past nextTo nextOf walk walkFrom handed olderOf lineOf judged linesFrom
+unfolding refused takesHealth accepted countOf elementAt reachOf boundOf keyAt agreeAt stepAt past nextTo nextOf walk walkFrom judged linesFrom
 none = by-walk (padded newer) (padded newer) ∙ refl
-
--- the older has 16, and room for 15: only these are compared
-abbrev upTo : ℕ → List Descriptor
-upTo zero = []
-upTo (suc n) = upTo n ++ (element (suc n) 0x10 ∷ [])
-
-pub cut : comparisonOf (padded (page 16 15 (upTo 15))) (padded (page 14 14 (upTo 14))) ≡ ascii "- 0000000F 01 10 500\ncompared up to 0000000F\n"
-unfolding refused takesHealth accepted countOf elementAt reachOf boundOf descriptorPart keyAt agreeAt stepAt past nextTo nextOf walk walkFrom handed olderOf lineOf judged linesFrom
-cut = by-walk (padded (page 16 15 (upTo 15))) (padded (page 14 14 (upTo 14))) ∙ refl
 
 pub refused-older : comparisonOf [] (padded newer) ≡ ascii "refused 9 older\n"
 unfolding refused takesHealth accepted judged comparisonOf

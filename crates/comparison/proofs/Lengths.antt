@@ -7,7 +7,7 @@ use native.Mathlib.Omega.{arith}
 use lib.ListN.{length, length-append}
 use Rattle.compare.proofs.Walking.{passed, few}
 use Rattle.compare.specs.Opening.{Values, bound, turn}
-use Rattle.compare.specs.Walk.{first, ahead, walk, walkFrom}
+use Rattle.compare.specs.Walk.{first, ahead, walkFrom}
 use Rattle.compare.specs.declared.Bound.the-variants.{Whole, UpTo}
 use Rattle.compare.specs.declared.Bound.{Bound}
 use Rattle.compare.specs.declared.Cursor.{Cursor}

@@ -17,12 +17,9 @@ use compare::Opening;
 use compare::Step;
 use compare::Turn;
 use layout::Descriptor;
-use layout::Request;
 use listing::Printed;
 use paper::Answer;
 use paper::ElementId;
-use paper::Lba;
-use paper::PageCount;
 use text::Text;
 use words::Order;
 
@@ -116,12 +113,7 @@ fn judge(older: &[u8], newer: &[u8]) -> Opening
     if 65536 < older.len() {
         return Opening::Refused(Turn::Older);
     }
-    let request = Request {
-        feature: 0,
-        count: PageCount((older.len() / 512) as u16),
-        lba: Lba(0),
-    };
-    compare::open(older, newer, request)
+    compare::open(older, newer, listing::request_of(older))
 }
 
 fn is_accepted(opening: Opening) -> bool

@@ -4,7 +4,11 @@ ghost use Rattle.io.specs.Counts.{Counts};
 use input::Input;
 use libc::STDOUT_FILENO;
 
-// Of a file a byte more than may be compared, so that a longer one is seen.
+// A byte more than may be compared, so that a longer file is seen.
+fn page_room() -> [u8; 65537] {
+    [0u8; 65537]
+}
+
 fn read_file(i: usize, buf: &mut [u8]) -> Input
     ensures { λ r. ⌜ Counts (r .count) (now (buf .exit)) ⌝ }
 {
@@ -33,9 +37,13 @@ fn write_name(i: usize, end: &[u8]) {
     io::write_all(STDOUT_FILENO, end);
 }
 
-// With room for every text.
+// Room for every text.
+fn text_room() -> [u8; 160000] {
+    [0u8; 160000]
+}
+
 fn compare<'a>(older: &'a [u8], newer: &'a [u8]) {
-    let mut out = [0u8; 160000];
+    let mut out = text_room();
     let written = comparison::write(older, newer, &mut out);
     let size = written.count;
     if !io::write_all(STDOUT_FILENO, &out[..size]) {
@@ -44,8 +52,8 @@ fn compare<'a>(older: &'a [u8], newer: &'a [u8]) {
 }
 
 fn compare_files(i: usize, j: usize) {
-    let mut older = [0u8; 65537];
-    let mut newer = [0u8; 65537];
+    let mut older = page_room();
+    let mut newer = page_room();
     let first = read_file(i, &mut older);
     let second = read_file(j, &mut newer);
     if first.failed {

@@ -9,9 +9,10 @@ use lib.Dec.{eqb, leb}
 use lib.ListN.{length, drop, length-append}
 use borrow.Author.Tests.{leb-true, leb-false, lt-ltb, le-ltb, eq-eqb, ne-eqb}
 use Rattle.io.specs.Counts.{Counts}
-use Rattle.layout.specs.Bytes.{allOnes, descriptorIn}
+use Rattle.layout.specs.Bytes.{allOnes}
 use Rattle.layout.specs.declared.Descriptor.{Descriptor}
 use Rattle.layout.specs.declared.Header.{Header}
+use Rattle.layout.specs.declared.Request.{Request}
 use Rattle.paper.specs.Told.{tells, said}
 use Rattle.paper.specs.declared.Answer.the-variants.{Done, SmallBuffer}
 use Rattle.reader.specs.Checks.{descriptorAt}
@@ -45,18 +46,14 @@ module _ (answer : Judgement) (t : Text) where
   pub first-refused : (p : ℕ) → answer ≡ Refused p → t ≡ written nothing (refusedLine p) → t ≡ written nothing (firstLine (heard answer .state))
   first-refused p e so = so ∙ rw e
 
-pub line-read : (s u : List ℕ) (k : ℕ) (d : Descriptor) (t : Text)
-    → u ≡ drop (32 + 32 * k) s → d ≡ descriptorIn Little u → t ≡ written nothing (descriptorLine d) → t ≡ written nothing (descriptorLine (descriptorAt Little s k))
-line-read s u k d t is-u is-d is-t = is-t ∙ rw (is-d, is-u)
-
 -- ## The input
 
 module _ (s : List ℕ) where
   pub input-long : 65536 < length s → tells 9 (place 65536) ≡ judged s
   input-long h = sym (rw (lt-ltb _ _ h))
 
-  pub input-read : length s ≤ 65536 → (r : Judgement) → heard r ≡ readOf Little s (requestOf s) → heard r ≡ judged s
-  input-read h r e = e ∙ sym (rw (le-ltb _ _ h))
+  pub input-read : length s ≤ 65536 → (q : Request) → q ≡ requestOf s → (r : Judgement) → heard r ≡ readOf Little s q → heard r ≡ judged s
+  input-read h q is-q r e = e ∙ rw is-q (sym (rw (le-ltb _ _ h)))
 
 -- ## How long
 
@@ -73,12 +70,12 @@ length-values d = simp length-append (omega (arith, length-capacity (d .capacity
 pub length-line : (d : Descriptor) → length (descriptorLine d) ≤ 36
 length-line d = simp length-append (omega (arith, length-capacity (d .capacity)))
 
-pub length-header : (h : Header) → length (headerLine h) ≤ 128
+length-header : (h : Header) → length (headerLine h) ≤ 128
 length-header h =
     simp length-append
     (omega (arith, length-decimal (h .number), length-decimal (h .returned), length-decimal (h .limit), length-decimal (h .removed)))
 
-pub length-refused : (p : ℕ) → length (refusedLine p) ≤ 128
+length-refused : (p : ℕ) → length (refusedLine p) ≤ 128
 length-refused p = simp length-append (omega (arith, length-decimal p))
 
 pub length-first : (v : Values) → length (firstLine v) ≤ 128

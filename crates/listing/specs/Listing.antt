@@ -1,5 +1,5 @@
 -- Document 01, "The reader", last paragraph: the listing's text, and the lent output buffer.
-use Prim.Native.Nat.{ℕ, zero, suc, _/_}
+use Prim.Native.Nat.{ℕ, zero, suc, _/_, _%_}
 use mathlib.Core.Bool.{cond}
 use mathlib.Core.List.{List, [], _++_}
 use lib.Dec.{eqb, ltb}
@@ -32,11 +32,11 @@ descriptorLine d = digits 16 8 (d .id .0) ++ ascii " " ++ valuesOf d ++ ascii "\
 -- "number 1 returned 1 busy 00000000 limit 2 removed 0"
 abbrev pub headerOf : Header → List ℕ
 headerOf h =
-    ascii "number " ++ decimalOf (h .number)
-    ++ ascii " returned " ++ decimalOf (h .returned)
+    (ascii "number " ++ decimalOf (h .number))
+    ++ (ascii " returned " ++ decimalOf (h .returned))
     ++ ascii " busy " ++ digits 16 8 (h .busy .0)
-    ++ ascii " limit " ++ decimalOf (h .limit)
-    ++ ascii " removed " ++ decimalOf (h .removed)
+    ++ (ascii " limit " ++ decimalOf (h .limit))
+    ++ (ascii " removed " ++ decimalOf (h .removed))
 
 abbrev pub headerLine : Header → List ℕ
 headerLine h = headerOf h ++ ascii "\n"
@@ -52,9 +52,9 @@ linesBelow s (suc n) = linesBelow s n ++ descriptorLine (descriptorAt Little s n
 
 -- ## The text
 
--- "an answer to filter 0, report type 0, start 0, and as many pages as the input has"
+-- "an answer to filter 0, report type 0, start 0, and as many pages as the input has"; COUNT has 16 bits, and no input of more is read
 abbrev pub requestOf : List ℕ → Request
-requestOf s = record { feature = 0; count = record { 0 = length s / 512 }; lba = record { 0 = 0 } }
+requestOf s = record { feature = 0; count = record { 0 = length s / 512 % 65536 }; lba = record { 0 = 0 } }
 
 -- "at most 65,536 bytes ..; longer input is refused at 65536"
 abbrev pub judged : List ℕ → Told Values

@@ -9,7 +9,7 @@ ghost use Rattle.reader.specs.Judgement.{heard};
 ghost use Rattle.text.specs.Text.{nothing, written};
 ghost use Rattle.words.specs.Lists.{stored};
 ghost use Rattle.words.specs.declared.Order.the-variants.{Little};
-ghost use Rattle.listing.specs.Listing.{capacityOf, valuesOf, descriptorLine, headerOf, headerLine, refusedLine, linesBelow, judged, firstLine, lineCount, output, listed};
+ghost use Rattle.listing.specs.Listing.{capacityOf, valuesOf, descriptorLine, headerOf, headerLine, refusedLine, linesBelow, requestOf, judged, firstLine, lineCount, output, listed};
 use layout::Descriptor;
 use layout::Header;
 use layout::Request;
@@ -55,16 +55,12 @@ fn descriptor_line(d: Descriptor) -> Text
 pub fn write_header(t: Text, h: Header) -> Text
     ensures { λ r. ⌜ r ≡ written t (headerOf h) ⌝ }
 {
-    t.word(b"number ")
-        .decimal(h.number as u64)
-        .word(b" returned ")
-        .decimal(h.returned as u64)
+    t.field(b"number ", h.number as u64)
+        .field(b" returned ", h.returned as u64)
         .word(b" busy ")
         .hex8(h.busy.0)
-        .word(b" limit ")
-        .decimal(h.limit as u64)
-        .word(b" removed ")
-        .decimal(h.removed as u64)
+        .field(b" limit ", h.limit as u64)
+        .field(b" removed ", h.removed as u64)
 }
 
 fn header_line(h: Header) -> Text
@@ -77,9 +73,19 @@ fn refused_line(place: usize) -> Text
     ensures { λ r. ⌜ r ≡ written nothing (refusedLine place) ⌝ }
 {
     Text::nothing()
-        .word(b"refused 9 at ")
-        .decimal(place as u64)
+        .field(b"refused 9 at ", place as u64)
         .word(b"\n")
+}
+
+// What an input is read as an answer to.
+pub fn request_of(input: &[u8]) -> Request
+    ensures { λ r. ⌜ r ≡ requestOf (now (input .entry)) ⌝ }
+{
+    Request {
+        feature: 0,
+        count: PageCount((input.len() / 512 % 65536) as u16),
+        lba: Lba(0),
+    }
 }
 
 // The reader's answer; a longer input does not reach it.
@@ -89,12 +95,7 @@ fn judge(input: &[u8]) -> Judgement
     if 65536 < input.len() {
         return Judgement::Refused(65536);
     }
-    let request = Request {
-        feature: 0,
-        count: PageCount((input.len() / 512) as u16),
-        lba: Lba(0),
-    };
-    reader::read(input, request)
+    reader::read(input, request_of(input))
 }
 
 // The line that every listing starts with.
@@ -119,8 +120,7 @@ fn line_count(answer: Judgement) -> u32
 fn line_at(input: &[u8], k: u32) -> Text
     ensures { λ r. ⌜ r ≡ written nothing (descriptorLine (descriptorAt Little (now (input .entry)) k)) ⌝ }
 {
-    let base = 32 + 32 * (k as usize);
-    descriptor_line(Descriptor::read(words::tail(input, base), Order::Little))
+    descriptor_line(reader::descriptor_at(input, k, Order::Little))
 }
 
 // How long the lines of the first `count` descriptors are.

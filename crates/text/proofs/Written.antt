@@ -17,6 +17,14 @@ unfolding written
 written-append t [] b = refl
 written-append t (x ∷ a) b = written-append (pushed t x) a b
 
+-- ## One call after another
+
+pub after : (t u r : Text) (a b : List ℕ) → r ≡ written u b → u ≡ written t a → r ≡ written t (a ++ b)
+after t u r a b is-r is-u = is-r ∙ rw is-u (sym (written-append t a b))
+
+pub begun : (u r : Text) (b : List ℕ) → r ≡ written u b → u ≡ nothing → r ≡ written nothing b
+begun u r b is-r is-u = is-r ∙ rw is-u
+
 -- ## The recursion of `spell`
 
 pub spell-none : (t : Text) (b n k : ℕ) → k ≡ 0 → t ≡ written t (digits b k n)
@@ -62,7 +70,7 @@ holding-all l (b ∷ m) h =
     let g : length (l ++ (b ∷ [])) + length m ≤ 160 = simp length-append (omega arith) in
     ap (λ (t : Text). written t m) (holding-more l b (omega arith)) ∙ (holding-all (l ++ (b ∷ [])) m g ∙ ap holding (append-snoc l b m))
 
-pub written-all : (l : List ℕ) → length l ≤ 160 → written nothing l ≡ holding l
+written-all : (l : List ℕ) → length l ≤ 160 → written nothing l ≡ holding l
 written-all l h = holding-all [] l (omega arith)
 
 pub len-written : (l : List ℕ) → length l ≤ 160 → written nothing l .len ≡ length l

@@ -1,6 +1,7 @@
 // A line of text under construction, with numbers in upper hexadecimal and in decimal.
 ghost use mathlib.Core.Path.{_≡_};
-ghost use Prim.Native.Nat.{_<_, _≤_, min};
+ghost use mathlib.Core.List.{_++_};
+ghost use Prim.Native.Nat.{_<_, _≤_};
 ghost use Rattle.text.specs.Digits.{glyph, digits, placesOf, decimalOf};
 ghost use Rattle.text.specs.Text.{nothing, pushed, written, held};
 ghost use Rattle.words.specs.Lists.{stored};
@@ -9,12 +10,6 @@ ghost use Rattle.words.specs.Lists.{stored};
 pub struct Text {
     pub bytes: [u8; 160],
     pub len: usize,
-}
-
-fn smaller(a: usize, b: usize) -> usize
-    ensures { λ r. ⌜ r ≡ min a b ⌝ }
-{
-    if a < b { a } else { b }
 }
 
 fn digit(d: u64) -> u8
@@ -109,12 +104,19 @@ impl Text {
         spell(self, x, 10, places(x))
     }
 
+    // A word, then a number in decimal.
+    pub fn field(self, name: &[u8], x: u64) -> Text
+        ensures { λ r. ⌜ r ≡ written self (now (name .entry) ++ decimalOf x) ⌝ }
+    {
+        self.word(name).decimal(x)
+    }
+
     // Stores the text in a buffer from a place on, if it fits there.
     pub fn put(self, out: &mut [u8], at: usize)
         ensures { λ _. ⌜ now (out .exit) ≡ stored (now (out .entry)) at (held self) ⌝ }
     {
         let bytes = self.bytes;
-        let len = smaller(self.len, 160);
+        let len = words::smaller(self.len, 160);
         words::put(out, at, &bytes[..len]);
     }
 }

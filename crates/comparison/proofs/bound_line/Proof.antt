@@ -1,6 +1,6 @@
 -- `comparison::bound_line`.
 use borrow.Author.Needs.{needs}
-use Rattle.text.proofs.Written.{written-append}
+use Rattle.text.proofs.Written.{after, begun}
 use Rattle.comparison.proofs.bound_line.Statement.{statement}
 use Rattle.comparison.proofs.bound_line.Tie as tie
 
@@ -14,4 +14,4 @@ bound-line-spec =
     (λ c κs. search needs)
     (λ c. search needs)
     (λ c κs. search needs)
-    (λ c. simp (written-append, c .word2 .ensures, c .before .before .hex8 .ensures, c .before .before .before .word .ensures, c .before .before .before .before .before .nothing .ensures)))
+    (λ c. search (after, begun)))

@@ -1,6 +1,6 @@
 -- `comparison::changed`.
 use borrow.Author.Needs.{needs}
-use Rattle.text.proofs.Written.{written-append}
+use Rattle.text.proofs.Written.{after}
 use Rattle.comparison.proofs.changed.Statement.{statement}
 use Rattle.comparison.proofs.changed.Tie as tie
 
@@ -13,4 +13,4 @@ changed-spec =
     (λ c. search needs)
     (λ c κs. search needs)
     (λ c κs. search needs)
-    (λ c. simp (written-append, c .write-values .ensures, c .before .word .ensures, c .before .before .before .signed .ensures)))
+    (λ c. search (after)))

@@ -1,6 +1,6 @@
 -- `comparison::signed`.
 use borrow.Author.Needs.{needs}
-use Rattle.text.proofs.Written.{written-append}
+use Rattle.text.proofs.Written.{after, begun}
 use Rattle.comparison.proofs.signed.Statement.{statement}
 use Rattle.comparison.proofs.signed.Tie as tie
 
@@ -14,5 +14,4 @@ signed-spec =
     (λ c. search needs)
     (λ c κs. search needs)
     (λ c κs. search needs)
-    (λ c. let id = c .before .before .before in
-    simp (written-append, c .write-values .ensures, c .before .word2 .ensures, id .hex8 .ensures, id .before .word .ensures, id .before .before .nothing .ensures)))
+    (λ c. search (after, begun)))

@@ -1,6 +1,6 @@
 -- `listing::header_line`.
 use borrow.Author.Needs.{needs}
-use Rattle.text.proofs.Written.{written-append}
+use Rattle.text.proofs.Written.{after, begun}
 use Rattle.listing.proofs.header_line.Statement.{statement}
 use Rattle.listing.proofs.header_line.Tie as tie
 
@@ -12,4 +12,4 @@ header-line-spec =
     (λ c κs. search needs)
     (λ c. search needs)
     (λ c κs. search needs)
-    (λ c. simp (written-append, c .word .ensures, c .before .before .write-header .ensures, c .before .before .before .nothing .ensures)))
+    (λ c. search (after, begun)))
