@@ -16,9 +16,7 @@ struct Run {
 
 fn needs_device(line: Line) -> bool {
     match line {
-        Line::Command(_) | Line::Grade(_) | Line::Cells => true,
-        Line::Step | Line::Error | Line::Cut => true,
-        Line::Comreset | Line::Hardreset | Line::Softreset => true,
+        Line::Command(_) | Line::Event(_) | Line::Grade(_) | Line::Cells => true,
         _ => false,
     }
 }
@@ -30,9 +28,20 @@ fn lacks_device(made: bool, line: Line) -> bool {
     needs_device(line)
 }
 
+fn is_no_call(line: Line) -> bool {
+    match line {
+        Line::NotACall => true,
+        _ => false,
+    }
+}
+
 // Makes the call of a line that has ended.
 fn obey(bench: Bench, line: Gathered, page: &mut [u8]) -> Bench {
     let meaning = script::meaning_of(line);
+    if is_no_call(meaning) {
+        print_words(b"not a call");
+        return bench;
+    }
     if lacks_device(bench.made, meaning) {
         print_words(b"no device");
         return bench;

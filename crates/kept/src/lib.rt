@@ -1,5 +1,4 @@
-// The page that the bench keeps, and what the reader says of it. No contract can say what was printed, so these functions promise
-// nothing.
+// The calls on the page that the bench keeps. No contract can say what was printed, so these functions promise nothing.
 use layout::Descriptor;
 use layout::Header;
 use layout::Request;
@@ -10,6 +9,7 @@ use print::print_number;
 use print::print_words;
 use reader::Judgement;
 use reader::Slot;
+use script::Line;
 use script::Poke;
 use text::Text;
 
@@ -23,14 +23,14 @@ fn clear(page: &mut [u8], from: usize, to: usize) {
 }
 
 // Cuts the kept page, or lengthens it with zeros, and returns its length.
-pub fn set_length(page: &mut [u8], kept: usize, length: usize) -> usize {
+fn set_length(page: &mut [u8], kept: usize, length: usize) -> usize {
     let n = words::smaller(length, page.len());
     clear(page, kept, n);
     print_number(b"length ", n);
     n
 }
 
-pub fn poke(page: &mut [u8], kept: usize, p: Poke) {
+fn poke(page: &mut [u8], kept: usize, p: Poke) {
     if kept <= p.place {
         print_words(b"outside");
         return;
@@ -62,10 +62,26 @@ fn print_contents(page: &[u8], h: Header) {
     }
 }
 
-pub fn read(page: &[u8], kept: usize, request: Request) {
+fn read(page: &[u8], kept: usize, request: Request) {
     let whole = head(page, kept);
     match reader::read(whole, request) {
         Judgement::Accepted(h) => print_contents(whole, h),
         Judgement::Refused(place) => print_number(b"9 at ", place),
+    }
+}
+
+// Makes a call on the kept page, and returns how long it then is. Any other line leaves it as it is.
+pub fn call(page: &mut [u8], kept: usize, line: Line) -> usize {
+    match line {
+        Line::Length(n) => set_length(page, kept, n),
+        Line::Poke(p) => {
+            poke(page, kept, p);
+            kept
+        }
+        Line::Read(request) => {
+            read(page, kept, request);
+            kept
+        }
+        _ => kept,
     }
 }

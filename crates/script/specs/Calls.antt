@@ -11,7 +11,8 @@ use Rattle.lines.specs.declared.Gathered.{Gathered}
 use Rattle.paper.specs.declared.Security.the-variants.{Locked, Unlocked, Frozen}
 use Rattle.text.specs.Text.{ascii}
 use Rattle.script.specs.declared.Asked.{Asked}
-use Rattle.script.specs.declared.Line.the-variants.{Passed, NotACall, Element, Make, Command, Step, Error, Cut, Comreset, Hardreset, Softreset, Grade, Cells, Length, Poke, Read}
+use Rattle.script.specs.declared.Event.the-variants.{Step, Error, Cut, Comreset, Hardreset, Softreset}
+use Rattle.script.specs.declared.Line.the-variants.{Passed, NotACall, Element, Make, Command, Event, Grade, Cells, Length, Poke, Read}
 use Rattle.script.specs.declared.Line.{Line}
 use Rattle.script.specs.declared.State.{State}
 
@@ -119,16 +120,16 @@ pageCall l =
 
 unfoldable pub resetCall : List ℕ → Line
 resetCall l =
-    cond (named (ascii "comreset") 1 l) Comreset
-    (cond (named (ascii "hardreset") 1 l) Hardreset
-    (cond (named (ascii "softreset") 1 l) Softreset
+    cond (named (ascii "comreset") 1 l) (Event Comreset)
+    (cond (named (ascii "hardreset") 1 l) (Event Hardreset)
+    (cond (named (ascii "softreset") 1 l) (Event Softreset)
     (pageCall l)))
 
 unfoldable pub eventCall : List ℕ → Line
 eventCall l =
-    cond (named (ascii "step") 1 l) Step
-    (cond (named (ascii "error") 1 l) Error
-    (cond (named (ascii "cut") 1 l) Cut
+    cond (named (ascii "step") 1 l) (Event Step)
+    (cond (named (ascii "error") 1 l) (Event Error)
+    (cond (named (ascii "cut") 1 l) (Event Cut)
     (cond (named (ascii "grade") 3 l) (gradeOf l)
     (resetCall l))))
 

@@ -6,6 +6,7 @@ ghost use Rattle.script.specs.Calls as spec;
 ghost use Rattle.script.specs.declared.Line.the-variants.{NotACall};
 use crate::Asked;
 use crate::Command;
+use crate::Event;
 use crate::Grade;
 use crate::Line;
 use crate::Poke;
@@ -193,13 +194,13 @@ fn reset_call(line: &[u8]) -> Line
     ensures { λ r. ⌜ r ≡ spec.resetCall (now (line .entry)) ⌝ }
 {
     if is_named(line, b"comreset", 1) {
-        return Line::Comreset;
+        return Line::Event(Event::Comreset);
     }
     if is_named(line, b"hardreset", 1) {
-        return Line::Hardreset;
+        return Line::Event(Event::Hardreset);
     }
     if is_named(line, b"softreset", 1) {
-        return Line::Softreset;
+        return Line::Event(Event::Softreset);
     }
     page_call(line)
 }
@@ -208,13 +209,13 @@ fn event_call(line: &[u8]) -> Line
     ensures { λ r. ⌜ r ≡ spec.eventCall (now (line .entry)) ⌝ }
 {
     if is_named(line, b"step", 1) {
-        return Line::Step;
+        return Line::Event(Event::Step);
     }
     if is_named(line, b"error", 1) {
-        return Line::Error;
+        return Line::Event(Event::Error);
     }
     if is_named(line, b"cut", 1) {
-        return Line::Cut;
+        return Line::Event(Event::Cut);
     }
     if is_named(line, b"grade", 3) {
         return grade(line);

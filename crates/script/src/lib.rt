@@ -41,6 +41,16 @@ pub struct Poke {
     pub byte: u8,
 }
 
+// What happens to the device by itself.
+pub enum Event {
+    Step,
+    Error,
+    Cut,
+    Comreset,
+    Hardreset,
+    Softreset,
+}
+
 // What a line says.
 pub enum Line {
     Passed,
@@ -48,12 +58,7 @@ pub enum Line {
     Element(Element),
     Make(u16),
     Command(Command),
-    Step,
-    Error,
-    Cut,
-    Comreset,
-    Hardreset,
-    Softreset,
+    Event(Event),
     Grade(Grade),
     Cells,
     Length(usize),

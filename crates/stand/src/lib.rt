@@ -15,9 +15,9 @@ use print::print_answer;
 use print::print_cells;
 use print::print_page;
 use print::print_touched;
-use print::print_words;
 use print::within;
 use script::Command;
+use script::Event;
 use script::Grade;
 use script::Line;
 use table::Element;
@@ -136,6 +136,37 @@ fn show(d: Device, c: Command, lent: &mut [u8]) {
     status::show(d, security, commands::asked(c.feature, c.count, lba), lent);
 }
 
+fn event(d: Device, e: Event) -> Stepped {
+    match e {
+        Event::Step => d.step(),
+        Event::Error => d.media_error(),
+        Event::Cut => d.power_cut(),
+        Event::Comreset => d.comreset(),
+        Event::Hardreset => d.hardware_reset(),
+        Event::Softreset => d.software_reset(),
+    }
+}
+
+fn graded(d: Device, g: Grade) -> Stepped {
+    let id = g.id;
+    d.grade(id, g.health)
+}
+
+// Keeps the page that an answer wrote, if it wrote one, and returns how long the kept page is.
+fn keep(page: &mut [u8], kept: usize, written: &[u8]) -> usize {
+    if written.len() == 0 {
+        return kept;
+    }
+    words::put(page, 0, written);
+    written.len()
+}
+
+// Prints what an answer left in the lent buffer, of which it wrote the first n bytes.
+fn print_lent(lent: &[u8], n: usize) {
+    print_page(head(lent, n));
+    print_touched(lent, n);
+}
+
 impl Bench {
     pub fn empty() -> Bench {
         Bench {
@@ -166,8 +197,6 @@ impl Bench {
         self.with_device(device)
     }
 
-    // ---- The calls
-
     fn offer(self, e: Element) -> Bench {
         let list = self.offered;
         let longer = lengthened(list, e);
@@ -192,30 +221,15 @@ impl Bench {
         next
     }
 
-    // Keeps the page that an answer wrote, if it wrote one.
-    fn keep(self, written: &[u8], page: &mut [u8]) -> Bench {
-        if written.len() == 0 {
-            return self;
-        }
-        words::put(page, 0, written);
-        self.with_kept(written.len())
-    }
-
-    // Prints the front call's answer and what it left in the lent buffer.
-    fn after_command(self, c: Command, s: Stepped, lent: &[u8], page: &mut [u8]) -> Bench {
-        let answer = s.answer;
-        let n = answer_size(c, answer);
-        let next = self.after(s);
-        print_page(head(lent, n));
-        print_touched(lent, n);
-        next.keep(head(lent, n), page)
-    }
-
     fn command_over(self, c: Command, lent: &mut [u8], page: &mut [u8]) -> Bench {
         let d = self.device;
         let s = commanded(d, c, lent.len());
         show(d, c, lent);
-        self.after_command(c, s, lent, page)
+        let answer = s.answer;
+        let n = answer_size(c, answer);
+        let next = self.after(s);
+        print_lent(lent, n);
+        next.with_kept(keep(page, self.kept, head(lent, n)))
     }
 
     // The front call.
@@ -225,56 +239,26 @@ impl Bench {
         self.command_over(c, &mut lent[..n], page)
     }
 
-    fn grade(self, g: Grade) -> Bench {
-        let d = self.device;
-        let id = g.id;
-        self.after(d.grade(id, g.health))
-    }
-
-    fn event(self, line: Line) -> Bench {
-        let d = self.device;
-        match line {
-            Line::Step => self.after(d.step()),
-            Line::Error => self.after(d.media_error()),
-            Line::Cut => self.after(d.power_cut()),
-            Line::Comreset => self.after(d.comreset()),
-            Line::Hardreset => self.after(d.hardware_reset()),
-            Line::Softreset => self.after(d.software_reset()),
-            _ => self,
-        }
-    }
-
+    // Makes a call on the device. Any other line leaves it as it is.
     fn device_call(self, line: Line, page: &mut [u8]) -> Bench {
+        let d = self.device;
         match line {
             Line::Element(e) => self.offer(e),
             Line::Make(limit) => self.make(limit),
             Line::Command(c) => self.command(c, page),
-            Line::Grade(g) => self.grade(g),
+            Line::Event(e) => self.after(event(d, e)),
+            Line::Grade(g) => self.after(graded(d, g)),
             Line::Cells => {
-                print_cells(self.device);
+                print_cells(d);
                 self
             }
-            _ => self.event(line),
+            _ => self,
         }
     }
 
-    // A line that is passed over changes nothing.
+    // Makes a call, on the kept page or on the device.
     pub fn call(self, line: Line, page: &mut [u8]) -> Bench {
-        match line {
-            Line::NotACall => {
-                print_words(b"not a call");
-                self
-            }
-            Line::Length(n) => self.with_kept(kept::set_length(page, self.kept, n)),
-            Line::Poke(p) => {
-                kept::poke(page, self.kept, p);
-                self
-            }
-            Line::Read(request) => {
-                kept::read(page, self.kept, request);
-                self
-            }
-            _ => self.device_call(line, page),
-        }
+        let kept = kept::call(page, self.kept, line);
+        self.with_kept(kept).device_call(line, page)
     }
 }
