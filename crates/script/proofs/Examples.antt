@@ -6,10 +6,11 @@ use mathlib.Core.Path.{_≡_, refl}
 use lib.ListN.{replicate}
 use Rattle.paper.specs.declared.Security.the-variants.{Unlocked}
 use Rattle.text.specs.Text.{ascii}
-use Rattle.script.specs.Calls.{isState, stateOf, deviceOr, bareOr, pageOr, lineOf}
-use Rattle.script.specs.Numbers.{fieldOf}
-use Rattle.script.specs.Words.{wordAt, same}
-use Rattle.script.specs.declared.Line.the-variants.{Passed, NotACall, Element, Make, Command, Step, Grade, Length}
+use Rattle.script.specs.Calls.{stateOf, askedAt, elementOf, makeOf, commandOf, gradeOf, lengthOf, pageCall, resetCall, eventCall, deviceCall, lineOf}
+use Rattle.lines.specs.Numbers.{fieldOf, fieldAt}
+use Rattle.lines.specs.Words.{wordAt, same, named}
+use Rattle.script.specs.declared.Event.the-variants.{Step}
+use Rattle.script.specs.declared.Line.the-variants.{Passed, NotACall, Element, Make, Command, Event, Grade, Length}
 use Rattle.script.specs.declared.Line.{Line}
 
 abbrev Says : String → Line → Type 0
@@ -28,9 +29,9 @@ Examples =
     × (Says "grade 3" NotACall)
     × (Says "   " Passed)
     × (Says " #step" Passed)
-    × (lineOf (ascii "step" ++ replicate 196 32) ≡ Step)
+    × (lineOf (ascii "step" ++ replicate 196 32) ≡ Event Step)
     × (lineOf (ascii "step" ++ replicate 197 32) ≡ NotACall)
 
 pub examples : Examples
-unfolding isState stateOf deviceOr bareOr pageOr lineOf fieldOf wordAt same
+unfolding stateOf askedAt elementOf makeOf commandOf gradeOf lengthOf pageCall resetCall eventCall deviceCall lineOf fieldOf fieldAt wordAt same named
 examples = (refl, refl, refl, refl, refl, refl, refl, refl, refl, refl, refl, refl, refl)

@@ -1,7 +1,4 @@
 -- What is proved of `script`'s definitions, and of its functions.
 pub mod EveryLine
 pub mod Examples
-pub mod Gathering
-pub mod Hexadecimal
 pub mod Says
-pub mod Words

@@ -1,76 +1,101 @@
 -- Laws of what a line says: one for each way out.
-use Prim.Native.Nat.{ℕ, suc, _≤_, _<_}
-use mathlib.Core.Bool.{Bool, true, false, cond, _&&_, false≢true}
-use mathlib.Core.List.{List, [], _∷_}
-use mathlib.Core.Path.{_≡_, refl, sym, _∙_}
-use native.Mathlib.Omega.{arith}
-use lib.Dec.{eqb, leb}
-use lib.ListN.{length, getD}
-use borrow.Author.Tests.{lt-ltb, le-ltb, ne-eqb, leb-true}
+use Prim.Native.Nat.{ℕ, _+_, _≤_, _<_}
+use mathlib.Core.Bool.{Bool, true, false, cond, _&&_}
+use mathlib.Core.List.{List}
+use mathlib.Core.Path.{_≡_, sym, _∙_}
+use lib.Dec.{eqb}
+use lib.ListN.{length, take, getD}
+use borrow.Author.Tests.{lt-ltb, le-ltb, ne-eqb}
+use Rattle.lines.proofs.Words.{empty-length}
+use Rattle.lines.specs.Lines.{isLong}
+use Rattle.lines.specs.Numbers.{fieldAt}
+use Rattle.lines.specs.Words.{wordAt, same}
+use Rattle.lines.specs.declared.Field.{Field}
+use Rattle.lines.specs.declared.Gathered.{Gathered}
 use Rattle.paper.specs.declared.Security.the-variants.{Locked, Unlocked, Frozen}
-use Rattle.text.specs.Digits.{within, valueOf}
 use Rattle.text.specs.Text.{ascii}
-use Rattle.words.specs.Lists.{all}
-use Rattle.script.specs.Calls.{named, fieldAt, isState, stateOf, deviceOr, bareOr, pageOr, isPassed, lineOf}
-use Rattle.script.specs.Numbers.{isDigit, isNumber, noNumber, fieldOf}
-use Rattle.script.specs.Words.{wordAt, isEmpty, same}
-use Rattle.script.specs.declared.Field.{Field}
-use Rattle.script.specs.declared.Line.the-variants.{Passed, NotACall}
+use Rattle.script.specs.Calls.{most64, most32, most16, most8, mostPlace, stateOf, askedAt, elementOf, commandOf, gradeOf, pokeOf, deviceCall, isPassed, lineOf, meaningOf}
+use Rattle.script.specs.declared.Asked.{Asked}
+use Rattle.script.specs.declared.Line.the-variants.{Passed, NotACall, Element, Command, Grade, Poke}
 use Rattle.script.specs.declared.Line.{Line}
-
--- ## Words and fields
-
-empty-length : (l : List ℕ) → eqb (length l) 0 ≡ isEmpty l
-empty-length [] = refl
-empty-length (b ∷ l) = ne-eqb (suc (length l)) 0 (λ e. omega arith)
-
-pub name-told : (l name w z : List ℕ) (n : ℕ) (a r : Bool)
-    → w ≡ wordAt 0 l → z ≡ wordAt n l → a ≡ same w name → r ≡ (a && eqb (length z) 0) → r ≡ named name n l
-name-told l name w z n a r is-w is-z is-a is-r = is-r ∙ rw (is-a, is-w, empty-length z, is-z)
-
-last-of : (a b c : Bool) → (a && (b && c)) ≡ true → c ≡ true
-last-of true true c e = e
-last-of true false c e = absurd (false≢true e)
-last-of false b c e = absurd (false≢true e)
-
-field-most : (most : ℕ) (w : List ℕ) → fieldOf most w .value ≤ most
-unfolding fieldOf
-field-most most w = by-test (isNumber most w) refl
-  where
-    by-test : (t : Bool) → isNumber most w ≡ t → cond t (record { fits = true; value = valueOf 16 w }) noNumber .value ≤ most
-    by-test true e = leb-true (valueOf 16 w) most (last-of (within 1 16 (length w)) (all isDigit w) (leb (valueOf 16 w) most) e)
-    by-test false e = omega arith
-
-pub field-at : (l w : List ℕ) (k most : ℕ) (r : Field) → w ≡ wordAt k l → r ≡ fieldOf most w → (r ≡ fieldAt l k most) × (r .value ≤ most)
-field-at l w k most r is-w is-r = (is-r ∙ rw is-w, rw is-r (field-most most w))
+use Rattle.script.specs.declared.State.{State}
 
 -- ## The security state
 
 module _ (w : List ℕ) (t : Bool) (is-t : t ≡ same w (ascii "locked")) where
-  pub is-locked : t ≡ true → true ≡ isState w
-  unfolding isState
-  is-locked y = sym (rw (sym is-t ∙ y))
-
-  pub state-locked : t ≡ true → Locked ≡ stateOf w
+  pub state-locked : t ≡ true → record { fits = true; security = Locked } ≡ stateOf w
   unfolding stateOf
   state-locked y = sym (rw (sym is-t ∙ y))
 
   module _ (n : t ≡ false) (u : Bool) (is-u : u ≡ same w (ascii "unlocked")) where
-    pub is-unlocked : u ≡ true → true ≡ isState w
-    unfolding isState
-    is-unlocked y = sym (rw (sym is-t ∙ n, sym is-u ∙ y))
-
-    pub state-unlocked : u ≡ true → Unlocked ≡ stateOf w
+    pub state-unlocked : u ≡ true → record { fits = true; security = Unlocked } ≡ stateOf w
     unfolding stateOf
     state-unlocked y = sym (rw (sym is-t ∙ n, sym is-u ∙ y))
 
-    pub is-frozen : u ≡ false → (v : Bool) → v ≡ same w (ascii "frozen") → v ≡ isState w
-    unfolding isState
-    is-frozen m v is-v = is-v ∙ sym (rw (sym is-t ∙ n, sym is-u ∙ m))
-
-    pub state-frozen : u ≡ false → Frozen ≡ stateOf w
+    pub state-frozen : u ≡ false → (v : Bool) → v ≡ same w (ascii "frozen") → record { fits = v; security = Frozen } ≡ stateOf w
     unfolding stateOf
-    state-frozen m = sym (rw (sym is-t ∙ n, sym is-u ∙ m))
+    state-frozen m v is-v = sym (rw (sym is-t ∙ n, sym is-u ∙ m, is-v))
+
+-- ## The fields of a call
+
+pub asked-is : (l : List ℕ) (k : ℕ) (feature count lba : Field) → feature ≡ fieldAt l k most16 → count ≡ fieldAt l (k + 1) most16 → lba ≡ fieldAt l (k + 2) most64
+    → (a : Bool) → a ≡ (feature .fits && (count .fits && lba .fits))
+    → record { fits = a; request = record { feature = feature .value; count = record { 0 = count .value }; lba = record { 0 = lba .value } } } ≡ askedAt l k
+unfolding askedAt
+asked-is l k feature count lba is-feature is-count is-lba a is-a = rw (is-a, is-feature, is-count, is-lba)
+
+pub element-is : (l : List ℕ) (id kind health blocks flag : Field)
+    → id ≡ fieldAt l 1 most32 → kind ≡ fieldAt l 2 most8 → health ≡ fieldAt l 3 most8 → blocks ≡ fieldAt l 4 most64 → flag ≡ fieldAt l 5 1
+    → (a b : Bool) → a ≡ (health .fits && (blocks .fits && flag .fits)) → b ≡ (id .fits && (kind .fits && a))
+    → (r : Line)
+    → r
+    ≡ cond b
+    (Element (record { id = record { 0 = id .value }; kind = kind .value; health = health .value; unreported = eqb (flag .value) 1; blocks = blocks .value }))
+    NotACall
+    → r ≡ elementOf l
+unfolding elementOf
+element-is l id kind health blocks flag is-id is-kind is-health is-blocks is-flag a b is-a is-b r is-r =
+    is-r ∙ rw (is-b, is-a, is-id, is-kind, is-health, is-blocks, is-flag)
+
+pub command-is : (l w : List ℕ) (state : State) (code size : Field) (asked : Asked)
+    → w ≡ wordAt 1 l → state ≡ stateOf w → code ≡ fieldAt l 2 most8 → asked ≡ askedAt l 3 → size ≡ fieldAt l 6 mostPlace
+    → (a b : Bool) → a ≡ (code .fits && asked .fits) → b ≡ (state .fits && (a && size .fits))
+    → (r : Line)
+    → r
+    ≡ cond b
+    (Command
+    (record {
+      security = state .security;
+      code = code .value;
+      feature = asked .request .feature;
+      count = asked .request .count .0;
+      lba = record { 0 = asked .request .lba .0 };
+      length = size .value;
+    }))
+    NotACall
+    → r ≡ commandOf l
+unfolding commandOf
+command-is l w state code size asked is-w is-state is-code is-asked is-size a b is-a is-b r is-r =
+    is-r ∙ rw (is-b, is-a, is-state, is-w, is-code, is-asked, is-size)
+
+pub grade-is : (l : List ℕ) (id health : Field) → id ≡ fieldAt l 1 most32 → health ≡ fieldAt l 2 most8 → (a : Bool) → a ≡ (id .fits && health .fits)
+    → (r : Line) → r ≡ cond a (Grade (record { id = record { 0 = id .value }; health = health .value })) NotACall → r ≡ gradeOf l
+unfolding gradeOf
+grade-is l id health is-id is-health a is-a r is-r = is-r ∙ rw (is-a, is-id, is-health)
+
+pub poke-is : (l : List ℕ) (place byte : Field) → place ≡ fieldAt l 1 mostPlace → byte ≡ fieldAt l 2 most8 → (a : Bool) → a ≡ (place .fits && byte .fits)
+    → (r : Line) → r ≡ cond a (Poke (record { place = place .value; byte = byte .value })) NotACall → r ≡ pokeOf l
+unfolding pokeOf
+poke-is l place byte is-place is-byte a is-a r is-r = is-r ∙ rw (is-a, is-place, is-byte)
+
+-- ## The call of a name
+
+module _ (t named : Bool) (is-t : t ≡ named) (call rest r : Line) where
+  pub this-call : t ≡ true → r ≡ call → r ≡ cond named call rest
+  this-call y is-r = is-r ∙ sym (rw (sym is-t ∙ y))
+
+  pub other-call : t ≡ false → r ≡ rest → r ≡ cond named call rest
+  other-call n is-r = is-r ∙ sym (rw (sym is-t ∙ n))
 
 -- ## A line
 
@@ -81,16 +106,23 @@ module _ (l w : List ℕ) (is-w : w ≡ wordAt 0 l) where
   pub passed-first : (length w ≡ 0 → ⊥) → eqb (getD w 0 0) 35 ≡ isPassed l
   passed-first n = sym (rw (← is-w, ← empty-length w, ne-eqb _ _ n))
 
-module _ (l : List ℕ) where
-  pub line-long : 200 < length l → NotACall ≡ lineOf l
+module _ (l : List ℕ) (s : Bool) (is-s : s ≡ isLong l) where
+  pub line-long : s ≡ true → NotACall ≡ lineOf l
   unfolding lineOf
-  line-long h = sym (rw (lt-ltb 200 (length l) h))
+  line-long y = sym (rw (sym is-s ∙ y))
 
-  module _ (h : length l ≤ 200) (t : Bool) (is-t : t ≡ isPassed l) where
+  module _ (m : s ≡ false) (t : Bool) (is-t : t ≡ isPassed l) where
     pub line-passed : t ≡ true → Passed ≡ lineOf l
     unfolding lineOf
-    line-passed y = sym (rw (le-ltb 200 (length l) h, sym is-t ∙ y))
+    line-passed y = sym (rw (sym is-s ∙ m, sym is-t ∙ y))
 
-    pub line-call : t ≡ false → (a b c : Line) → a ≡ pageOr l NotACall → b ≡ bareOr l a → c ≡ deviceOr l b → c ≡ lineOf l
+    pub line-call : t ≡ false → (r : Line) → r ≡ deviceCall l → r ≡ lineOf l
     unfolding lineOf
-    line-call n a b c is-a is-b is-c = is-c ∙ rw (is-b, is-a) (sym (rw (le-ltb 200 (length l) h, sym is-t ∙ n)))
+    line-call n r is-r = is-r ∙ sym (rw (sym is-s ∙ m, sym is-t ∙ n))
+
+module _ (g : Gathered) where
+  pub meaning-long : 200 < g .len → NotACall ≡ meaningOf g
+  meaning-long h = sym (rw (lt-ltb 200 (g .len) h))
+
+  pub meaning-short : g .len ≤ 200 → (r : Line) → r ≡ lineOf (take (g .len) (g .bytes)) → r ≡ meaningOf g
+  meaning-short h r e = e ∙ sym (rw (le-ltb 200 (g .len) h))

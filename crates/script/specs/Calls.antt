@@ -1,27 +1,20 @@
 -- The calls of the bench language, and what a line says (docs/BENCH.md).
-use Prim.Native.Nat.{ℕ}
-use mathlib.Core.Bool.{Bool, cond, _&&_, _||_}
+use Prim.Native.Nat.{ℕ, _+_}
+use mathlib.Core.Bool.{Bool, true, cond, _&&_, _||_}
 use mathlib.Core.List.{List}
 use lib.Dec.{eqb, ltb}
-use lib.ListN.{length, getD}
+use lib.ListN.{take, getD}
+use Rattle.lines.specs.Lines.{isLong}
+use Rattle.lines.specs.Numbers.{fieldAt}
+use Rattle.lines.specs.Words.{wordAt, isEmpty, same, named}
+use Rattle.lines.specs.declared.Gathered.{Gathered}
 use Rattle.paper.specs.declared.Security.the-variants.{Locked, Unlocked, Frozen}
-use Rattle.paper.specs.declared.Security.{Security}
 use Rattle.text.specs.Text.{ascii}
-use Rattle.script.specs.Numbers.{fieldOf}
-use Rattle.script.specs.Words.{wordAt, isEmpty, same}
-use Rattle.script.specs.declared.Field.{Field}
-use Rattle.script.specs.declared.Line.the-variants.{Passed, NotACall, Element, Make, Command, Step, Error, Cut, Comreset, Hardreset, Softreset, Grade, Cells, Length, Poke, Read}
+use Rattle.script.specs.declared.Asked.{Asked}
+use Rattle.script.specs.declared.Event.the-variants.{Step, Error, Cut, Comreset, Hardreset, Softreset}
+use Rattle.script.specs.declared.Line.the-variants.{Passed, NotACall, Element, Make, Command, Event, Grade, Cells, Length, Poke, Read}
 use Rattle.script.specs.declared.Line.{Line}
-
--- ## The words of a call
-
--- this name, and no more than n words; that there are no fewer the fields say, since none may be empty
-abbrev pub named : List ℕ → ℕ → List ℕ → Bool
-named name n l = same (wordAt 0 l) name && isEmpty (wordAt n l)
-
--- "must fit their field": word k, at most `most`
-abbrev pub fieldAt : List ℕ → ℕ → ℕ → Field
-fieldAt l k most = fieldOf most (wordAt k l)
+use Rattle.script.specs.declared.State.{State}
 
 -- "FEATURE, COUNT and LIMIT 16 bits, LBA and BLOCKS 64, ID 32, TYPE, HEALTH, CODE and BYTE 8, FLAG 1, LENGTH and PLACE up to 10000h"
 abbrev pub most64 : ℕ
@@ -39,101 +32,114 @@ most8 = 0xFF
 abbrev pub mostPlace : ℕ
 mostPlace = 0x1_0000
 
--- ## The calls: what a line says if it is that call, and else `rest`
+-- "STATE is `locked`, `unlocked` or `frozen`"
+unfoldable pub stateOf : List ℕ → State
+stateOf w =
+    cond (same w (ascii "locked")) (record { fits = true; security = Locked })
+    (cond (same w (ascii "unlocked")) (record { fits = true; security = Unlocked })
+    (record { fits = same w (ascii "frozen"); security = Frozen }))
+
+-- FEATURE COUNT LBA, from word k on
+unfoldable pub askedAt : List ℕ → ℕ → Asked
+askedAt l k =
+    let feature = fieldAt l k most16 in
+    let count = fieldAt l (k + 1) most16 in
+    let lba = fieldAt l (k + 2) most64 in
+    record {
+      fits = feature .fits && (count .fits && lba .fits);
+      request = record { feature = feature .value; count = record { 0 = count .value }; lba = record { 0 = lba .value } };
+    }
+
+-- ## The calls: what a line of that name says, by its other words
 
 -- `element ID TYPE HEALTH BLOCKS FLAG`
-abbrev pub elementOr : List ℕ → Line → Line
-elementOr l rest =
+unfoldable pub elementOf : List ℕ → Line
+elementOf l =
     let id = fieldAt l 1 most32 in
     let kind = fieldAt l 2 most8 in
     let health = fieldAt l 3 most8 in
     let blocks = fieldAt l 4 most64 in
     let flag = fieldAt l 5 1 in
-    cond (named (ascii "element") 6 l && (id .fits && (kind .fits && (health .fits && (blocks .fits && flag .fits)))))
+    cond (id .fits && (kind .fits && (health .fits && (blocks .fits && flag .fits))))
     (Element (record { id = record { 0 = id .value }; kind = kind .value; health = health .value; unreported = eqb (flag .value) 1; blocks = blocks .value }))
-    rest
+    NotACall
 
 -- `make LIMIT`
-abbrev pub makeOr : List ℕ → Line → Line
-makeOr l rest = cond (named (ascii "make") 2 l && fieldAt l 1 most16 .fits) (Make (fieldAt l 1 most16 .value)) rest
-
--- "STATE is `locked`, `unlocked` or `frozen`"
-unfoldable pub isState : List ℕ → Bool
-isState w = same w (ascii "locked") || (same w (ascii "unlocked") || same w (ascii "frozen"))
-
-unfoldable pub stateOf : List ℕ → Security
-stateOf w = cond (same w (ascii "locked")) Locked (cond (same w (ascii "unlocked")) Unlocked Frozen)
+unfoldable pub makeOf : List ℕ → Line
+makeOf l = cond (fieldAt l 1 most16 .fits) (Make (fieldAt l 1 most16 .value)) NotACall
 
 -- `command STATE CODE FEATURE COUNT LBA LENGTH`
-abbrev pub commandOr : List ℕ → Line → Line
-commandOr l rest =
-    let state = wordAt 1 l in
+unfoldable pub commandOf : List ℕ → Line
+commandOf l =
+    let state = stateOf (wordAt 1 l) in
     let code = fieldAt l 2 most8 in
-    let feature = fieldAt l 3 most16 in
-    let count = fieldAt l 4 most16 in
-    let lba = fieldAt l 5 most64 in
+    let asked = askedAt l 3 in
     let size = fieldAt l 6 mostPlace in
-    cond (named (ascii "command") 7 l && (isState state && (code .fits && (feature .fits && (count .fits && (lba .fits && size .fits))))))
+    cond (state .fits && ((code .fits && asked .fits) && size .fits))
     (Command
     (record {
-      security = stateOf state;
+      security = state .security;
       code = code .value;
-      feature = feature .value;
-      count = count .value;
-      lba = record { 0 = lba .value };
+      feature = asked .request .feature;
+      count = asked .request .count .0;
+      lba = record { 0 = asked .request .lba .0 };
       length = size .value;
     }))
-    rest
+    NotACall
 
 -- `grade ID HEALTH`
-abbrev pub gradeOr : List ℕ → Line → Line
-gradeOr l rest =
+unfoldable pub gradeOf : List ℕ → Line
+gradeOf l =
     let id = fieldAt l 1 most32 in
     let health = fieldAt l 2 most8 in
-    cond (named (ascii "grade") 3 l && (id .fits && health .fits)) (Grade (record { id = record { 0 = id .value }; health = health .value })) rest
-
--- a call of one word
-abbrev pub wordOr : List ℕ → List ℕ → Line → Line → Line
-wordOr l name call rest = cond (named name 1 l) call rest
+    cond (id .fits && health .fits) (Grade (record { id = record { 0 = id .value }; health = health .value })) NotACall
 
 -- `length LENGTH`
-abbrev pub lengthOr : List ℕ → Line → Line
-lengthOr l rest = cond (named (ascii "length") 2 l && fieldAt l 1 mostPlace .fits) (Length (fieldAt l 1 mostPlace .value)) rest
+unfoldable pub lengthOf : List ℕ → Line
+lengthOf l = cond (fieldAt l 1 mostPlace .fits) (Length (fieldAt l 1 mostPlace .value)) NotACall
 
 -- `poke PLACE BYTE`
-abbrev pub pokeOr : List ℕ → Line → Line
-pokeOr l rest =
+unfoldable pub pokeOf : List ℕ → Line
+pokeOf l =
     let place = fieldAt l 1 mostPlace in
     let byte = fieldAt l 2 most8 in
-    cond (named (ascii "poke") 3 l && (place .fits && byte .fits)) (Poke (record { place = place .value; byte = byte .value })) rest
+    cond (place .fits && byte .fits) (Poke (record { place = place .value; byte = byte .value })) NotACall
 
 -- `read FEATURE COUNT LBA`
-abbrev pub readOr : List ℕ → Line → Line
-readOr l rest =
-    let feature = fieldAt l 1 most16 in
-    let count = fieldAt l 2 most16 in
-    let lba = fieldAt l 3 most64 in
-    cond (named (ascii "read") 4 l && (feature .fits && (count .fits && lba .fits)))
-    (Read (record { feature = feature .value; count = record { 0 = count .value }; lba = record { 0 = lba .value } }))
-    rest
+unfoldable pub readOf : List ℕ → Line
+readOf l = cond (askedAt l 1 .fits) (Read (askedAt l 1 .request)) NotACall
 
--- ## What a line says
+-- ## What a line says: the call of its name, "with exactly its words", or that there is none
 
-unfoldable pub deviceOr : List ℕ → Line → Line
-deviceOr l rest = elementOr l (makeOr l (commandOr l (gradeOr l rest)))
+unfoldable pub pageCall : List ℕ → Line
+pageCall l =
+    cond (named (ascii "length") 2 l) (lengthOf l)
+    (cond (named (ascii "poke") 3 l) (pokeOf l)
+    (cond (named (ascii "read") 4 l) (readOf l)
+    NotACall))
 
-unfoldable pub bareOr : List ℕ → Line → Line
-bareOr l rest =
-    wordOr l (ascii "step") Step
-    (wordOr l (ascii "error") Error
-    (wordOr l (ascii "cut") Cut
-    (wordOr l (ascii "comreset") Comreset
-    (wordOr l (ascii "hardreset") Hardreset
-    (wordOr l (ascii "softreset") Softreset
-    (wordOr l (ascii "cells") Cells rest))))))
+unfoldable pub resetCall : List ℕ → Line
+resetCall l =
+    cond (named (ascii "comreset") 1 l) (Event Comreset)
+    (cond (named (ascii "hardreset") 1 l) (Event Hardreset)
+    (cond (named (ascii "softreset") 1 l) (Event Softreset)
+    (pageCall l)))
 
-unfoldable pub pageOr : List ℕ → Line → Line
-pageOr l rest = lengthOr l (pokeOr l (readOr l rest))
+unfoldable pub eventCall : List ℕ → Line
+eventCall l =
+    cond (named (ascii "step") 1 l) (Event Step)
+    (cond (named (ascii "error") 1 l) (Event Error)
+    (cond (named (ascii "cut") 1 l) (Event Cut)
+    (cond (named (ascii "grade") 3 l) (gradeOf l)
+    (resetCall l))))
+
+unfoldable pub deviceCall : List ℕ → Line
+deviceCall l =
+    cond (named (ascii "element") 6 l) (elementOf l)
+    (cond (named (ascii "make") 2 l) (makeOf l)
+    (cond (named (ascii "command") 7 l) (commandOf l)
+    (cond (named (ascii "cells") 1 l) Cells
+    (eventCall l))))
 
 -- "a line without words, or whose first word starts with `#`, is passed over"
 abbrev pub isPassed : List ℕ → Bool
@@ -142,4 +148,8 @@ isPassed l = isEmpty (wordAt 0 l) || eqb (getD (wordAt 0 l) 0 0) 35
 -- "A line of more than 200 bytes, the newline not counted, is `not a call`, whatever it holds. .. Each other line is one of the calls below
 -- with exactly its words, or answers `not a call`"
 unfoldable pub lineOf : List ℕ → Line
-lineOf l = cond (ltb 200 (length l)) NotACall (cond (isPassed l) Passed (deviceOr l (bareOr l (pageOr l NotACall))))
+lineOf l = cond (isLong l) NotACall (cond (isPassed l) Passed (deviceCall l))
+
+-- a line as it was gathered
+abbrev pub meaningOf : Gathered → Line
+meaningOf g = cond (ltb 200 (g .len)) NotACall (lineOf (take (g .len) (g .bytes)))

@@ -1,7 +1,3 @@
--- The bench language: a line's words and numbers, the calls that lines are, and lines put together from pieces of input.
-
+-- The bench language: the calls that lines are.
 pub mod Calls
-pub mod Lines
-pub mod Numbers
 pub mod Promises
-pub mod Words

@@ -3,14 +3,20 @@ ghost use mathlib.Core.Bool.{_&&_, cond};
 ghost use mathlib.Core.Path.{_≡_};
 ghost use Prim.Native.Nat.{_≤_};
 ghost use Rattle.script.specs.Calls as spec;
+ghost use Rattle.script.specs.declared.Line.the-variants.{NotACall};
+use crate::Asked;
 use crate::Command;
-use crate::Field;
+use crate::Event;
 use crate::Grade;
 use crate::Line;
 use crate::Poke;
-use crate::numbers;
-use crate::parts;
+use crate::State;
 use layout::Request;
+use lines::Gathered;
+use lines::field_at;
+use lines::is_long;
+use lines::is_named;
+use lines::is_same;
 use paper::ElementId;
 use paper::Lba;
 use paper::PageCount;
@@ -23,42 +29,30 @@ fn both(a: bool, b: bool) -> bool
     if a { b } else { false }
 }
 
-fn is_named(line: &[u8], name: &[u8], words: usize) -> bool
-    ensures { λ r. ⌜ r ≡ spec.named (now (name .entry)) words (now (line .entry)) ⌝ }
+fn each(a: bool, b: bool, c: bool) -> bool
+    ensures { λ r. ⌜ r ≡ (a && (b && c)) ⌝ }
 {
-    let more = parts::word_at(line, words);
-    both(
-        parts::is_same(parts::word_at(line, 0), name),
-        more.len() == 0,
-    )
+    both(a, both(b, c))
 }
 
-// Word k as a number of at most `most`.
-fn field(line: &[u8], k: usize, most: u64) -> Field
-    ensures { λ r. ⌜ (r ≡ spec.fieldAt (now (line .entry)) k most) × (r .value ≤ most) ⌝ }
+// A call if its words fit.
+fn fitting(fits: bool, call: Line) -> Line
+    ensures { λ r. ⌜ r ≡ cond fits call NotACall ⌝ }
 {
-    numbers::number(parts::word_at(line, k), most)
+    if fits { call } else { Line::NotACall }
 }
 
-fn choose(test: bool, call: Line, rest: Line) -> Line
-    ensures { λ r. ⌜ r ≡ cond test call rest ⌝ }
-{
-    if test { call } else { rest }
-}
+// ---- The calls on the device
 
-fn element(line: &[u8], rest: Line) -> Line
-    ensures { λ r. ⌜ r ≡ spec.elementOr (now (line .entry)) rest ⌝ }
+fn element(line: &[u8]) -> Line
+    ensures { λ r. ⌜ r ≡ spec.elementOf (now (line .entry)) ⌝ }
 {
-    let id = field(line, 1, 0xFFFF_FFFF);
-    let kind = field(line, 2, 0xFF);
-    let health = field(line, 3, 0xFF);
-    let blocks = field(line, 4, 0xFFFF_FFFF_FFFF_FFFF);
-    let flag = field(line, 5, 1);
-    let figures = both(health.fits, both(blocks.fits, flag.fits));
-    let fits = both(
-        is_named(line, b"element", 6),
-        both(id.fits, both(kind.fits, figures)),
-    );
+    let id = field_at(line, 1, 0xFFFF_FFFF);
+    let kind = field_at(line, 2, 0xFF);
+    let health = field_at(line, 3, 0xFF);
+    let blocks = field_at(line, 4, 0xFFFF_FFFF_FFFF_FFFF);
+    let flag = field_at(line, 5, 1);
+    let figures = each(health.fits, blocks.fits, flag.fits);
     let offered = Element {
         id: ElementId(id.value as u32),
         kind: kind.value as u8,
@@ -66,151 +60,191 @@ fn element(line: &[u8], rest: Line) -> Line
         unreported: flag.value == 1,
         blocks: blocks.value,
     };
-    choose(fits, Line::Element(offered), rest)
+    fitting(each(id.fits, kind.fits, figures), Line::Element(offered))
 }
 
-fn make(line: &[u8], rest: Line) -> Line
-    ensures { λ r. ⌜ r ≡ spec.makeOr (now (line .entry)) rest ⌝ }
+fn make(line: &[u8]) -> Line
+    ensures { λ r. ⌜ r ≡ spec.makeOf (now (line .entry)) ⌝ }
 {
-    let limit = field(line, 1, 0xFFFF);
-    let fits = both(is_named(line, b"make", 2), limit.fits);
-    choose(fits, Line::Make(limit.value as u16), rest)
+    let limit = field_at(line, 1, 0xFFFF);
+    fitting(limit.fits, Line::Make(limit.value as u16))
 }
 
-fn is_state(w: &[u8]) -> bool
-    ensures { λ r. ⌜ r ≡ spec.isState (now (w .entry)) ⌝ }
-{
-    if parts::is_same(w, b"locked") {
-        return true;
-    }
-    if parts::is_same(w, b"unlocked") {
-        return true;
-    }
-    parts::is_same(w, b"frozen")
-}
-
-fn state(w: &[u8]) -> Security
+fn state(w: &[u8]) -> State
     ensures { λ r. ⌜ r ≡ spec.stateOf (now (w .entry)) ⌝ }
 {
-    if parts::is_same(w, b"locked") {
-        return Security::Locked;
+    if is_same(w, b"locked") {
+        return State {
+            fits: true,
+            security: Security::Locked,
+        };
     }
-    if parts::is_same(w, b"unlocked") {
-        return Security::Unlocked;
+    if is_same(w, b"unlocked") {
+        return State {
+            fits: true,
+            security: Security::Unlocked,
+        };
     }
-    Security::Frozen
+    State {
+        fits: is_same(w, b"frozen"),
+        security: Security::Frozen,
+    }
 }
 
-fn command(line: &[u8], rest: Line) -> Line
-    ensures { λ r. ⌜ r ≡ spec.commandOr (now (line .entry)) rest ⌝ }
+// FEATURE, COUNT and LBA from word k on.
+fn asked(line: &[u8], k: usize) -> Asked
+    requires { ⌜ k ≤ 3 ⌝ }
+    ensures { λ r. ⌜ r ≡ spec.askedAt (now (line .entry)) k ⌝ }
 {
-    let word = parts::word_at(line, 1);
-    let security = state(word);
-    let code = field(line, 2, 0xFF);
-    let feature = field(line, 3, 0xFFFF);
-    let count = field(line, 4, 0xFFFF);
-    let lba = field(line, 5, 0xFFFF_FFFF_FFFF_FFFF);
-    let length = field(line, 6, 0x1_0000);
-    let registers = both(feature.fits, both(count.fits, both(lba.fits, length.fits)));
-    let fits = both(
-        is_named(line, b"command", 7),
-        both(is_state(word), both(code.fits, registers)),
-    );
+    let feature = field_at(line, k, 0xFFFF);
+    let count = field_at(line, k + 1, 0xFFFF);
+    let lba = field_at(line, k + 2, 0xFFFF_FFFF_FFFF_FFFF);
+    Asked {
+        fits: each(feature.fits, count.fits, lba.fits),
+        request: Request {
+            feature: feature.value as u16,
+            count: PageCount(count.value as u16),
+            lba: Lba(lba.value),
+        },
+    }
+}
+
+fn command(line: &[u8]) -> Line
+    ensures { λ r. ⌜ r ≡ spec.commandOf (now (line .entry)) ⌝ }
+{
+    let state = state(lines::word_at(line, 1));
+    let code = field_at(line, 2, 0xFF);
+    let asked = asked(line, 3);
+    let length = field_at(line, 6, 0x1_0000);
+    let registers = both(code.fits, asked.fits);
+    let security = state.security;
     let given = Command {
         security,
         code: code.value as u8,
-        feature: feature.value as u16,
-        count: count.value as u16,
-        lba: Lba(lba.value),
+        feature: asked.request.feature,
+        count: asked.request.count.0,
+        lba: Lba(asked.request.lba.0),
         length: length.value as usize,
     };
-    choose(fits, Line::Command(given), rest)
+    fitting(
+        each(state.fits, registers, length.fits),
+        Line::Command(given),
+    )
 }
 
-fn grade(line: &[u8], rest: Line) -> Line
-    ensures { λ r. ⌜ r ≡ spec.gradeOr (now (line .entry)) rest ⌝ }
+fn grade(line: &[u8]) -> Line
+    ensures { λ r. ⌜ r ≡ spec.gradeOf (now (line .entry)) ⌝ }
 {
-    let id = field(line, 1, 0xFFFF_FFFF);
-    let health = field(line, 2, 0xFF);
-    let fits = both(is_named(line, b"grade", 3), both(id.fits, health.fits));
+    let id = field_at(line, 1, 0xFFFF_FFFF);
+    let health = field_at(line, 2, 0xFF);
     let given = Grade {
         id: ElementId(id.value as u32),
         health: health.value as u8,
     };
-    choose(fits, Line::Grade(given), rest)
+    fitting(both(id.fits, health.fits), Line::Grade(given))
 }
 
-fn word(line: &[u8], name: &[u8], call: Line, rest: Line) -> Line
-    ensures { λ r. ⌜ r ≡ spec.wordOr (now (line .entry)) (now (name .entry)) call rest ⌝ }
+// ---- The calls on the kept page
+
+fn length(line: &[u8]) -> Line
+    ensures { λ r. ⌜ r ≡ spec.lengthOf (now (line .entry)) ⌝ }
 {
-    choose(is_named(line, name, 1), call, rest)
+    let given = field_at(line, 1, 0x1_0000);
+    fitting(given.fits, Line::Length(given.value as usize))
 }
 
-fn length(line: &[u8], rest: Line) -> Line
-    ensures { λ r. ⌜ r ≡ spec.lengthOr (now (line .entry)) rest ⌝ }
+fn poke(line: &[u8]) -> Line
+    ensures { λ r. ⌜ r ≡ spec.pokeOf (now (line .entry)) ⌝ }
 {
-    let given = field(line, 1, 0x1_0000);
-    let fits = both(is_named(line, b"length", 2), given.fits);
-    choose(fits, Line::Length(given.value as usize), rest)
-}
-
-fn poke(line: &[u8], rest: Line) -> Line
-    ensures { λ r. ⌜ r ≡ spec.pokeOr (now (line .entry)) rest ⌝ }
-{
-    let place = field(line, 1, 0x1_0000);
-    let byte = field(line, 2, 0xFF);
-    let fits = both(is_named(line, b"poke", 3), both(place.fits, byte.fits));
+    let place = field_at(line, 1, 0x1_0000);
+    let byte = field_at(line, 2, 0xFF);
     let given = Poke {
         place: place.value as usize,
         byte: byte.value as u8,
     };
-    choose(fits, Line::Poke(given), rest)
+    fitting(both(place.fits, byte.fits), Line::Poke(given))
 }
 
-fn read(line: &[u8], rest: Line) -> Line
-    ensures { λ r. ⌜ r ≡ spec.readOr (now (line .entry)) rest ⌝ }
+fn read(line: &[u8]) -> Line
+    ensures { λ r. ⌜ r ≡ spec.readOf (now (line .entry)) ⌝ }
 {
-    let feature = field(line, 1, 0xFFFF);
-    let count = field(line, 2, 0xFFFF);
-    let lba = field(line, 3, 0xFFFF_FFFF_FFFF_FFFF);
-    let registers = both(feature.fits, both(count.fits, lba.fits));
-    let fits = both(is_named(line, b"read", 4), registers);
-    let request = Request {
-        feature: feature.value as u16,
-        count: PageCount(count.value as u16),
-        lba: Lba(lba.value),
-    };
-    choose(fits, Line::Read(request), rest)
+    let asked = asked(line, 1);
+    let request = asked.request;
+    fitting(asked.fits, Line::Read(request))
 }
 
-fn device_call(line: &[u8], rest: Line) -> Line
-    ensures { λ r. ⌜ r ≡ spec.deviceOr (now (line .entry)) rest ⌝ }
+// ---- A line
+
+fn page_call(line: &[u8]) -> Line
+    ensures { λ r. ⌜ r ≡ spec.pageCall (now (line .entry)) ⌝ }
 {
-    element(line, make(line, command(line, grade(line, rest))))
+    if is_named(line, b"length", 2) {
+        return length(line);
+    }
+    if is_named(line, b"poke", 3) {
+        return poke(line);
+    }
+    if is_named(line, b"read", 4) {
+        return read(line);
+    }
+    Line::NotACall
 }
 
-fn bare_call(line: &[u8], rest: Line) -> Line
-    ensures { λ r. ⌜ r ≡ spec.bareOr (now (line .entry)) rest ⌝ }
+fn reset_call(line: &[u8]) -> Line
+    ensures { λ r. ⌜ r ≡ spec.resetCall (now (line .entry)) ⌝ }
 {
-    let cells = word(line, b"cells", Line::Cells, rest);
-    let soft = word(line, b"softreset", Line::Softreset, cells);
-    let hard = word(line, b"hardreset", Line::Hardreset, soft);
-    let com = word(line, b"comreset", Line::Comreset, hard);
-    let cut = word(line, b"cut", Line::Cut, com);
-    let error = word(line, b"error", Line::Error, cut);
-    word(line, b"step", Line::Step, error)
+    if is_named(line, b"comreset", 1) {
+        return Line::Event(Event::Comreset);
+    }
+    if is_named(line, b"hardreset", 1) {
+        return Line::Event(Event::Hardreset);
+    }
+    if is_named(line, b"softreset", 1) {
+        return Line::Event(Event::Softreset);
+    }
+    page_call(line)
 }
 
-fn page_call(line: &[u8], rest: Line) -> Line
-    ensures { λ r. ⌜ r ≡ spec.pageOr (now (line .entry)) rest ⌝ }
+fn event_call(line: &[u8]) -> Line
+    ensures { λ r. ⌜ r ≡ spec.eventCall (now (line .entry)) ⌝ }
 {
-    length(line, poke(line, read(line, rest)))
+    if is_named(line, b"step", 1) {
+        return Line::Event(Event::Step);
+    }
+    if is_named(line, b"error", 1) {
+        return Line::Event(Event::Error);
+    }
+    if is_named(line, b"cut", 1) {
+        return Line::Event(Event::Cut);
+    }
+    if is_named(line, b"grade", 3) {
+        return grade(line);
+    }
+    reset_call(line)
+}
+
+fn device_call(line: &[u8]) -> Line
+    ensures { λ r. ⌜ r ≡ spec.deviceCall (now (line .entry)) ⌝ }
+{
+    if is_named(line, b"element", 6) {
+        return element(line);
+    }
+    if is_named(line, b"make", 2) {
+        return make(line);
+    }
+    if is_named(line, b"command", 7) {
+        return command(line);
+    }
+    if is_named(line, b"cells", 1) {
+        return Line::Cells;
+    }
+    event_call(line)
 }
 
 fn is_passed(line: &[u8]) -> bool
     ensures { λ r. ⌜ r ≡ spec.isPassed (now (line .entry)) ⌝ }
 {
-    let first = parts::word_at(line, 0);
+    let first = lines::word_at(line, 0);
     if first.len() == 0 {
         return true;
     }
@@ -221,11 +255,23 @@ fn is_passed(line: &[u8]) -> bool
 pub fn meaning(line: &[u8]) -> Line
     ensures { λ r. ⌜ r ≡ spec.lineOf (now (line .entry)) ⌝ }
 {
-    if 200 < line.len() {
+    if is_long(line) {
         return Line::NotACall;
     }
     if is_passed(line) {
         return Line::Passed;
     }
-    device_call(line, bare_call(line, page_call(line, Line::NotACall)))
+    device_call(line)
+}
+
+// Of a line as it was gathered.
+pub fn meaning_of(line: Gathered) -> Line
+    ensures { λ r. ⌜ r ≡ spec.meaningOf line ⌝ }
+{
+    let len = line.len;
+    if 200 < len {
+        return Line::NotACall;
+    }
+    let bytes = line.bytes;
+    meaning(&bytes[..len])
 }

@@ -1,20 +1,24 @@
-// The bench language: what a line of a script says, and how lines are put together from pieces of input.
+// The bench language: what a line of a script says.
 mod calls;
-mod numbers;
-mod parts;
-mod pieces;
 
 pub use calls::meaning;
+pub use calls::meaning_of;
 use layout::Request;
 use paper::ElementId;
 use paper::Lba;
 use paper::Security;
 use table::Element;
 
-// A number that a word is, and whether it fits its field; 0 if it does not.
-pub struct Field {
+// A security state that a word names, and whether it names one.
+pub struct State {
     pub fits: bool,
-    pub value: u64,
+    pub security: Security,
+}
+
+// FEATURE, COUNT and LBA, and whether each fits its field.
+pub struct Asked {
+    pub fits: bool,
+    pub request: Request,
 }
 
 // The front call, with the length of the buffer that is lent.
@@ -37,6 +41,16 @@ pub struct Poke {
     pub byte: u8,
 }
 
+// What happens to the device by itself.
+pub enum Event {
+    Step,
+    Error,
+    Cut,
+    Comreset,
+    Hardreset,
+    Softreset,
+}
+
 // What a line says.
 pub enum Line {
     Passed,
@@ -44,28 +58,10 @@ pub enum Line {
     Element(Element),
     Make(u16),
     Command(Command),
-    Step,
-    Error,
-    Cut,
-    Comreset,
-    Hardreset,
-    Softreset,
+    Event(Event),
     Grade(Grade),
     Cells,
     Length(usize),
     Poke(Poke),
     Read(Request),
-}
-
-// A line as far as it was read: its first `len` bytes; 201 if there are more than 200.
-pub struct Gathered {
-    pub bytes: [u8; 200],
-    pub len: usize,
-}
-
-// A line after a piece of input: where the piece goes on, and whether the line has ended.
-pub struct Taken {
-    pub line: Gathered,
-    pub at: usize,
-    pub whole: bool,
 }

@@ -1,24 +1,8 @@
 -- `script::calls::element`.
 use borrow.Author.Needs.{needs}
+use Rattle.script.proofs.Says.{element-is}
 use Rattle.script.proofs.calls.element.Statement.{statement}
 use Rattle.script.proofs.calls.element.Tie as tie
-
-returns : tie.Need-returns
-returns c =
-    simp (
-      c .choose .ensures,
-      c .before .before .before .before .before .both5 .ensures,
-      c .before .before .before .before .before .before .both4 .ensures,
-      c .before .before .before .before .before .before .before .both3 .ensures,
-      c .before .before .before .before .before .before .before .before .is-named .ensures,
-      c .before .before .before .before .before .before .before .before .before .before .both2 .ensures,
-      c .before .before .before .before .before .before .before .before .before .before .before .both .ensures,
-      c .before .before .before .before .before .before .before .before .before .before .before .before .field5 .ensures .0,
-      c .before .before .before .before .before .before .before .before .before .before .before .before .before .field4 .ensures .0,
-      c .before .before .before .before .before .before .before .before .before .before .before .before .before .before .field3 .ensures .0,
-      c .before .before .before .before .before .before .before .before .before .before .before .before .before .before .before .field2 .ensures .0,
-      c .before .before .before .before .before .before .before .before .before .before .before .before .before .before .before .before .field .ensures .0,
-    )
 
 pub element-spec : {M : Type 1} → statement M
 element-spec =
@@ -30,14 +14,9 @@ element-spec =
     (λ c κs. search needs)
     (λ c κs. search needs)
     (λ c κs. search needs)
-    (λ c κs. search needs)
-    (λ c. search needs)
-    (λ c κs. search needs)
-    (λ c κs. search needs)
-    (λ c κs. search needs)
-    (λ c κs. search needs)
     (λ c. search needs)
     (λ c. search needs)
     (λ c. search needs)
     (λ c κs. search needs)
-    returns)
+    (λ c κs. search needs)
+    (λ c. search (element-is)))

@@ -1,18 +1,8 @@
 -- `script::calls::grade`.
 use borrow.Author.Needs.{needs}
+use Rattle.script.proofs.Says.{grade-is}
 use Rattle.script.proofs.calls.grade.Statement.{statement}
 use Rattle.script.proofs.calls.grade.Tie as tie
-
-returns : tie.Need-returns
-returns c =
-    simp (
-      c .choose .ensures,
-      c .before .before .before .both2 .ensures,
-      c .before .before .before .before .both .ensures,
-      c .before .before .before .before .before .is-named .ensures,
-      c .before .before .before .before .before .before .before .field2 .ensures .0,
-      c .before .before .before .before .before .before .before .before .field .ensures .0,
-    )
 
 pub grade-spec : {M : Type 1} → statement M
 grade-spec =
@@ -21,10 +11,7 @@ grade-spec =
     (λ c κs. search needs)
     (λ c κs. search needs)
     (λ c. search needs)
-    (λ c κs. search needs)
-    (λ c κs. search needs)
-    (λ c κs. search needs)
-    (λ c. search needs)
     (λ c. search needs)
     (λ c κs. search needs)
-    returns)
+    (λ c κs. search needs)
+    (λ c. search (grade-is)))

@@ -1,25 +1,15 @@
 -- `script::calls::make`.
 use borrow.Author.Needs.{needs}
+use Rattle.script.specs.Calls.{makeOf}
 use Rattle.script.proofs.calls.make.Statement.{statement}
 use Rattle.script.proofs.calls.make.Tie as tie
 
-returns : tie.Need-returns
-returns c =
-    simp (
-      c .choose .ensures,
-      c .before .before .both .ensures,
-      c .before .before .before .is-named .ensures,
-      c .before .before .before .before .before .field .ensures .0,
-    )
-
 pub make-spec : {M : Type 1} → statement M
+unfolding makeOf
 make-spec =
     tie.close
     (tie.spec
     (λ c κs. search needs)
     (λ c. search needs)
     (λ c κs. search needs)
-    (λ c κs. search needs)
-    (λ c. search needs)
-    (λ c κs. search needs)
-    returns)
+    (λ c. simp (c .fitting .ensures, c .before .before .field-at .ensures .0)))

@@ -8,10 +8,9 @@ pub meaning-spec : {M : Type 1} → statement M
 meaning-spec =
     tie.close
     (tie.spec
+    (λ c κs. search needs)
     (λ c. search (line-long))
     (λ c κs. search needs)
     (λ c. search (line-passed))
-    (λ c κs. search needs)
-    (λ c κs. search needs)
     (λ c κs. search needs)
     (λ c. search (line-call)))

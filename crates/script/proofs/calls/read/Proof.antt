@@ -1,34 +1,14 @@
 -- `script::calls::read`.
 use borrow.Author.Needs.{needs}
+use Rattle.script.specs.Calls.{readOf}
 use Rattle.script.proofs.calls.read.Statement.{statement}
 use Rattle.script.proofs.calls.read.Tie as tie
 
-returns : tie.Need-returns
-returns c =
-    simp (
-      c .choose .ensures,
-      c .before .before .before .both3 .ensures,
-      c .before .before .before .before .is-named .ensures,
-      c .before .before .before .before .before .before .both2 .ensures,
-      c .before .before .before .before .before .before .before .both .ensures,
-      c .before .before .before .before .before .before .before .before .field3 .ensures .0,
-      c .before .before .before .before .before .before .before .before .before .field2 .ensures .0,
-      c .before .before .before .before .before .before .before .before .before .before .field .ensures .0,
-    )
-
 pub read-spec : {M : Type 1} → statement M
+unfolding readOf
 read-spec =
     tie.close
     (tie.spec
     (λ c κs. search needs)
     (λ c κs. search needs)
-    (λ c κs. search needs)
-    (λ c κs. search needs)
-    (λ c κs. search needs)
-    (λ c. search needs)
-    (λ c κs. search needs)
-    (λ c κs. search needs)
-    (λ c. search needs)
-    (λ c. search needs)
-    (λ c κs. search needs)
-    returns)
+    (λ c. simp (c .fitting .ensures, c .before .before .asked .ensures)))

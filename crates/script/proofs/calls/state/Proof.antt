@@ -14,4 +14,6 @@ state-spec =
     (λ c. search needs)
     (λ c κs. search needs)
     (λ c. search (state-unlocked))
+    (λ c. search needs)
+    (λ c κs. search needs)
     (λ c. search (state-frozen)))

@@ -1,0 +1,39 @@
+-- `bench::run_script`. The invariant: the page keeps its length.
+use mathlib.Core.Path.{_≡_}
+use lib.ListN.{length}
+use borrow.Author.Needs.{needs}
+use Rattle.bench.proofs.run_script.Statement.{statement}
+use Rattle.bench.proofs.run_script.Tie as tie
+
+abbrev Inv-loop : tie.InvT-loop
+Inv-loop fd name page₀ run₀ pieces₀ page run pieces = length page ≡ 65536
+
+abbrev μ-loop : tie.MeasureT-loop
+μ-loop fd name page₀ run₀ pieces₀ page run pieces = pieces
+
+pub run-script-spec : {M : Type 1} → statement M
+run-script-spec =
+    tie.close
+    (tie.spec
+    Inv-loop
+    μ-loop
+    (λ c κs. search needs)
+    (λ c κs. search needs)
+    (λ c. search needs)
+    (λ c κs. search needs)
+    (λ c. search needs)
+    (λ c κs. search needs)
+    (λ c κs. search needs)
+    (λ c. search needs)
+    (λ c. search needs)
+    (λ c κs. search needs)
+    (λ c. search needs)
+    (λ c. search needs)
+    (λ c. search needs)
+    (λ c κs. search needs)
+    (λ c. search needs)
+    (λ c. search needs)
+    (λ c. search needs)
+    (λ c. search needs)
+    (λ c κs. search needs)
+    (λ c. search needs))

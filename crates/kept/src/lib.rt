@@ -1,0 +1,87 @@
+// The calls on the page that the bench keeps. No contract can say what was printed, so these functions promise nothing.
+use layout::Descriptor;
+use layout::Header;
+use layout::Request;
+use print::bit;
+use print::head;
+use print::print_line;
+use print::print_number;
+use print::print_words;
+use reader::Judgement;
+use reader::Slot;
+use script::Line;
+use script::Poke;
+use text::Text;
+
+fn clear(page: &mut [u8], from: usize, to: usize) {
+    let end = words::smaller(to, page.len());
+    let mut i = from;
+    while i < end {
+        page[i] = 0;
+        i += 1;
+    }
+}
+
+// Cuts the kept page, or lengthens it with zeros, and returns its length.
+fn set_length(page: &mut [u8], kept: usize, length: usize) -> usize {
+    let n = words::smaller(length, page.len());
+    clear(page, kept, n);
+    print_number(b"length ", n);
+    n
+}
+
+fn poke(page: &mut [u8], kept: usize, p: Poke) {
+    if kept <= p.place {
+        print_words(b"outside");
+        return;
+    }
+    let byte = [p.byte];
+    words::put(page, p.place, &byte);
+}
+
+fn print_descriptor(d: Descriptor) {
+    let text = Text::nothing()
+        .hex8(d.id.0)
+        .word(b" ")
+        .decimal(bit(d.restorable))
+        .word(b" ");
+    print_line(listing::write_values(text, d));
+}
+
+fn print_slot(slot: Slot) {
+    if let Slot::Holds(d) = slot {
+        print_descriptor(d);
+    }
+}
+
+fn print_contents(page: &[u8], h: Header) {
+    print_words(b"0");
+    print_line(listing::write_header(Text::nothing(), h));
+    for k in 0..h.returned {
+        print_slot(reader::descriptor(page, k));
+    }
+}
+
+fn read(page: &[u8], kept: usize, request: Request) {
+    let whole = head(page, kept);
+    match reader::read(whole, request) {
+        Judgement::Accepted(h) => print_contents(whole, h),
+        Judgement::Refused(place) => print_number(b"9 at ", place),
+    }
+}
+
+// Makes a call on the kept page, and returns how long it then is. Any other line leaves it as it is.
+pub fn call(page: &mut [u8], kept: usize, line: Line) -> usize {
+    match line {
+        Line::Length(n) => set_length(page, kept, n),
+        Line::Poke(p) => {
+            poke(page, kept, p);
+            kept
+        }
+        Line::Read(request) => {
+            read(page, kept, request);
+            kept
+        }
+        _ => kept,
+    }
+}
