@@ -13,6 +13,8 @@ use Rattle.lines.specs.Words.{wordAt, same}
 use Rattle.lines.specs.declared.Field.{Field}
 use Rattle.lines.specs.declared.Gathered.{Gathered}
 use Rattle.paper.specs.declared.Security.the-variants.{Locked, Unlocked, Frozen}
+use Rattle.table.specs.Elements as elements
+use Rattle.table.specs.declared.Element.{Element as Offered}
 use Rattle.text.specs.Text.{ascii}
 use Rattle.script.specs.Calls.{most64, most32, most16, most8, mostPlace, stateOf, askedAt, elementOf, commandOf, gradeOf, pokeOf, deviceCall, isPassed, lineOf, meaningOf}
 use Rattle.script.specs.declared.Asked.{Asked}
@@ -47,15 +49,11 @@ asked-is l k feature count lba is-feature is-count is-lba a is-a = rw (is-a, is-
 pub element-is : (l : List ℕ) (id kind health blocks flag : Field)
     → id ≡ fieldAt l 1 most32 → kind ≡ fieldAt l 2 most8 → health ≡ fieldAt l 3 most8 → blocks ≡ fieldAt l 4 most64 → flag ≡ fieldAt l 5 1
     → (a b : Bool) → a ≡ (health .fits && (blocks .fits && flag .fits)) → b ≡ (id .fits && (kind .fits && a))
-    → (r : Line)
-    → r
-    ≡ cond b
-    (Element (record { id = record { 0 = id .value }; kind = kind .value; health = health .value; unreported = eqb (flag .value) 1; blocks = blocks .value }))
-    NotACall
-    → r ≡ elementOf l
+    → (e : Offered) → e ≡ elements.elementOf (record { 0 = id .value }) (kind .value) (health .value) (eqb (flag .value) 1) (blocks .value)
+    → (r : Line) → r ≡ cond b (Element e) NotACall → r ≡ elementOf l
 unfolding elementOf
-element-is l id kind health blocks flag is-id is-kind is-health is-blocks is-flag a b is-a is-b r is-r =
-    is-r ∙ rw (is-b, is-a, is-id, is-kind, is-health, is-blocks, is-flag)
+element-is l id kind health blocks flag is-id is-kind is-health is-blocks is-flag a b is-a is-b e is-e r is-r =
+    is-r ∙ rw (is-e, is-b, is-a, is-id, is-kind, is-health, is-blocks, is-flag)
 
 pub command-is : (l w : List ℕ) (state : State) (code size : Field) (asked : Asked)
     → w ≡ wordAt 1 l → state ≡ stateOf w → code ≡ fieldAt l 2 most8 → asked ≡ askedAt l 3 → size ≡ fieldAt l 6 mostPlace

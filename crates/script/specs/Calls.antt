@@ -9,6 +9,7 @@ use Rattle.lines.specs.Numbers.{fieldAt}
 use Rattle.lines.specs.Words.{wordAt, isEmpty, same, named}
 use Rattle.lines.specs.declared.Gathered.{Gathered}
 use Rattle.paper.specs.declared.Security.the-variants.{Locked, Unlocked, Frozen}
+use Rattle.table.specs.Elements as elements
 use Rattle.text.specs.Text.{ascii}
 use Rattle.script.specs.declared.Asked.{Asked}
 use Rattle.script.specs.declared.Event.the-variants.{Step, Error, Cut, Comreset, Hardreset, Softreset}
@@ -61,7 +62,7 @@ elementOf l =
     let blocks = fieldAt l 4 most64 in
     let flag = fieldAt l 5 1 in
     cond (id .fits && (kind .fits && (health .fits && (blocks .fits && flag .fits))))
-    (Element (record { id = record { 0 = id .value }; kind = kind .value; health = health .value; unreported = eqb (flag .value) 1; blocks = blocks .value }))
+    (Element (elements.elementOf (record { 0 = id .value }) (kind .value) (health .value) (eqb (flag .value) 1) (blocks .value)))
     NotACall
 
 -- `make LIMIT`

@@ -53,13 +53,13 @@ fn element(line: &[u8]) -> Line
     let blocks = field_at(line, 4, 0xFFFF_FFFF_FFFF_FFFF);
     let flag = field_at(line, 5, 1);
     let figures = each(health.fits, blocks.fits, flag.fits);
-    let offered = Element {
-        id: ElementId(id.value as u32),
-        kind: kind.value as u8,
-        health: health.value as u8,
-        unreported: flag.value == 1,
-        blocks: blocks.value,
-    };
+    let offered = table::element_of(
+        ElementId(id.value as u32),
+        kind.value as u8,
+        health.value as u8,
+        flag.value == 1,
+        blocks.value,
+    );
     fitting(each(id.fits, kind.fits, figures), Line::Element(offered))
 }
 

@@ -8,7 +8,6 @@ use device::Note;
 use device::Position;
 use device::Stepped;
 use paper::Answer;
-use paper::ElementId;
 use paper::Lba;
 use print::head;
 use print::print_answer;
@@ -22,7 +21,6 @@ use script::Grade;
 use script::Line;
 use table::Element;
 use table::Offer;
-use table::Part;
 use table::Table;
 
 // The offered list, the device and whether one was made, and how many bytes of `page` are kept.
@@ -41,13 +39,7 @@ fn unanswered() -> [u8; 65536]
 }
 
 fn no_offer() -> Offer {
-    let blank = Element {
-        id: ElementId(0),
-        kind: 0,
-        health: 0,
-        unreported: false,
-        blocks: 0,
-    };
+    let blank = table::blank();
     Offer {
         elements: [blank; 128],
         count: 0,
@@ -56,12 +48,7 @@ fn no_offer() -> Offer {
 }
 
 fn no_table() -> Table {
-    let blank = Part {
-        id: ElementId(0),
-        kind: 0,
-        unreported: false,
-        blocks: 0,
-    };
+    let blank = table::blank_part();
     Table {
         parts: [blank; 128],
         count: 0,

@@ -18,7 +18,6 @@ use device::quiet;
 use paper::Answer;
 use paper::ElementId;
 use paper::Lba;
-use table::Part;
 
 // The step after this one.
 fn next_of(at: Position) -> Position
@@ -103,12 +102,7 @@ fn look(d: Device, id: ElementId, at: Position) -> Seen
         return d.see(id);
     }
     Seen {
-        part: Part {
-            id: ElementId(0),
-            kind: 0,
-            unreported: false,
-            blocks: 0,
-        },
+        part: table::blank_part(),
         place: 0,
         health: 0,
         hit: false,

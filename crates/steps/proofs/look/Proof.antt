@@ -11,4 +11,5 @@ look-spec =
     (λ c κs. search needs)
     (λ c κs. search needs)
     (λ c. search (looked))
+    (λ c κs. search needs)
     (λ c. search (unlooked)))
