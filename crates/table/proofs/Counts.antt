@@ -1,7 +1,7 @@
 -- The count at FFh, a turn of the loop at a time.
 use Prim.Native.Nat.{ℕ, _+_, _≤_, _<_, min}
 use mathlib.Core.List.{List}
-use mathlib.Core.Path.{_≡_, ap, _∙_}
+use mathlib.Core.Path.{_≡_, sym, ap, _∙_}
 use native.Mathlib.Omega.{arith}
 use lib.ListN.{length, take, drop, getD}
 use borrow.Author.Tests.{eq-eqb, ne-eqb}
@@ -11,21 +11,20 @@ use Rattle.words.specs.Lists.{one}
 use Rattle.table.specs.Elements.{removedCount}
 use Rattle.table.proofs.Splits.{taken}
 
+module _ (health : ℕ) where
+  pub one-yes : health ≡ 0xFF → 1 ≡ one (removedHealth health)
+  one-yes e = sym (rw (eq-eqb _ _ e))
+
+  pub one-no : (health ≡ 0xFF → ⊥) → 0 ≡ one (removedHealth health)
+  one-no e = sym (rw (ne-eqb _ _ e))
+
 -- the loop over the first n, n being the count or 128; `so` is its invariant
 module _ (hs : List ℕ) (count n i k : ℕ) (full : length hs ≡ 128) (is-n : n ≡ min count 128) (so : k + removedCount (drop i (take n hs)) ≡ removedCount (take n hs)) where
-  module _ (less : i < n) (j : ℕ) where
-    next : removedCount (drop i (take n hs)) ≡ one (removedHealth (getD hs i 0)) + removedCount (drop (i + 1) (take n hs))
-    next = sum-next (λ (h : ℕ). one (removedHealth h)) hs n i 0 less (omega arith)
-
-    pub tally-yes : getD hs i 0 ≡ 0xFF → j ≡ k + 1 → j + removedCount (drop (i + 1) (take n hs)) ≡ removedCount (take n hs)
-    tally-yes e is-j =
-        let more : removedCount (drop i (take n hs)) ≡ 1 + removedCount (drop (i + 1) (take n hs)) = next ∙ rw (eq-eqb _ _ e) in
-        omega arith
-
-    pub tally-no : (getD hs i 0 ≡ 0xFF → ⊥) → j ≡ k → j + removedCount (drop (i + 1) (take n hs)) ≡ removedCount (take n hs)
-    tally-no e is-j =
-        let same : removedCount (drop i (take n hs)) ≡ 0 + removedCount (drop (i + 1) (take n hs)) = next ∙ rw (ne-eqb _ _ e) in
-        omega arith
+  pub tally-next : i < n → (r : ℕ) → r ≡ one (removedHealth (getD hs i 0)) → k + r + removedCount (drop (i + 1) (take n hs)) ≡ removedCount (take n hs)
+  tally-next less r is-r =
+      let next : removedCount (drop i (take n hs)) ≡ one (removedHealth (getD hs i 0)) + removedCount (drop (i + 1) (take n hs)) =
+      sum-next (λ (h : ℕ). one (removedHealth h)) hs n i 0 less (omega arith) in
+      omega arith
 
   pub tally-end : n ≤ i → k ≡ removedCount (take count hs)
   tally-end h =

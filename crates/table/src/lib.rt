@@ -4,6 +4,8 @@ ghost use mathlib.Core.Path.{_≡_};
 ghost use Prim.Native.Nat.{_-_, _≤_, _^_, min};
 ghost use mathlib.Core.List.{_++_, map};
 ghost use lib.ListN.{take, replicate, getD, set};
+ghost use Rattle.paper.specs.Elements.{removedHealth};
+ghost use Rattle.words.specs.Lists.{one};
 ghost use Rattle.table.specs.Check.{sized, shaped, healthy, mayFollow, walkFrom, checkOf, verdict};
 ghost use Rattle.table.specs.Elements as elements;
 ghost use Rattle.table.specs.Elements.{offered, partOf, blankPart, removedCount};
@@ -339,6 +341,12 @@ pub fn with_health(healths: [u8; 128], place: usize, health: u8) -> [u8; 128]
     hs
 }
 
+fn one_at_ff(health: u8) -> u16
+    ensures { λ r. ⌜ (r ≡ one (removedHealth health)) × (r ≤ 1) ⌝ }
+{
+    if health == 0xFF { 1 } else { 0 }
+}
+
 // How many of the first `count` are at FFh.
 pub fn removed(healths: [u8; 128], count: usize) -> u16
     ensures { λ r. ⌜ r ≡ removedCount (take count healths) ⌝ }
@@ -347,9 +355,7 @@ pub fn removed(healths: [u8; 128], count: usize) -> u16
     let mut i: usize = 0;
     let mut k: u16 = 0;
     while i < n {
-        if healths[i] == 0xFF {
-            k += 1;
-        }
+        k += one_at_ff(healths[i]);
         i += 1;
     }
     k

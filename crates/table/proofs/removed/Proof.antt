@@ -1,11 +1,10 @@
 -- `table::removed`. The invariant: k of the first i, and those behind them, are the whole count.
 use Prim.Native.Nat.{_+_, _-_, _≤_, min}
-use mathlib.Core.Logic.{⊎-elim}
 use mathlib.Core.Path.{_≡_}
 use lib.ListN.{length, take, drop}
 use borrow.Author.Needs.{needs}
 use Rattle.table.specs.Elements.{removedCount}
-use Rattle.table.proofs.Counts.{tally-yes, tally-no, tally-end}
+use Rattle.table.proofs.Counts.{tally-next, tally-end}
 use Rattle.table.proofs.removed.Statement.{statement}
 use Rattle.table.proofs.removed.Tie as tie
 
@@ -24,11 +23,9 @@ removed-spec =
     (λ c κs. search needs)
     (λ c. (search needs, search needs, c .before .good .0 .1 .0 .1, search needs, search needs))
     (λ c. search needs)
+    (λ c κs. search needs)
     (λ c. search needs)
     (λ c. search needs)
     (λ c. search needs)
-    (λ c. ⊎-elim
-    (λ w. (search needs, search needs, search needs, search needs, search (tally-yes)))
-    (λ w. (search needs, search needs, search needs, search needs, search (tally-no)))
-    (c .if1 .came))
+    (λ c. (search needs, search needs, search needs, search needs, search (tally-next)))
     (λ c. search (tally-end)))
