@@ -1,17 +1,17 @@
 -- The list, the descriptor and the page: a law for each way out, and the page put together from what its parts store.
-use Prim.Native.Nat.{ℕ, zero, suc, _+_, _-_, _*_, _^_, _≤_, _<_, min}
+use Prim.Native.Nat.{ℕ, suc, _+_, _-_, _*_, _^_, _≤_, _<_, min}
 use mathlib.Core.Bool.{Bool, true, false, cond}
-use mathlib.Core.List.{List, [], _∷_, _++_, map, append-assoc, append-nil}
+use mathlib.Core.List.{List, [], _∷_, _++_, map, append-assoc}
 use mathlib.Core.Path.{_≡_, refl, sym, ap, _∙_}
+use native.Mathlib.Nat.{sub-self}
 use native.Mathlib.Numerals.{add-one}
-use native.Mathlib.Nat.{add-zero, sub-self}
 use native.Mathlib.Omega.{arith}
 use lib.Dec.{ltb}
-use lib.ListN.{length, take, drop, getD, set, replicate, length-append, length-map, length-replicate, length-set, replicate-append-replicate, List·getD-map}
-use lib.Seq.{length-take-le, take-all, take-length, take-take, take-set-le, take-suc-set, getD-take, set-split}
+use lib.ListN.{length, take, drop, getD, set, replicate, length-append, length-replicate, replicate-append-replicate, List·getD-map}
+use lib.Seq.{length-take-le, take-all, take-length, set-split}
 use borrow.Author.Tests.{lt-ltb, le-ltb, ltb-false, le-leb, eq-eqb, ne-eqb}
 use mir.Val.{boolByte}
-use Rattle.device.specs.Cells.{healthAt, removedNumber}
+use Rattle.device.specs.Cells.{removedNumber}
 use Rattle.device.specs.Commands.{statusNumber}
 use Rattle.paper.specs.Table12.{aborts}
 use Rattle.paper.specs.declared.Command.the-variants.{Status}
@@ -30,15 +30,15 @@ use Rattle.paper.specs.Told.{said}
 use Rattle.paper.specs.declared.Answer.{Answer}
 use Rattle.paper.specs.declared.ElementId.{ElementId}
 use Rattle.paper.specs.declared.Security.{Security}
-use Rattle.table.proofs.Splits.{length-taken}
 use Rattle.table.specs.Elements.{live, blankPart, identifiers, size, identifierAt}
 use Rattle.table.specs.declared.Part.{Part}
-use Rattle.words.proofs.Lists.{take-min, keep-append, map-append, map-map, map-upTo, map-places, every-same, every-set, stored-front, stored-none, stored-more, stored-each, length-flat}
-use Rattle.words.specs.Lists.{keep, upTo, flat, stored}
+use Rattle.words.proofs.Lists.{take-min, map-map, map-upTo, map-places, stored-front, stored-none, stored-more, stored-each, length-flat}
+use Rattle.words.specs.Lists.{upTo, flat, stored}
 use Rattle.words.specs.declared.Order.the-variants.{Little}
 use Rattle.status.specs.Page.{capacityOf, shownOf, shownAt, shownAll, asks, listOf, busyOf, headed, headerOf, pageOf, shown}
-use Rattle.status.specs.Places.{Slots, shownIn, shownThere}
+use Rattle.status.specs.Places.{shownIn, shownThere}
 use Rattle.status.specs.Promises.{Keeps-identifier}
+use Rattle.status.proofs.Places.{length-there, at-place, take-there, Listed, list-turn, all-listed}
 
 -- ## An element
 
@@ -83,92 +83,6 @@ shown-ids d =
     ∙ map-upTo (λ (i : ℕ). shownAt d i .id .0) (identifierAt (d .table)) (size (d .table)) (λ i _. keeps-identifier d i)
     ∙ map-places (identifiers (d .table)) 0 (size (d .table)) (omega arith) ∙ take-length (identifiers (d .table))
 
--- ## The list, by places
-
-take-map : {A B : Type 0} (f : A → B) (n : ℕ) (l : List A) → take n (map f l) ≡ map f (take n l)
-take-map f zero l = refl
-take-map f (suc n) [] = refl
-take-map {A} {B} f (suc n) (x ∷ xs) = ap (λ (l : List B). f x ∷ l) (take-map f n xs)
-
-module _ (ps : List Part) (hs : List ℕ) where
-  length-there : (places : List ℕ) (n : ℕ) → n ≤ length places → length (shownThere ps hs places n) ≡ n
-  unfolding shownThere
-  length-there places n few = length-map (take n places) (shownIn ps hs) ∙ length-take-le n places few
-
-  at-place : (places : List ℕ) (n k : ℕ) → k < n → shownIn ps hs (getD places k 0) ≡ getD (shownThere ps hs places n) k (shownIn ps hs 0)
-  unfolding shownThere
-  at-place places n k h = sym (List·getD-map (shownIn ps hs) (take n places) k 0 ∙ ap (shownIn ps hs) (getD-take n places k 0 h))
-
-  take-there : (places : List ℕ) (n r : ℕ) → r ≤ n → take r (shownThere ps hs places n) ≡ shownThere ps hs places r
-  unfolding shownThere
-  take-there places n r h = take-map (shownIn ps hs) r (take n places) ∙ ap (map (shownIn ps hs)) (take-take r n places h)
-
-  module _ (q : Request) where
-    -- what is asked for of the first i
-    unfoldable pub asked : ℕ → List Descriptor
-    asked i = keep (asks q) (map (shownIn ps hs) (upTo i))
-
-    asked-more : (i : ℕ) → asked (i + 1) ≡ asked i ++ cond (asks q (shownIn ps hs i)) (shownIn ps hs i ∷ []) []
-    unfolding asked
-    asked-more i =
-        rw (add-one i, map-append (shownIn ps hs) (upTo i) (i ∷ [])) (keep-append (asks q) (map (shownIn ps hs) (upTo i)) (shownIn ps hs i ∷ []))
-
-    -- the places put down are those of what is asked for of the first i
-    abbrev pub Listed : List ℕ → ℕ → ℕ → Type 0
-    Listed places number i = (shownThere ps hs places number ≡ asked i) × (number ≤ i) × (length places ≡ 128) × Slots places
-
-    pub list-none : Listed (replicate 128 0) 0 0
-    unfolding shownThere asked
-    list-none = (refl, omega arith, refl, every-same (λ (j : ℕ). j < 128) 128 0 (omega arith))
-
-    -- a turn of the loop: the place is put down, and counts if its element is asked for
-    module _ (places : List ℕ) (n i : ℕ) (listed : Listed places n i) (low : i < 128) where
-      counts : (b : Bool) → asks q (shownIn ps hs i) ≡ b → shownThere ps hs (set places n i) (n + boolByte b) ≡ asked (i + 1)
-      unfolding shownThere
-      counts true y =
-          rw (add-one n, take-suc-set places n i (omega (arith, listed)), map-append (shownIn ps hs) (take n places) (i ∷ []), asked-more i, y, listed .0)
-      counts false z = rw (add-zero n, take-set-le n places n i (omega arith), asked-more i, z, append-nil) (listed .0)
-
-      pub list-turn : (b : Bool) → b ≡ asks q (shownOf (getD ps i blankPart) (getD hs i 0)) → Listed (set places n i) (n + boolByte b) (i + 1)
-      unfolding shownIn
-      list-turn b is-b =
-          (counts b (sym is-b), less b, length-set places n i ∙ listed .2, every-set (λ (j : ℕ). j < 128) places n i (listed .3) low)
-        where
-          less : (b : Bool) → n + boolByte b ≤ i + 1
-          less true = omega (arith, listed)
-          less false = omega (arith, listed)
-
-module _ (places : List ℕ) (slots : Slots places) (k : ℕ) where
-  pub slot-below : getD places k 0 < 128
-  slot-below = go places k slots
-    where
-      go : (l : List ℕ) (i : ℕ) → Slots l → getD l i 0 < 128
-      go [] i s = omega arith
-      go (x ∷ xs) zero s = s .0
-      go (x ∷ xs) (suc i) s = go xs i (s .1)
-
-  pub slot-fits : getD places k 0 < 2 ^ 64
-  slot-fits = omega (arith, slot-below)
-
-  pub slot-times : getD places k 0 * 16 < 2 ^ 64
-  slot-times = omega (arith, slot-below)
-
-pub room-still : (size room there here : ℕ) → size ≤ room → there ≡ room → here ≡ there → size ≤ here
-room-still size room there here large is-there is-here = omega arith
-
-pub count-fits : (n : ℕ) (b : Bool) → n < 128 → n + boolByte b < 2 ^ 64
-count-fits n true low = omega arith
-count-fits n false low = omega arith
-
--- all of them put down
-all-listed : (d : Device) (q : Request) (n : ℕ) → length (d .table .parts) ≡ 128 → n ≡ min (d .table .count) 128 → asked (d .table .parts) (d .cells .healths) q n ≡ listOf d q
-unfolding shownIn asked listOf
-all-listed d q n full is-n =
-    let long : size (d .table) ≡ n = length-map (live (d .table)) (λ (p : Part). p .id .0) ∙ length-taken (d .table .parts) (d .table .count) n full is-n in
-    let same : (i : ℕ) → i < n → shownIn (d .table .parts) (d .cells .healths) i ≡ shownAt d i =
-    λ i h. ap (λ (p : Part). shownOf p (healthAt d i)) (sym (getD-take (d .table .count) (d .table .parts) i blankPart (omega arith))) in
-    ap (keep (asks q)) (map-upTo (shownIn (d .table .parts) (d .cells .healths)) (shownAt d) n same ∙ ap (λ (m : ℕ). map (shownAt d) (upTo m)) (sym long))
-
 -- ## The bytes
 
 abbrev pub bytesOf : Descriptor → List ℕ
@@ -183,17 +97,20 @@ put-there d out b e at is-out is-b = is-out ∙ ap (stored d at) is-b
 pub put-shown : (d out b : List ℕ) (at : ℕ) (x y : Descriptor) → out ≡ stored d at b → b ≡ bytesOf x → x ≡ y → out ≡ stored d at (bytesOf y)
 put-shown d out b at x y is-out is-b is-x = is-out ∙ ap (stored d at) (is-b ∙ ap bytesOf is-x)
 
+-- zeros from a place on: none yet, and one more
 pub zero-none : (d : List ℕ) (end : ℕ) → d ≡ stored d end (replicate (end - end) 0)
 zero-none d end = sym (rw sub-self (stored-none d end))
 
-pub zero-next : (d x : List ℕ) (end i : ℕ) → end ≤ i → i < length d → length x ≡ length d → x ≡ stored d end (replicate (i - end) 0) → set x i 0 ≡ stored d end (replicate (i + 1 - end) 0)
+pub zero-next : (d x : List ℕ) (end i : ℕ) → end ≤ i → i < length d → length x ≡ length d → x ≡ stored d end (replicate (i - end) 0)
+    → set x i 0 ≡ stored d end (replicate (i + 1 - end) 0)
 zero-next d x end i low less long is-x =
     let z : List ℕ = replicate (i - end) 0 in
     let place : i ≡ end + length z = omega (arith, length-replicate {A = ℕ} (i - end) 0) in
     let one-more : i + 1 - end ≡ i - end + 1 = omega arith in
     let more : z ++ (0 ∷ []) ≡ replicate (i + 1 - end) 0 = rw one-more (replicate-append-replicate (i - end) 1 0) in
     let room : end + length (z ++ (0 ∷ [])) ≤ length d = rw (more, length-replicate) (omega arith) in
-    let one : set x i 0 ≡ stored x i (0 ∷ []) = set-split x i 0 (omega arith) ∙ rw (le-leb (i + 1) (length x) (omega arith), add-one i) (sym (append-assoc (take i x) (0 ∷ []) (drop (suc i) x))) in
+    let one : set x i 0 ≡ stored x i (0 ∷ []) =
+    set-split x i 0 (omega arith) ∙ rw (le-leb (i + 1) (length x) (omega arith), add-one i) (sym (append-assoc (take i x) (0 ∷ []) (drop (suc i) x))) in
     one ∙ (λ j. stored (is-x j) (place j) (0 ∷ [])) ∙ stored-more d end z (0 ∷ []) room ∙ ap (stored d end) more
 
 -- ## The header
@@ -275,6 +192,9 @@ module _ (d : Device) (q : Request) (n : ℕ) (places : List ℕ) (number i : �
         let first : shownThere (d .table .parts) (d .cells .healths) places (h .returned) ≡ take (h .returned) (listOf d q) =
         sym (take-there (d .table .parts) (d .cells .healths) places number (h .returned) (omega (arith, is-returned))) ∙ ap (take (h .returned)) so in
         together d q h (shownThere (d .table .parts) (d .cells .healths) places (h .returned)) headed-so first some
+
+pub room-still : (size room there here : ℕ) → size ≤ room → there ≡ room → here ≡ there → size ≤ here
+room-still size room there here large is-there is-here = omega arith
 
 module _ (ps : List Part) (hs places : List ℕ) (r : ℕ) (b : List ℕ) (long : length places ≡ 128) (few : r ≤ 128) (room : 32 + 32 * r ≤ length b) where
   pub put-next : (k : ℕ) (x y : List ℕ) → k < r → x ≡ stored b 32 (flat bytesOf (take k (shownThere ps hs places r)))

@@ -128,8 +128,7 @@ fn put_list(ps: [Part; 128], hs: [u8; 128], places: [u8; 128], returned: usize, 
     let mut k: usize = 0;
     while k < returned {
         let j = places[k] as usize;
-        let p = ps[j];
-        put_descriptor(p, hs[j], k, buf);
+        put_descriptor(ps[j], hs[j], k, buf);
         k += 1;
     }
 }
@@ -148,8 +147,7 @@ fn fill(d: Device, request: Request, buf: &mut [u8])
     let mut i: usize = 0;
     while i < n {
         places[number] = i as u8;
-        let p = ps[i];
-        number += does_ask(request, p, hs[i]) as usize;
+        number += does_ask(request, ps[i], hs[i]) as usize;
         i += 1;
     }
     let header = header_of(d, number, request.count);

@@ -2,7 +2,8 @@
 use Prim.Native.Nat.{_-_}
 use lib.ListN.{length-map}
 use borrow.Author.Needs.{needs}
-use Rattle.status.proofs.Page.{list-none, Listing, listing-next, count-fits, returned-word, returned-few, returned-fits, returned-room, room-still, filled}
+use Rattle.status.proofs.Page.{Listing, listing-next, returned-word, returned-few, returned-fits, returned-room, room-still, filled}
+use Rattle.status.proofs.Places.{list-none, count-fits}
 use Rattle.status.proofs.fill.Statement.{statement}
 use Rattle.status.proofs.fill.Tie as tie
 

@@ -7,7 +7,8 @@ use borrow.Author.Needs.{needs}
 use Rattle.words.proofs.Lists.{stored-none}
 use Rattle.words.specs.Lists.{flat, stored}
 use Rattle.status.specs.Places.{shownThere}
-use Rattle.status.proofs.Page.{bytesOf, slot-below, slot-fits, slot-times, put-next, put-all}
+use Rattle.status.proofs.Page.{bytesOf, put-next, put-all}
+use Rattle.status.proofs.Places.{slot-below, slot-fits, slot-times}
 use Rattle.status.proofs.put_list.Statement.{statement}
 use Rattle.status.proofs.put_list.Tie as tie
 
