@@ -1,5 +1,5 @@
 -- docs/BENCH.md: "Numbers are hexadecimal, 1 to 16 digits in either case, and must fit their field."
-use Prim.Native.Nat.{ℕ, _-_}
+use Prim.Native.Nat.{ℕ}
 use mathlib.Core.Bool.{Bool, true, false, cond, _&&_}
 use mathlib.Core.List.{List}
 use lib.Dec.{leb, ltb}

@@ -1,12 +1,10 @@
 -- A line says what its bytes say (specs/Promises).
-use Prim.Native.Nat.{ℕ, _≤_, _<_}
+use Prim.Native.Nat.{_≤_, _<_}
 use mathlib.Core.Bool.{Bool, true, false}
-use mathlib.Core.List.{List}
 use mathlib.Core.Path.{_≡_, refl, sym}
-use native.Mathlib.Omega.{arith}
 use lib.Dec.{ltb}
 use lib.ListN.{length}
-use borrow.Author.Tests.{lt-ltb, le-ltb, ltb-true, ltb-false}
+use borrow.Author.Tests.{le-ltb, ltb-true, ltb-false}
 use Rattle.lines.proofs.EveryLine.{kept-whole, longer-told}
 use Rattle.lines.specs.Lines.{nothing, gathered}
 use Rattle.script.specs.Calls.{lineOf, meaningOf}

@@ -4,11 +4,11 @@ use mathlib.Core.Bool.{false}
 use mathlib.Core.List.{_++_}
 use mathlib.Core.Path.{_≡_, refl}
 use lib.ListN.{replicate}
+use Rattle.lines.specs.Numbers.{fieldOf, fieldAt}
+use Rattle.lines.specs.Words.{wordAt, same, named}
 use Rattle.paper.specs.declared.Security.the-variants.{Unlocked}
 use Rattle.text.specs.Text.{ascii}
 use Rattle.script.specs.Calls.{stateOf, askedAt, elementOf, makeOf, commandOf, gradeOf, lengthOf, pageCall, resetCall, eventCall, deviceCall, lineOf}
-use Rattle.lines.specs.Numbers.{fieldOf, fieldAt}
-use Rattle.lines.specs.Words.{wordAt, same, named}
 use Rattle.script.specs.declared.Event.the-variants.{Step}
 use Rattle.script.specs.declared.Line.the-variants.{Passed, NotACall, Element, Make, Command, Event, Grade, Length}
 use Rattle.script.specs.declared.Line.{Line}

@@ -1,20 +1,13 @@
 // What a script has on its bench, and its calls. No contract can say what was printed, so these functions promise nothing.
-ghost use mathlib.Core.Path.{_≡_};
-ghost use lib.ListN.{length};
 use device::Cells;
 use device::Device;
 use device::Mark;
 use device::Note;
 use device::Position;
 use device::Stepped;
-use paper::Answer;
 use paper::Lba;
-use print::head;
 use print::print_answer;
 use print::print_cells;
-use print::print_page;
-use print::print_touched;
-use print::within;
 use script::Command;
 use script::Event;
 use script::Grade;
@@ -29,13 +22,6 @@ pub struct Bench {
     pub made: bool,
     pub device: Device,
     pub kept: usize,
-}
-
-// What a buffer holds before it is lent.
-fn unanswered() -> [u8; 65536]
-    ensures { λ r. ⌜ 65536 ≡ length r ⌝ }
-{
-    [0xA5; 65536]
 }
 
 fn no_offer() -> Offer {
@@ -88,41 +74,6 @@ fn lengthened(list: Offer, e: Element) -> Offer {
     longer
 }
 
-fn is_done(answer: Answer) -> bool {
-    match answer {
-        Answer::Done => true,
-        _ => false,
-    }
-}
-
-// How many bytes an answer writes: 512p after a 12h that is answered 0.
-fn answer_size(c: Command, answer: Answer) -> usize {
-    if c.code != 0x12 {
-        return 0;
-    }
-    if is_done(answer) {
-        return 512 * (c.count as usize);
-    }
-    0
-}
-
-// The front call by value.
-fn commanded(d: Device, c: Command, length: usize) -> Stepped {
-    let security = c.security;
-    let lba = c.lba;
-    commands::command(d, security, c.code, c.feature, c.count, lba, length)
-}
-
-// The page of 12h.
-fn show(d: Device, c: Command, lent: &mut [u8]) {
-    if c.code != 0x12 {
-        return;
-    }
-    let security = c.security;
-    let lba = c.lba;
-    status::show(d, security, commands::asked(c.feature, c.count, lba), lent);
-}
-
 fn event(d: Device, e: Event) -> Stepped {
     match e {
         Event::Step => machine::step(d),
@@ -137,21 +88,6 @@ fn event(d: Device, e: Event) -> Stepped {
 fn graded(d: Device, g: Grade) -> Stepped {
     let id = g.id;
     machine::grade(d, id, g.health)
-}
-
-// Keeps the page that an answer wrote, if it wrote one, and returns how long the kept page is.
-fn keep(page: &mut [u8], kept: usize, written: &[u8]) -> usize {
-    if written.len() == 0 {
-        return kept;
-    }
-    words::put(page, 0, written);
-    written.len()
-}
-
-// Prints what an answer left in the lent buffer, of which it wrote the first n bytes.
-fn print_lent(lent: &[u8], n: usize) {
-    print_page(head(lent, n));
-    print_touched(lent, n);
 }
 
 impl Bench {
@@ -200,7 +136,7 @@ impl Bench {
         let s = machine::make_device(there, list);
         let answer = s.answer;
         let mut next = self.after(s);
-        if is_done(answer) {
+        if paper::number_of(answer) == 0 {
             next.made = true;
         }
         let none = no_offer();
@@ -208,22 +144,11 @@ impl Bench {
         next
     }
 
-    fn command_over(self, c: Command, lent: &mut [u8], page: &mut [u8]) -> Bench {
-        let d = self.device;
-        let s = commanded(d, c, lent.len());
-        show(d, c, lent);
-        let answer = s.answer;
-        let n = answer_size(c, answer);
-        let next = self.after(s);
-        print_lent(lent, n);
-        next.with_kept(keep(page, self.kept, head(lent, n)))
-    }
-
-    // The front call.
     fn command(self, c: Command, page: &mut [u8]) -> Bench {
-        let mut lent = unanswered();
-        let n = within(c.length, &lent);
-        self.command_over(c, &mut lent[..n], page)
+        let d = self.device;
+        let left = front::command(d, c, self.kept, page);
+        let device = left.device;
+        self.with_device(device).with_kept(left.kept)
     }
 
     // Makes a call on the device. Any other line leaves it as it is.

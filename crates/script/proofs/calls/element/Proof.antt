@@ -21,7 +21,7 @@ element-spec =
     (λ c κs. search needs)
     (λ c κs. search needs)
     (λ c. let made = c .before .before in
-    let figures = made .before .before .before .before .before .before in
+    let figures = made .before .before .before .before .before in
     let flag = figures .before in
     let blocks = flag .before in
     let health = blocks .before in
