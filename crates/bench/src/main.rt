@@ -35,15 +35,23 @@ fn is_no_call(line: Line) -> bool {
     }
 }
 
+// Whether a line makes no call, which is then printed.
+fn is_refused(made: bool, line: Line) -> bool {
+    if is_no_call(line) {
+        print_words(b"not a call");
+        return true;
+    }
+    if lacks_device(made, line) {
+        print_words(b"no device");
+        return true;
+    }
+    false
+}
+
 // Makes the call of a line that has ended.
 fn obey(bench: Bench, line: Gathered, page: &mut [u8]) -> Bench {
     let meaning = script::meaning_of(line);
-    if is_no_call(meaning) {
-        print_words(b"not a call");
-        return bench;
-    }
-    if lacks_device(bench.made, meaning) {
-        print_words(b"no device");
+    if is_refused(bench.made, meaning) {
         return bench;
     }
     bench.call(meaning, page)
