@@ -1,9 +1,10 @@
 -- The definitions compute each row of the twelve examples.
 use mathlib.Core.Bool.{true}
 use mathlib.Core.Path.{_≡_, refl}
-use Rattle.device.specs.Cells.{isSet}
+use Rattle.cells.specs.Cells.{isSet}
+use Rattle.cells.specs.Sights.{seeIn}
+use Rattle.device.specs.Record.{see}
 use Rattle.removal.specs.Remove.{judgeRoom, judgeFound}
-use Rattle.device.specs.Sights.{see}
 use Rattle.layout.specs.Requests.{refused, takesHealth}
 use Rattle.status.specs.Page.{shownOf, asks, listOf, pageOf}
 use Rattle.table.specs.Search.{sightIn}
@@ -11,5 +12,5 @@ use Rattle.words.specs.Lists.{all}
 use Rattle.agreement.specs.Bench.{asSaid, examples}
 
 pub twelve : all asSaid examples ≡ true
-unfolding sightIn see isSet judgeRoom judgeFound refused takesHealth shownOf asks listOf pageOf
+unfolding sightIn seeIn isSet judgeRoom judgeFound refused takesHealth shownOf asks listOf pageOf
 twelve = refl

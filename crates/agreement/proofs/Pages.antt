@@ -3,13 +3,14 @@ use Prim.Native.Nat.{ℕ}
 use mathlib.Core.List.{List, [], _∷_, _++_}
 use mathlib.Core.Path.{_≡_, refl}
 use lib.ListN.{replicate, take, drop}
-use Rattle.device.specs.Cells.{isSet}
-use Rattle.device.specs.Sights.{see}
+use Rattle.cells.specs.Cells.{isSet}
+use Rattle.cells.specs.Sights.{seeIn}
+use Rattle.device.specs.Record.{see}
 use Rattle.device.specs.declared.Device.{Device}
 use Rattle.layout.specs.Requests.{refused, takesHealth}
 use Rattle.layout.specs.declared.Request.{Request}
-use Rattle.machine.specs.Examples.{deviceA, run, remove, steps}
-use Rattle.machine.specs.Making.{fresh}
+use Rattle.device.specs.Examples.{deviceA, run, remove, steps}
+use Rattle.device.specs.Making.{fresh}
 use Rattle.paper.specs.Told.{tells}
 use Rattle.paper.specs.declared.Security.the-variants.{Locked, Unlocked}
 use Rattle.removal.specs.Remove.{judgeRoom, judgeFound}
@@ -61,7 +62,7 @@ small = refl
 -- locked, in a removal and marked, over two pages: the noted element, the removed number, FFh, and zeros to the end
 noted : shown (run deviceA (remove 1 3 0 ∷ steps 3)) Locked (request 0x4100 2 3) (old 1025)
     ≡ tells 0 (header 1 1 (0x03 ∷ 0x00 ∷ 0x01 ∷ 0x00 ∷ []) 1 ++ slow 0xFF ++ zeros 960 ++ old 1)
-unfolding shownOf asks listOf pageOf refused takesHealth sightIn see isSet judgeRoom judgeFound
+unfolding shownOf asks listOf pageOf refused takesHealth sightIn seeIn isSet judgeRoom judgeFound
 noted = refl
 
 -- "16 matching elements, one page: N = 16, returned 15"; the last has identifier 15

@@ -6,7 +6,7 @@ use lib.ListN.{length}
 use borrow.Author.Tests.{eq-eqb, ne-eqb}
 use Rattle.commands.specs.Lent.{lent}
 use Rattle.device.specs.Commands.{asked}
-use Rattle.machine.specs.Machine.{command, told}
+use Rattle.device.specs.Machine.{command, told}
 use Rattle.device.specs.declared.Device.{Device}
 use Rattle.layout.specs.declared.Request.{Request}
 use Rattle.paper.specs.Registers.{Registers}

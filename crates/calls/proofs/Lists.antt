@@ -9,8 +9,8 @@ use lib.Dec.{leb}
 use lib.ListN.{length, take, replicate, length-map}
 use lib.Seq.{take-all, take-at}
 use borrow.Author.Tests.{leb-true, leb-false, le-leb, lt-leb}
-use Rattle.machine.specs.Making.{fresh, madeOf}
-use Rattle.machine.specs.Promises.{Leaves}
+use Rattle.device.specs.Making.{fresh, madeOf}
+use Rattle.device.specs.Promises.{Leaves}
 use Rattle.paper.specs.Told.{tells}
 use Rattle.table.proofs.Laws.{good-count}
 use Rattle.table.specs.Check.{good, checkOf}

@@ -2,8 +2,8 @@
 use mathlib.Core.Path.{_≡_, sym, _∙_}
 use lib.ListN.{length}
 use borrow.Author.Tests.{ne-eqb}
-use Rattle.machine.proofs.EveryCall.{one-answer}
-use Rattle.machine.specs.Machine.{command, told}
+use Rattle.device.proofs.EveryCall.{one-answer}
+use Rattle.device.specs.Machine.{command, told}
 use Rattle.paper.proofs.Once.{number-injective, told-once}
 use Rattle.status.proofs.EveryPage.{one-page}
 use Rattle.table.proofs.Check.{verdict-injective}

@@ -5,7 +5,7 @@ use mathlib.Core.Bool.{cond}
 use mathlib.Core.List.{List, [], _∷_, _++_}
 use lib.Dec.{leb}
 use lib.ListN.{length, take, replicate}
-use Rattle.machine.specs.Making.{fresh}
+use Rattle.device.specs.Making.{fresh}
 use Rattle.device.specs.declared.Device.{Device}
 use Rattle.paper.specs.Told.{Told, tells}
 use Rattle.table.specs.Check.{good}

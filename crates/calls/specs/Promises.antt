@@ -6,9 +6,9 @@ use mathlib.Core.Path.{_≡_}
 use lib.ListN.{length, take}
 use Rattle.commands.specs.Lent.{lent}
 use Rattle.device.specs.Commands.{otherNumber}
-use Rattle.machine.specs.Machine.{command, told}
-use Rattle.machine.specs.Making.{madeOf}
-use Rattle.machine.specs.Promises.{One-answer, Leaves}
+use Rattle.device.specs.Machine.{command, told}
+use Rattle.device.specs.Making.{madeOf}
+use Rattle.device.specs.Promises.{One-answer, Leaves}
 use Rattle.device.specs.declared.Device.{Device}
 use Rattle.paper.specs.Answers.{numberOf}
 use Rattle.paper.specs.Registers.{Registers}

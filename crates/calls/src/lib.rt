@@ -6,9 +6,9 @@ ghost use lib.Dec.{leb};
 ghost use lib.ListN.{length, take, replicate};
 ghost use Rattle.commands.specs.Lent.{lent};
 ghost use Rattle.device.specs.Commands.{otherNumber};
-ghost use Rattle.machine.specs.Machine as machine;
-ghost use Rattle.machine.specs.Machine.{told};
-ghost use Rattle.machine.specs.Making.{madeOf};
+ghost use Rattle.device.specs.Machine as machine;
+ghost use Rattle.device.specs.Machine.{told};
+ghost use Rattle.device.specs.Making.{madeOf};
 ghost use Rattle.paper.specs.Answers.{numberOf};
 ghost use Rattle.paper.specs.Told.{said};
 ghost use Rattle.status.specs.Page.{shown};
@@ -33,7 +33,7 @@ use table::Offer;
 pub fn remove(d: &mut Device, security: Security, feature: u16, count: u16, lba: Lba) -> Answer
     ensures { λ r. ⌜ said r (now (d .exit)) ≡ told (now (d .entry)) (machine.command security (record { code = 0x7C; feature = feature; count = count; lba = lba }) 0) ⌝ }
 {
-    let r = machine::remove(*d, security, feature, count, lba);
+    let r = (*d).remove(security, feature, count, lba);
     *d = r.device;
     r.answer
 }
@@ -41,7 +41,7 @@ pub fn remove(d: &mut Device, security: Security, feature: u16, count: u16, lba:
 pub fn step(d: &mut Device) -> Answer
     ensures { λ r. ⌜ said r (now (d .exit)) ≡ told (now (d .entry)) machine.step ⌝ }
 {
-    let r = machine::step(*d);
+    let r = (*d).step();
     *d = r.device;
     r.answer
 }
@@ -49,7 +49,7 @@ pub fn step(d: &mut Device) -> Answer
 pub fn media_error(d: &mut Device) -> Answer
     ensures { λ r. ⌜ said r (now (d .exit)) ≡ told (now (d .entry)) machine.mediaError ⌝ }
 {
-    let r = machine::media_error(*d);
+    let r = (*d).media_error();
     *d = r.device;
     r.answer
 }
@@ -57,7 +57,7 @@ pub fn media_error(d: &mut Device) -> Answer
 pub fn power_cut(d: &mut Device) -> Answer
     ensures { λ r. ⌜ said r (now (d .exit)) ≡ told (now (d .entry)) machine.powerCut ⌝ }
 {
-    let r = machine::power_cut(*d);
+    let r = (*d).power_cut();
     *d = r.device;
     r.answer
 }
@@ -65,7 +65,7 @@ pub fn power_cut(d: &mut Device) -> Answer
 pub fn comreset(d: &mut Device) -> Answer
     ensures { λ r. ⌜ said r (now (d .exit)) ≡ told (now (d .entry)) machine.comreset ⌝ }
 {
-    let r = machine::comreset(*d);
+    let r = (*d).comreset();
     *d = r.device;
     r.answer
 }
@@ -73,7 +73,7 @@ pub fn comreset(d: &mut Device) -> Answer
 pub fn hardware_reset(d: &mut Device) -> Answer
     ensures { λ r. ⌜ said r (now (d .exit)) ≡ told (now (d .entry)) machine.hardwareReset ⌝ }
 {
-    let r = machine::hardware_reset(*d);
+    let r = (*d).hardware_reset();
     *d = r.device;
     r.answer
 }
@@ -81,7 +81,7 @@ pub fn hardware_reset(d: &mut Device) -> Answer
 pub fn software_reset(d: &mut Device) -> Answer
     ensures { λ r. ⌜ said r (now (d .exit)) ≡ told (now (d .entry)) machine.softwareReset ⌝ }
 {
-    let r = machine::software_reset(*d);
+    let r = (*d).software_reset();
     *d = r.device;
     r.answer
 }
@@ -89,7 +89,7 @@ pub fn software_reset(d: &mut Device) -> Answer
 pub fn grade(d: &mut Device, id: ElementId, health: u8) -> Answer
     ensures { λ r. ⌜ said r (now (d .exit)) ≡ told (now (d .entry)) (machine.grade id health) ⌝ }
 {
-    let r = machine::grade(*d, id, health);
+    let r = (*d).grade(id, health);
     *d = r.device;
     r.answer
 }
@@ -186,7 +186,7 @@ fn make_in(there: Device, elements: [Element; 128], count: usize, limit: u16) ->
         count,
         limit,
     };
-    machine::make_device(there, o)
+    device::make_device(there, o)
 }
 
 // Whether document 01 accepts a list as a table, and then its blocks in all.

@@ -3,7 +3,7 @@ use Prim.Native.Nat.{ℕ}
 use mathlib.Core.List.{List}
 use mathlib.Core.Path.{_≡_}
 use lib.ListN.{length}
-use Rattle.machine.specs.Machine.{command, told}
+use Rattle.device.specs.Machine.{command, told}
 use Rattle.device.specs.declared.Device.{Device}
 use Rattle.paper.specs.Registers.{Registers}
 use Rattle.paper.specs.declared.Security.{Security}

@@ -4,13 +4,14 @@ mod open;
 ghost use mathlib.Core.Path.{_≡_};
 ghost use mathlib.Core.Bool.{not, _&&_};
 ghost use Prim.Native.Nat.{_≤_};
+ghost use Rattle.cells.specs.Cells.{isSet};
+ghost use Rattle.device.specs.Record.{underWay};
 ghost use Rattle.paper.specs.Answers.{numberOf};
 ghost use Rattle.words.specs.Lists.{oneOf};
 ghost use Rattle.paper.specs.Told.{said};
-ghost use Rattle.device.specs.Cells.{underWay, isSet};
 ghost use Rattle.device.specs.Commands.{otherNumber, isMedia, isNamed, isOpen, sectorsOf, isBeyond, mediaNumber};
-ghost use Rattle.machine.specs.Machine as machine;
-ghost use Rattle.machine.specs.Machine.{told};
+ghost use Rattle.device.specs.Machine as machine;
+ghost use Rattle.device.specs.Machine.{told};
 use device::Device;
 use device::Stepped;
 use layout::Request;
@@ -173,5 +174,5 @@ pub fn command(
     ensures { λ r. ⌜ said (r .answer) (r .device) ≡ told d (machine.command security (record { code = code; feature = feature; count = count; lba = lba }) room) ⌝ }
 {
     let other = quiet_answer(d, security, code, feature, count, lba, room);
-    machine::command(d, security, code, feature, count, lba, other)
+    d.command(security, code, feature, count, lba, other)
 }

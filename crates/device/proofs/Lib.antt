@@ -1,3 +1,8 @@
--- What is proved of the device's functions.
-pub mod Sights
-pub mod Stores
+-- What is proved of the machine, and of the calls.
+pub mod EveryCall
+pub mod Examples
+pub mod Making
+pub mod OneCell
+pub mod PowerCut
+pub mod Rules
+pub mod Shapes

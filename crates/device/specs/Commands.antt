@@ -3,6 +3,7 @@ use Prim.Native.Nat.{ℕ, _+_, _*_, _%_, _^_}
 use mathlib.Core.Bool.{Bool, cond, not, _&&_, _||_}
 use mathlib.Core.List.{[], _∷_}
 use lib.Dec.{ltb, eqb}
+use Rattle.cells.specs.Cells.{isSet, busyNumber, failedNumber}
 use Rattle.layout.specs.Requests.{refused, pagesOf}
 use Rattle.layout.specs.declared.Request.{Request}
 use Rattle.paper.specs.Registers.{Registers, low48}
@@ -10,8 +11,8 @@ use Rattle.paper.specs.Table12.{aborts}
 use Rattle.paper.specs.declared.Lba.{Lba}
 use Rattle.paper.specs.declared.Security.{Security}
 use Rattle.words.specs.Lists.{oneOf}
-use Rattle.device.specs.Cells.{underWay, isSet, busyNumber, failedNumber}
 use Rattle.paper.specs.declared.Command.the-variants.{Status}
+use Rattle.device.specs.Record.{underWay}
 use Rattle.device.specs.declared.Device.{Device}
 
 -- ## 12h: "all 4; then the buffer below 512p bytes: 7. Allowed during a removal."; 1 by 000, table 12, where no state aborts it
@@ -66,6 +67,6 @@ mediaNumber d count lba = cond (isSet (d .cells .failed)) (failedNumber (d .cell
 -- "Order: not open during a removal: 2; unknown: 6; media access ..; else 0"
 unfoldable pub otherNumber : Device → Registers → ℕ
 otherNumber d r =
-    cond (underWay d && not (isOpen (r .code) (r .feature) (r .lba .0))) (busyNumber d)
+    cond (underWay d && not (isOpen (r .code) (r .feature) (r .lba .0))) (busyNumber (d .cells))
     (cond (not (isNamed (r .code))) 6
     (cond (isMedia (r .code)) (mediaNumber d (r .count) (r .lba)) 0))

@@ -1,6 +1,7 @@
--- The device of document 01: its cells, the stores that write them, and a ruling, which every call makes: a number, ONE store and the next
--- position. Nothing but a ruling carried out changes a device.
-pub mod Cells
+-- The device of document 01: the events that it meets, what each rules, and the making of a device. Nothing but these changes a device.
 pub mod Commands
-pub mod Rulings
-pub mod Sights
+pub mod Examples
+pub mod Machine
+pub mod Making
+pub mod Promises
+pub mod Record

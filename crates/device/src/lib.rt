@@ -1,81 +1,32 @@
-// The device by value: the table as built, the cells, the position. A call rules on an answer, one store and the next position; carrying the
-// ruling out changes cells and position alone, and nothing else changes a device.
+// The device by value: the table as built, the cells, the position. Each call rules on an answer, one store and the next position; carrying the
+// ruling out changes cells and position alone, and nothing else changes a device. `make_device` makes a new one.
 ghost use mathlib.Core.Path.{_≡_};
+ghost use Rattle.cells.specs.Cells.{isSet};
+ghost use Rattle.cells.specs.Rulings.{ruled};
 ghost use Rattle.paper.specs.Answers.{numberOf};
 ghost use Rattle.paper.specs.Told.{said};
-ghost use Rattle.device.specs.Cells.{make, underWay, isSet};
-ghost use Rattle.device.specs.Rulings as rulings;
-ghost use Rattle.device.specs.Rulings.{ruled, tell};
-ghost use Rattle.device.specs.Sights as sights;
+ghost use Rattle.device.specs.Machine as machine;
+ghost use Rattle.device.specs.Machine.{told};
+ghost use Rattle.device.specs.Making.{madeOf};
+ghost use Rattle.device.specs.Record.{underWay, tell};
+use cells::Cells;
+use cells::Mark;
+use cells::Note;
+use cells::Position;
+use cells::Ruling;
+use cells::quiet;
 use paper::Answer;
 use paper::ElementId;
 use paper::Lba;
-use table::Part;
+use paper::Security;
+use table::Checked;
+use table::Offer;
 use table::Table;
-
-// What a note holds of the removal under way.
-pub struct Removal {
-    pub element: ElementId,
-    pub old: Lba,
-    pub new: Lba,
-}
-
-pub enum Note {
-    Empty,
-    Full(Removal),
-}
-
-// The failed mark.
-pub enum Mark {
-    Clear,
-    Set,
-}
-
-// The next step of the step list: five work steps, four winding-up steps.
-pub enum Position {
-    Work1,
-    Work2,
-    Work3,
-    Work4,
-    Work5,
-    Wind1,
-    Wind2,
-    Wind3,
-    Wind4,
-}
-
-// "Cells that survive power loss, each written whole or not at all". A health is the cell of its place in the table.
-pub struct Cells {
-    pub native: Lba,
-    pub accessible: Lba,
-    pub healths: [u8; 128],
-    pub failed: Mark,
-    pub note: Note,
-}
 
 pub struct Device {
     pub table: Table,
     pub cells: Cells,
     pub position: Position,
-}
-
-// A store writes one cell whole; a health by its place. `Marked` is the marking store.
-pub enum Store {
-    Nothing,
-    NativeTo(Lba),
-    AccessibleTo(Lba),
-    Marked(usize),
-    Graded(usize, u8),
-    FailedTo(Mark),
-    Noted(Removal),
-    NoteEmptied,
-}
-
-// What a call rules: its answer, its one store, the position after it.
-pub struct Ruling {
-    pub answer: Answer,
-    pub store: Store,
-    pub next: Position,
 }
 
 // What a call hands back.
@@ -84,144 +35,13 @@ pub struct Stepped {
     pub answer: Answer,
 }
 
-// What the search sees of an element: where it stopped, the part and the health there, and whether it is the one sought.
-pub struct Seen {
-    pub part: Part,
-    pub place: usize,
-    pub health: u8,
-    pub hit: bool,
-}
-
-// ---- Each cell after a store, whatever the others are
-
-fn native_after(old: Lba, store: Store) -> Lba
-    ensures { λ r. ⌜ ((c : Cells) → old ≡ c .native → r ≡ make store c .native) ⌝ }
-{
-    match store {
-        Store::NativeTo(x) => x,
-        _ => old,
-    }
-}
-
-fn accessible_after(old: Lba, store: Store) -> Lba
-    ensures { λ r. ⌜ ((c : Cells) → old ≡ c .accessible → r ≡ make store c .accessible) ⌝ }
-{
-    match store {
-        Store::AccessibleTo(x) => x,
-        _ => old,
-    }
-}
-
-fn healths_after(old: [u8; 128], store: Store) -> [u8; 128]
-    ensures { λ r. ⌜ ((c : Cells) → old ≡ c .healths → r ≡ make store c .healths) ⌝ }
-{
-    match store {
-        Store::Marked(place) => table::with_health(old, place, 0xFF),
-        Store::Graded(place, health) => table::with_health(old, place, health),
-        _ => old,
-    }
-}
-
-fn failed_after(old: Mark, store: Store) -> Mark
-    ensures { λ r. ⌜ ((c : Cells) → old ≡ c .failed → r ≡ make store c .failed) ⌝ }
-{
-    match store {
-        Store::FailedTo(m) => m,
-        _ => old,
-    }
-}
-
-// A full note, built field by field. Copied whole in two arms, a removal would be one copy through a pointer to either, and for that pointer
-// the compiler would keep the whole device in memory.
-fn full(w: Removal) -> Note
-    ensures { λ r. ⌜ r ≡ Note.Full w ⌝ }
-{
-    let element = w.element;
-    let old = w.old;
-    let new = w.new;
-    Note::Full(Removal { element, old, new })
-}
-
-// The note as it is, built likewise.
-fn same(note: Note) -> Note
-    ensures { λ r. ⌜ r ≡ note ⌝ }
-{
-    match note {
-        Note::Empty => Note::Empty,
-        Note::Full(w) => full(w),
-    }
-}
-
-fn note_after(old: Note, store: Store) -> Note
-    ensures { λ r. ⌜ ((c : Cells) → old ≡ c .note → r ≡ make store c .note) ⌝ }
-{
-    match store {
-        Store::Noted(w) => full(w),
-        Store::NoteEmptied => Note::Empty,
-        _ => same(old),
-    }
-}
-
-impl Cells {
-    // The cells with one store made. The healths come last, so that their 128 bytes are moved at the end of every path alike.
-    fn after(self, store: Store) -> Cells
-        ensures { λ r. ⌜ r ≡ make store self ⌝ }
-    {
-        let old_native = self.native;
-        let old_accessible = self.accessible;
-        let old_healths = self.healths;
-        let old_failed = self.failed;
-        let old_note = self.note;
-        let native = native_after(old_native, store);
-        let accessible = accessible_after(old_accessible, store);
-        let failed = failed_after(old_failed, store);
-        let note = note_after(old_note, store);
-        let healths = healths_after(old_healths, store);
-        Cells {
-            native,
-            accessible,
-            healths,
-            failed,
-            note,
-        }
-    }
-}
-
-// ---- The rulings
-
-// An answer and no store; the position afterwards is this one.
-pub fn quiet(answer: Answer, at: Position) -> Ruling
-    ensures { λ r. ⌜ ruled r ≡ rulings.quiet (numberOf answer) at ⌝ }
-{
-    Ruling {
-        answer,
-        store: Store::Nothing,
-        next: at,
-    }
-}
-
-// Answer 0 with one store, and on to a position.
-pub fn goes(store: Store, next: Position) -> Ruling
-    ensures { λ r. ⌜ ruled r ≡ rulings.goes store next ⌝ }
-{
-    Ruling {
-        answer: Answer::Done,
-        store,
-        next,
-    }
-}
-
 impl Device {
     // Whether a removal is under way.
     pub fn is_under_way(self) -> bool
         ensures { λ r. ⌜ r ≡ underWay self ⌝ }
     {
         let cells = self.cells;
-        let note = cells.note;
-        match note {
-            Note::Empty => false,
-            Note::Full(_) => true,
-        }
+        cells.is_under_way()
     }
 
     // Whether the failed mark is set.
@@ -229,15 +49,11 @@ impl Device {
         ensures { λ r. ⌜ r ≡ isSet (self .cells .failed) ⌝ }
     {
         let cells = self.cells;
-        let mark = cells.failed;
-        match mark {
-            Mark::Clear => false,
-            Mark::Set => true,
-        }
+        cells.is_failed()
     }
 
-    // The ruling's store made and its position taken: the one place where a device is changed.
-    pub fn carry_out(self, ruling: Ruling) -> Stepped
+    // The ruling's store made and its position taken: the one place where an event changes a device.
+    fn carry_out(self, ruling: Ruling) -> Stepped
         ensures { λ r. ⌜ said (r .answer) (r .device) ≡ tell self (ruled ruling) ⌝ }
     {
         let answer = ruling.answer;
@@ -256,19 +72,143 @@ impl Device {
         }
     }
 
-    // What the search sees of an element.
-    pub fn see(self, id: ElementId) -> Seen
-        ensures { λ r. ⌜ r ≡ sights.see self id ⌝ }
+    // REMOVE ELEMENT AND TRUNCATE (7Ch), which needs no buffer.
+    pub fn remove(self, security: Security, feature: u16, count: u16, lba: Lba) -> Stepped
+        ensures { λ r. ⌜ said (r .answer) (r .device) ≡ told self (machine.command security (record { code = 0x7C; feature = feature; count = count; lba = lba }) 0) ⌝ }
     {
-        let t = self.table;
-        let healths = self.cells.healths;
-        let s = t.sight(id);
-        let part = s.part;
-        Seen {
-            part,
-            place: s.place,
-            health: table::health_at(healths, s.place),
-            hit: s.hit,
+        let table = self.table;
+        let cells = self.cells;
+        let at = self.position;
+        let r = removal::rule_remove(table, cells, at, security, feature, count, lba);
+        self.carry_out(r)
+    }
+
+    fn rule_command(
+        self,
+        security: Security,
+        code: u8,
+        feature: u16,
+        count: u16,
+        lba: Lba,
+        other: Answer,
+    ) -> Ruling
+        ensures { λ r. ⌜ ruled r ≡ machine.ruleCommand self security (record { code = code; feature = feature; count = count; lba = lba }) (numberOf other) ⌝ }
+    {
+        let at = self.position;
+        if code == 0x7C {
+            let table = self.table;
+            let cells = self.cells;
+            return removal::rule_remove(table, cells, at, security, feature, count, lba);
         }
+        quiet(other, at)
+    }
+
+    // Any command: 7Ch, or another code with what it is answered.
+    pub fn command(
+        self,
+        security: Security,
+        code: u8,
+        feature: u16,
+        count: u16,
+        lba: Lba,
+        other: Answer,
+    ) -> Stepped
+        ensures { λ r. ⌜ said (r .answer) (r .device) ≡ tell self (machine.ruleCommand self security (record { code = code; feature = feature; count = count; lba = lba }) (numberOf other)) ⌝ }
+    {
+        let r = self.rule_command(security, code, feature, count, lba, other);
+        self.carry_out(r)
+    }
+
+    // One work step, or one step of winding up.
+    pub fn step(self) -> Stepped
+        ensures { λ r. ⌜ said (r .answer) (r .device) ≡ told self machine.step ⌝ }
+    {
+        let table = self.table;
+        let cells = self.cells;
+        let at = self.position;
+        let r = steps::rule_step(table, cells, at);
+        self.carry_out(r)
+    }
+
+    pub fn media_error(self) -> Stepped
+        ensures { λ r. ⌜ said (r .answer) (r .device) ≡ told self machine.mediaError ⌝ }
+    {
+        let cells = self.cells;
+        let note = cells.note;
+        let at = self.position;
+        let r = steps::rule_stop(note, at, Answer::NoRemoval);
+        self.carry_out(r)
+    }
+
+    pub fn power_cut(self) -> Stepped
+        ensures { λ r. ⌜ said (r .answer) (r .device) ≡ told self machine.powerCut ⌝ }
+    {
+        let cells = self.cells;
+        let note = cells.note;
+        let at = self.position;
+        let r = steps::rule_stop(note, at, Answer::Done);
+        self.carry_out(r)
+    }
+
+    pub fn comreset(self) -> Stepped
+        ensures { λ r. ⌜ said (r .answer) (r .device) ≡ told self machine.comreset ⌝ }
+    {
+        let at = self.position;
+        let r = quiet(Answer::Done, at);
+        self.carry_out(r)
+    }
+
+    pub fn hardware_reset(self) -> Stepped
+        ensures { λ r. ⌜ said (r .answer) (r .device) ≡ told self machine.hardwareReset ⌝ }
+    {
+        let at = self.position;
+        let r = quiet(Answer::Done, at);
+        self.carry_out(r)
+    }
+
+    pub fn software_reset(self) -> Stepped
+        ensures { λ r. ⌜ said (r .answer) (r .device) ≡ told self machine.softwareReset ⌝ }
+    {
+        let at = self.position;
+        let r = quiet(Answer::Done, at);
+        self.carry_out(r)
+    }
+
+    pub fn grade(self, id: ElementId, health: u8) -> Stepped
+        ensures { λ r. ⌜ said (r .answer) (r .device) ≡ told self (machine.grade id health) ⌝ }
+    {
+        let table = self.table;
+        let cells = self.cells;
+        let at = self.position;
+        let r = steps::rule_grade(table, cells, at, id, health);
+        self.carry_out(r)
+    }
+}
+
+// A device of an offered table, or 8 and the device that was there.
+pub fn make_device(there: Device, offer: Offer) -> Stepped
+    ensures { λ r. ⌜ said (r .answer) (r .device) ≡ madeOf there offer ⌝ }
+{
+    let checked = offer.check();
+    let Checked::Blocks(n) = checked else {
+        return Stepped {
+            device: there,
+            answer: Answer::TableRefused,
+        };
+    };
+    let start = Lba(n - 1);
+    Stepped {
+        device: Device {
+            table: offer.table(),
+            cells: Cells {
+                native: start,
+                accessible: start,
+                healths: offer.healths(),
+                failed: Mark::Clear,
+                note: Note::Empty,
+            },
+            position: Position::Work1,
+        },
+        answer: Answer::Done,
     }
 }

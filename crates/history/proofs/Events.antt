@@ -4,23 +4,23 @@ use mathlib.Core.Bool.{Bool, true, false, cond, not, _&&_, true≢false, false�
 use mathlib.Core.Path.{_≡_, refl, sym, subst, subst⁻¹, _∙_}
 use native.Mathlib.Omega.{arith}
 use borrow.Author.Tests.{eq-eqb}
-use Rattle.machine.proofs.Shapes.{still, moving, stopping, Shape, quiet, clears, notes, advances, winds, Grading, refuses, grades, each, choose}
-use Rattle.device.specs.Cells.{underWay, removedNumber}
-use Rattle.machine.specs.Machine.{Event, command, step, mediaError, powerCut, comreset, hardwareReset, softwareReset, grade, rule}
+use Rattle.cells.specs.Rulings.{Ruled}
+use Rattle.cells.specs.Sights.{gone}
+use Rattle.device.proofs.Shapes.{still, moving, stopping, Shape, quiet, clears, notes, advances, winds, Grading, refuses, grades, each, choose}
+use Rattle.device.specs.Machine.{Event, command, step, mediaError, powerCut, comreset, hardwareReset, softwareReset, grade, rule}
+use Rattle.device.specs.Record.{underWay, removedNumber, see, storeAt}
 use Rattle.paper.specs.Table12.{aborts}
 use Rattle.removal.specs.Remove.{identifierOf, limitMet, tooSmall, tooHigh, removalOf, judgeRoom, judgeFound, ruleRemove}
-use Rattle.device.specs.Rulings.{Ruled}
-use Rattle.device.specs.Sights.{see, gone}
-use Rattle.steps.specs.Steps.{storeAt, nextOf}
+use Rattle.steps.specs.Steps.{nextOf}
 use Rattle.paper.specs.declared.Command.the-variants.{Remove}
 use Rattle.device.specs.declared.Device.{Device}
-use Rattle.device.specs.declared.Mark.the-variants.{Clear, Set}
-use Rattle.device.specs.declared.Note.the-variants.{Full}
-use Rattle.device.specs.declared.Position.the-variants.{Work1, Work2, Work3, Work4, Work5, Wind1, Wind2, Wind3, Wind4}
-use Rattle.device.specs.declared.Position.{Position}
-use Rattle.device.specs.declared.Removal.{Removal}
-use Rattle.device.specs.declared.Store.the-variants.{Nothing, NativeTo, AccessibleTo, Marked, Graded, FailedTo, Noted, NoteEmptied}
-use Rattle.device.specs.declared.Store.{Store}
+use Rattle.cells.specs.declared.Mark.the-variants.{Clear, Set}
+use Rattle.cells.specs.declared.Note.the-variants.{Full}
+use Rattle.cells.specs.declared.Position.the-variants.{Work1, Work2, Work3, Work4, Work5, Wind1, Wind2, Wind3, Wind4}
+use Rattle.cells.specs.declared.Position.{Position}
+use Rattle.cells.specs.declared.Removal.{Removal}
+use Rattle.cells.specs.declared.Store.the-variants.{Nothing, NativeTo, AccessibleTo, Marked, Graded, FailedTo, Noted, NoteEmptied}
+use Rattle.cells.specs.declared.Store.{Store}
 use Rattle.paper.specs.Elements.{removedHealth}
 use Rattle.paper.specs.Registers.{low48}
 use Rattle.paper.specs.declared.ElementId.{ElementId}
@@ -47,7 +47,7 @@ module _ (d : Device) (id : ElementId) (lba : Lba) where
       (λ _. choose Notes (tooHigh (d .cells .native .0) blocks (lba .0)) (λ _ z. absurd (omega arith))
       (λ _ z. (removalOf (d .cells .native) id lba blocks, refl, refl, refl)))
 
-  notes-found : gone (see d id) ≡ false → Notes (judgeFound d id lba (see d id))
+  notes-found : gone (see d id) ≡ false → Notes (judgeFound (d .table) (d .cells) (d .position) id lba (see d id))
   unfolding judgeFound
   notes-found s =
       choose Notes (not (see d id .hit && isStorage (see d id .part))) (λ _ z. absurd (omega arith))
@@ -57,7 +57,7 @@ module _ (d : Device) (id : ElementId) (lba : Lba) where
 
 pub acceptance : Acceptance
 acceptance d security r room is-7C z standing =
-    let removes : rule d (command security r room) ≡ ruleRemove d security r = rw (eq-eqb _ _ is-7C) in
+    let removes : rule d (command security r room) ≡ ruleRemove (d .table) (d .cells) (d .position) security r = rw (eq-eqb _ _ is-7C) in
     subst⁻¹ (Notes d (identifierOf r) (low48 (r .lba))) removes
     (choose (Notes d (identifierOf r) (low48 (r .lba))) (aborts Remove security) (λ _ y. absurd (omega arith))
     (λ _. choose (Notes d (identifierOf r) (low48 (r .lba))) (underWay d) (λ _ y. absurd (omega arith))

@@ -7,19 +7,19 @@ use native.Mathlib.Omega.{arith}
 use lib.Dec.{eqb}
 use lib.ListN.{length, getD, set, length-set}
 use borrow.Author.Tests.{eqb-true, eq-eqb, ne-eqb, leb-true}
-use Rattle.machine.proofs.Shapes.{Kind, Standing, Shape, quiet, clears, notes, advances, winds, Grading, refuses, grades, each}
-use Rattle.device.specs.Cells.{healthAt}
-use Rattle.machine.specs.Machine.{Event, command, step, mediaError, powerCut, comreset, hardwareReset, softwareReset, grade, rule}
-use Rattle.device.specs.Rulings.{Ruled, carriedOut, goes}
-use Rattle.device.specs.Sights.{see, gone}
-use Rattle.steps.specs.Steps.{woundUp, storeAt, nextOf}
+use Rattle.cells.specs.Rulings.{Ruled, goes}
+use Rattle.cells.specs.Sights.{gone}
+use Rattle.device.proofs.Shapes.{Kind, Standing, Shape, quiet, clears, notes, advances, winds, Grading, refuses, grades, each}
+use Rattle.device.specs.Machine.{Event, command, step, mediaError, powerCut, comreset, hardwareReset, softwareReset, grade, rule}
+use Rattle.device.specs.Record.{healthAt, carriedOut, see, woundUp, storeAt}
+use Rattle.steps.specs.Steps.{nextOf}
 use Rattle.device.specs.declared.Device.{Device}
-use Rattle.device.specs.declared.Note.the-variants.{Empty, Full}
-use Rattle.device.specs.declared.Note.{Note}
-use Rattle.device.specs.declared.Position.the-variants.{Work1, Work2, Work3, Work4, Work5, Wind1, Wind2, Wind3, Wind4}
-use Rattle.device.specs.declared.Position.{Position}
-use Rattle.device.specs.declared.Removal.{Removal}
-use Rattle.device.specs.declared.Store.the-variants.{Nothing, Marked}
+use Rattle.cells.specs.declared.Note.the-variants.{Empty, Full}
+use Rattle.cells.specs.declared.Note.{Note}
+use Rattle.cells.specs.declared.Position.the-variants.{Work1, Work2, Work3, Work4, Work5, Wind1, Wind2, Wind3, Wind4}
+use Rattle.cells.specs.declared.Position.{Position}
+use Rattle.cells.specs.declared.Removal.{Removal}
+use Rattle.cells.specs.declared.Store.the-variants.{Nothing, Marked}
 use Rattle.paper.specs.Elements.{removedHealth}
 use Rattle.paper.specs.declared.ElementId.{ElementId}
 use Rattle.paper.specs.declared.Lba.{Lba}

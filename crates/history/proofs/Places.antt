@@ -9,8 +9,8 @@ use lib.Dec.{eqb}
 use lib.ListN.{length, getD, set}
 use lib.Seq.{getD-set-same, getD-set-other}
 use borrow.Author.Tests.{eqb-true, eqb-false}
-use Rattle.device.specs.Cells.{healthAt}
-use Rattle.device.specs.Sights.{see, gone}
+use Rattle.cells.specs.Sights.{seeIn, gone}
+use Rattle.device.specs.Record.{healthAt, see}
 use Rattle.device.specs.declared.Device.{Device}
 use Rattle.paper.specs.Elements.{removedHealth}
 use Rattle.paper.specs.declared.ElementId.{ElementId}
@@ -33,12 +33,12 @@ table-kept d (s ▸ e) = table-kept d s
 module _ (t : Table) (d : Device) (built : d .table ≡ t) (id : ElementId) where
   -- where another device with the table has it
   pub see-same : (x : Device) → x .table ≡ t → (see d id .hit ≡ see x id .hit) × (see d id .place ≡ see x id .place)
-  unfolding see
+  unfolding seeIn
   see-same x q = rw (built, q) (refl, refl)
 
   -- a hit is there
   pub hit-there : see d id .hit ≡ true → (see d id .place < size t) × (identifierAt t (see d id .place) ≡ id .0)
-  unfolding see sightIn
+  unfolding seeIn sightIn
   hit-there q =
       subst (λ (u : Table). (see d id .place < size u) × (identifierAt u (see d id .place) ≡ id .0)) built (hits-there (id .0) (identifiers (d .table)) q)
 
@@ -46,7 +46,7 @@ module _ (t : Table) (d : Device) (built : d .table ≡ t) (id : ElementId) wher
   hit-present q = let w = hit-there q in (see d id .place, w .0, w .1)
 
   see-health : see d id .health ≡ healthAt d (see d id .place)
-  unfolding see
+  unfolding seeIn
   see-health = refl
 
   pub gone-present : gone (see d id) ≡ true → Present t (id .0)
@@ -72,7 +72,7 @@ module _ (t : Table) (asc : ascending 0 (identifiers t) ≡ true) where
   module _ (d : Device) (built : d .table ≡ t) where
     -- what is there is seen, at its place
     see-place : (i : ℕ) → i < size t → (see d (record { 0 = identifierAt t i }) .hit ≡ true) × (see d (record { 0 = identifierAt t i }) .place ≡ i)
-    unfolding see sightIn
+    unfolding seeIn sightIn
     see-place i h = rw built (hits-member 0 (identifiers t) i asc h)
 
     pub present-hit : (id : ElementId) → Present t (id .0) → see d id .hit ≡ true

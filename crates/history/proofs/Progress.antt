@@ -3,20 +3,20 @@ use Prim.Native.Nat.{ℕ, zero, suc, _<_, _≤_}
 use mathlib.Core.Bool.{true, false≢true}
 use mathlib.Core.Path.{_≡_, refl, sym, ap, _∙_, subst, subst⁻¹}
 use native.Mathlib.Omega.{arith}
-use Rattle.machine.proofs.Shapes.{still, Shape, quiet, clears, notes, Grading, refuses, grades, each, marking-note}
-use Rattle.device.specs.Cells.{make}
-use Rattle.machine.specs.Machine.{Event, command, step, mediaError, powerCut, comreset, hardwareReset, softwareReset, grade, rule, told}
-use Rattle.device.specs.Rulings.{Ruled, carriedOut, goes}
-use Rattle.device.specs.Sights.{see}
-use Rattle.steps.specs.Steps.{storeAt, nextOf, ruleStep, ruleStop, woundUp}
+use Rattle.cells.specs.Cells.{make}
+use Rattle.cells.specs.Rulings.{Ruled, goes}
+use Rattle.device.proofs.Shapes.{still, Shape, quiet, clears, notes, Grading, refuses, grades, each, marking-note}
+use Rattle.device.specs.Machine.{Event, command, step, mediaError, powerCut, comreset, hardwareReset, softwareReset, grade, rule, told}
+use Rattle.device.specs.Record.{carriedOut, see, storeAt, woundUp}
+use Rattle.steps.specs.Steps.{nextOf, ruleStep, ruleStop}
 use Rattle.device.specs.declared.Device.{Device}
-use Rattle.device.specs.declared.Note.the-variants.{Empty, Full}
-use Rattle.device.specs.declared.Note.{Note}
-use Rattle.device.specs.declared.Position.the-variants.{Work1, Work2, Work3, Work4, Work5, Wind1, Wind2, Wind3, Wind4}
-use Rattle.device.specs.declared.Position.{Position}
-use Rattle.device.specs.declared.Removal.{Removal}
-use Rattle.device.specs.declared.Store.the-variants.{Marked, Noted}
-use Rattle.device.specs.declared.Store.{Store}
+use Rattle.cells.specs.declared.Note.the-variants.{Empty, Full}
+use Rattle.cells.specs.declared.Note.{Note}
+use Rattle.cells.specs.declared.Position.the-variants.{Work1, Work2, Work3, Work4, Work5, Wind1, Wind2, Wind3, Wind4}
+use Rattle.cells.specs.declared.Position.{Position}
+use Rattle.cells.specs.declared.Removal.{Removal}
+use Rattle.cells.specs.declared.Store.the-variants.{Marked, Noted}
+use Rattle.cells.specs.declared.Store.{Store}
 use Rattle.paper.specs.declared.ElementId.{ElementId}
 use Rattle.table.proofs.Check.{both}
 use Rattle.history.specs.Progress.{calm, steps, At, On-its-way, workStore, Five-steps, Fifth-ends, stops, Stop-winds, windStore, Four-steps, Fourth-ends}
@@ -59,7 +59,7 @@ module _ (w : Removal) where
 
   -- the ruling on a step, at a known note and position
   ruled-at : (p : Position) (d : Device) → At p w d → rule d step ≡ goes (storeAt d w p) (nextOf p)
-  ruled-at p d o = ap (ruleStep d) (o .note) ∙ ap (λ (q : Position). goes (storeAt d w q) (nextOf q)) (o .position)
+  ruled-at p d o = ap (ruleStep (d .table) (d .cells) (d .position)) (o .note) ∙ ap (λ (q : Position). goes (storeAt d w q) (nextOf q)) (o .position)
 
   -- a way of `end` steps, none of which empties the note
   module _ (way : ℕ → Position) (end : ℕ)

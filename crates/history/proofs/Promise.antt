@@ -3,17 +3,18 @@ use Prim.Native.Nat.{ℕ, _≤_, _<_}
 use mathlib.Core.Bool.{Bool, true, false, cond, _||_, true≢false, or-true}
 use mathlib.Core.Path.{_≡_, refl, sym, ap, _∙_}
 use borrow.Author.Tests.{eqb-true, le-leb, leb-true}
-use Rattle.machine.proofs.PowerCut.{stop-keeps-cells}
-use Rattle.device.specs.Cells.{make, isSet, healthAt}
-use Rattle.machine.specs.Machine.{rule, powerCut}
-use Rattle.device.specs.Sights.{see, gone}
+use Rattle.cells.specs.Cells.{make, isSet}
+use Rattle.cells.specs.Sights.{gone}
+use Rattle.device.proofs.PowerCut.{stop-keeps-cells}
+use Rattle.device.specs.Machine.{rule, powerCut}
+use Rattle.device.specs.Record.{healthAt, see}
 use Rattle.steps.specs.Steps.{ruleStop}
-use Rattle.device.specs.declared.Cells.{Cells}
+use Rattle.cells.specs.declared.Cells.{Cells}
 use Rattle.device.specs.declared.Device.{Device}
-use Rattle.device.specs.declared.Note.the-variants.{Empty, Full}
-use Rattle.device.specs.declared.Note.{Note}
-use Rattle.device.specs.declared.Store.the-variants.{Nothing, NativeTo, AccessibleTo, Marked, Graded, FailedTo, Noted, NoteEmptied}
-use Rattle.device.specs.declared.Store.{Store}
+use Rattle.cells.specs.declared.Note.the-variants.{Empty, Full}
+use Rattle.cells.specs.declared.Note.{Note}
+use Rattle.cells.specs.declared.Store.the-variants.{Nothing, NativeTo, AccessibleTo, Marked, Graded, FailedTo, Noted, NoteEmptied}
+use Rattle.cells.specs.declared.Store.{Store}
 use Rattle.paper.specs.Elements.{removedHealth, gradedHealth}
 use Rattle.table.specs.Elements.{size, identifierAt}
 use Rattle.history.specs.Ledger.{marked, firstAddress, failedBy, failedIn}

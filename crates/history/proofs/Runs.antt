@@ -1,7 +1,7 @@
 -- A chain of calls leaves the device of its script, and gave the answers of its history.
 use mathlib.Core.List.{_∷_}
 use mathlib.Core.Path.{_≡_, refl, ap, _∙_}
-use Rattle.machine.specs.Machine.{Event, told}
+use Rattle.device.specs.Machine.{Event, told}
 use Rattle.device.specs.declared.Device.{Device}
 use Rattle.paper.specs.Answers.{numberOf}
 use Rattle.paper.specs.Told.{Told, said}

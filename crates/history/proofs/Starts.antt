@@ -6,9 +6,10 @@ use mathlib.Core.Path.{_≡_, refl, sym, ap, _∙_, subst}
 use native.Mathlib.Omega.{arith}
 use lib.ListN.{length, getD, replicate, length-map, length-append, List·getD-append}
 use borrow.Author.Tests.{leb-true, ne-eqb}
-use Rattle.machine.proofs.EveryCall.{fresh-order}
-use Rattle.device.specs.Cells.{isSet, healthAt}
-use Rattle.machine.specs.Making.{fresh, madeOf}
+use Rattle.cells.specs.Cells.{isSet}
+use Rattle.device.proofs.EveryCall.{fresh-order}
+use Rattle.device.specs.Making.{fresh, madeOf}
+use Rattle.device.specs.Record.{healthAt}
 use Rattle.device.specs.declared.Device.{Device}
 use Rattle.paper.specs.Answers.{numberOf}
 use Rattle.paper.specs.Elements.{gradedHealth, removedHealth}

@@ -2,17 +2,17 @@
 use Prim.Native.Nat.{ℕ}
 use mathlib.Core.Bool.{Bool, cond, _&&_, _||_}
 use lib.Dec.{eqb}
-use Rattle.device.specs.Cells.{isSet, healthAt}
-use Rattle.machine.specs.Machine.{Event}
-use Rattle.device.specs.Sights.{see, gone}
-use Rattle.steps.specs.Steps.{woundUp}
+use Rattle.cells.specs.Cells.{isSet}
+use Rattle.cells.specs.Sights.{gone}
+use Rattle.device.specs.Machine.{Event}
+use Rattle.device.specs.Record.{healthAt, see, woundUp}
 use Rattle.device.specs.declared.Device.{Device}
-use Rattle.device.specs.declared.Mark.{Mark}
-use Rattle.device.specs.declared.Note.the-variants.{Empty, Full}
-use Rattle.device.specs.declared.Note.{Note}
-use Rattle.device.specs.declared.Removal.{Removal}
-use Rattle.device.specs.declared.Store.the-variants.{Nothing, NativeTo, AccessibleTo, Marked, Graded, FailedTo, Noted, NoteEmptied}
-use Rattle.device.specs.declared.Store.{Store}
+use Rattle.cells.specs.declared.Mark.{Mark}
+use Rattle.cells.specs.declared.Note.the-variants.{Empty, Full}
+use Rattle.cells.specs.declared.Note.{Note}
+use Rattle.cells.specs.declared.Removal.{Removal}
+use Rattle.cells.specs.declared.Store.the-variants.{Nothing, NativeTo, AccessibleTo, Marked, Graded, FailedTo, Noted, NoteEmptied}
+use Rattle.cells.specs.declared.Store.{Store}
 use Rattle.table.specs.Elements.{identifierAt}
 use Rattle.table.specs.declared.Table.{Table}
 use Rattle.history.specs.Runs.{ofEvent, History, empty, _▹_}

@@ -2,18 +2,18 @@
 use Prim.Native.Nat.{ℕ, zero, suc, _≤_, _<_}
 use mathlib.Core.Bool.{Bool, true, false, not, _&&_}
 use mathlib.Core.Path.{_≡_}
-use Rattle.machine.specs.Machine.{Event, command, step, rule, told}
+use Rattle.cells.specs.Sights.{gone}
+use Rattle.device.specs.Machine.{Event, command, step, rule, told}
+use Rattle.device.specs.Record.{see, woundUp}
 use Rattle.removal.specs.Remove.{identifierOf}
-use Rattle.device.specs.Sights.{see, gone}
-use Rattle.steps.specs.Steps.{woundUp}
 use Rattle.device.specs.declared.Device.{Device}
-use Rattle.device.specs.declared.Mark.the-variants.{Clear, Set}
-use Rattle.device.specs.declared.Note.the-variants.{Empty, Full}
-use Rattle.device.specs.declared.Position.the-variants.{Work3, Wind1, Wind3}
-use Rattle.device.specs.declared.Position.{Position}
-use Rattle.device.specs.declared.Removal.{Removal}
-use Rattle.device.specs.declared.Store.the-variants.{NativeTo, AccessibleTo, Marked, FailedTo, Noted, NoteEmptied}
-use Rattle.device.specs.declared.Store.{Store}
+use Rattle.cells.specs.declared.Mark.the-variants.{Clear, Set}
+use Rattle.cells.specs.declared.Note.the-variants.{Empty, Full}
+use Rattle.cells.specs.declared.Position.the-variants.{Work3, Wind1, Wind3}
+use Rattle.cells.specs.declared.Position.{Position}
+use Rattle.cells.specs.declared.Removal.{Removal}
+use Rattle.cells.specs.declared.Store.the-variants.{NativeTo, AccessibleTo, Marked, FailedTo, Noted, NoteEmptied}
+use Rattle.cells.specs.declared.Store.{Store}
 use Rattle.paper.specs.Registers.{Registers}
 use Rattle.paper.specs.declared.Lba.{Lba}
 use Rattle.paper.specs.declared.Security.{Security}

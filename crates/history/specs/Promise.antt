@@ -2,9 +2,10 @@
 use Prim.Native.Nat.{ℕ, _<_}
 use mathlib.Core.Bool.{true}
 use mathlib.Core.Path.{_≡_}
-use Rattle.device.specs.Cells.{isSet, healthAt}
+use Rattle.cells.specs.Cells.{isSet}
+use Rattle.device.specs.Record.{healthAt}
 use Rattle.device.specs.declared.Device.{Device}
-use Rattle.device.specs.declared.Note.the-variants.{Empty}
+use Rattle.cells.specs.declared.Note.the-variants.{Empty}
 use Rattle.paper.specs.Elements.{removedHealth}
 use Rattle.table.specs.Elements.{size, identifierAt}
 use Rattle.history.specs.Ledger.{marked, address, recorded, failedIn}

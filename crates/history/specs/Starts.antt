@@ -4,13 +4,13 @@ use mathlib.Core.Bool.{Bool, true, false, _||_}
 use mathlib.Core.List.{map}
 use mathlib.Core.Path.{_≡_}
 use lib.ListN.{length, take}
-use Rattle.device.specs.Cells.{healthAt}
-use Rattle.machine.specs.Machine.{powerCut}
-use Rattle.machine.specs.Making.{madeOf}
+use Rattle.device.specs.Machine.{powerCut}
+use Rattle.device.specs.Making.{madeOf}
+use Rattle.device.specs.Record.{healthAt}
 use Rattle.device.specs.declared.Device.{Device}
-use Rattle.device.specs.declared.Note.the-variants.{Empty, Full}
-use Rattle.device.specs.declared.Note.{Note}
-use Rattle.device.specs.declared.Position.the-variants.{Wind1}
+use Rattle.cells.specs.declared.Note.the-variants.{Empty, Full}
+use Rattle.cells.specs.declared.Note.{Note}
+use Rattle.cells.specs.declared.Position.the-variants.{Wind1}
 use Rattle.paper.specs.Answers.{numberOf}
 use Rattle.paper.specs.Elements.{removedHealth, gradedHealth}
 use Rattle.paper.specs.Told.{said}

@@ -1,11 +1,11 @@
 -- Powering up comes to rest: with a removal under way by the four steps, and without one since a cut and a step then change nothing.
 use mathlib.Core.Path.{_≡_, refl, ap, _∙_}
-use Rattle.machine.specs.Machine.{step, powerCut, told}
-use Rattle.device.specs.Rulings.{carriedOut}
+use Rattle.device.specs.Machine.{step, powerCut, told}
+use Rattle.device.specs.Record.{carriedOut}
 use Rattle.steps.specs.Steps.{ruleStep, ruleStop}
 use Rattle.device.specs.declared.Device.{Device}
-use Rattle.device.specs.declared.Note.the-variants.{Empty, Full}
-use Rattle.device.specs.declared.Note.{Note}
+use Rattle.cells.specs.declared.Note.the-variants.{Empty, Full}
+use Rattle.cells.specs.declared.Note.{Note}
 use Rattle.history.proofs.Demand3.{demand-3}
 use Rattle.history.specs.Promise.{Promise}
 use Rattle.history.specs.Runs.{begin, _▸_, _▸▸_, after, history}
@@ -16,7 +16,7 @@ cut-rests : (d : Device) → d .cells .note ≡ Empty → told d powerCut .state
 cut-rests d e = ap (λ (n : Note). carriedOut d (ruleStop (d .position) 0 n) .cells .note) e ∙ e
 
 step-rests : (d : Device) → d .cells .note ≡ Empty → told d step .state .cells .note ≡ Empty
-step-rests d e = ap (λ (n : Note). carriedOut d (ruleStep d n) .cells .note) e ∙ e
+step-rests d e = ap (λ (n : Note). carriedOut d (ruleStep (d .table) (d .cells) (d .position) n) .cells .note) e ∙ e
 
 pub powered-up-rests : Powered-up-rests
 powered-up-rests start can s = go (after start s .cells .note) refl

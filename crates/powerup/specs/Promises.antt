@@ -1,8 +1,8 @@
 -- "After a cut during a removal, four undisturbed steps bring that about": of the code that powers a device up.
 use mathlib.Core.Path.{_≡_}
-use Rattle.machine.specs.Machine.{step, powerCut}
+use Rattle.device.specs.Machine.{step, powerCut}
 use Rattle.device.specs.declared.Device.{Device}
-use Rattle.device.specs.declared.Note.the-variants.{Empty}
+use Rattle.cells.specs.declared.Note.the-variants.{Empty}
 use Rattle.history.specs.Promise.{Promise}
 use Rattle.history.specs.Runs.{Script, begin, _▸_, _▸▸_, after, history}
 use Rattle.history.specs.Starts.{Startable}

@@ -8,14 +8,14 @@ use device::Device;
 pub fn power_up(d: Device) -> Device
     ensures { λ r. ⌜ r ≡ after d powerUp ⌝ }
 {
-    let cut = machine::power_cut(d);
+    let cut = d.power_cut();
     let a = cut.device;
-    let first = machine::step(a);
+    let first = a.step();
     let b = first.device;
-    let second = machine::step(b);
+    let second = b.step();
     let c = second.device;
-    let third = machine::step(c);
+    let third = c.step();
     let e = third.device;
-    let fourth = machine::step(e);
+    let fourth = e.step();
     fourth.device
 }

@@ -5,21 +5,22 @@ use mathlib.Core.Path.{_≡_, sym, ap, _∙_}
 use native.Mathlib.Omega.{arith}
 use lib.Dec.{leb}
 use borrow.Author.Tests.{eq-eqb, ne-eqb, lt-ltb, le-ltb}
-use Rattle.device.specs.Cells.{underWay, removedNumber}
-use Rattle.device.specs.Rulings.{Ruled, quiet, says, stores, goes}
-use Rattle.device.specs.Sights.{see}
-use Rattle.device.specs.declared.Device.{Device}
-use Rattle.device.specs.declared.Mark.the-variants.{Clear}
-use Rattle.device.specs.declared.Position.the-variants.{Work1}
-use Rattle.device.specs.declared.Position.{Position}
-use Rattle.device.specs.declared.Seen.{Seen}
-use Rattle.device.specs.declared.Store.the-variants.{FailedTo, Noted}
+use Rattle.cells.specs.Cells.{isFull, removedIn}
+use Rattle.cells.specs.Rulings.{Ruled, quiet, goes}
+use Rattle.cells.specs.Sights.{seeIn}
+use Rattle.cells.specs.declared.Cells.{Cells}
+use Rattle.cells.specs.declared.Mark.the-variants.{Clear}
+use Rattle.cells.specs.declared.Position.the-variants.{Work1}
+use Rattle.cells.specs.declared.Position.{Position}
+use Rattle.cells.specs.declared.Seen.{Seen}
+use Rattle.cells.specs.declared.Store.the-variants.{FailedTo, Noted}
 use Rattle.paper.specs.Registers.{Registers, low48}
 use Rattle.paper.specs.Table12.{aborts}
 use Rattle.paper.specs.declared.Command.the-variants.{Remove}
 use Rattle.paper.specs.declared.ElementId.{ElementId}
 use Rattle.paper.specs.declared.Lba.{Lba}
 use Rattle.paper.specs.declared.Security.{Security}
+use Rattle.table.specs.declared.Table.{Table}
 use Rattle.removal.specs.Remove.{identifierOf, limitMet, orDifference, judgeRoom, judgeFound, ruleRemove}
 
 -- ## Checks 3 to 7
@@ -54,42 +55,42 @@ module _ (p : Position) (native : Lba) (id : ElementId) (lba : Lba) (blocks : �
   room-noted new h m is-new z =
       rw (le-ltb (native .0) (blocks + 1) (omega arith), le-ltb (native .0) (lba .0 + blocks) (omega arith), and-false, ← is-new) z
 
-module _ (d : Device) (id : ElementId) (lba : Lba) (s : Seen) (g : Ruled) where
-  pub found-missing : s .hit ≡ false → g ≡ says 4 d → g ≡ judgeFound d id lba s
+module _ (t : Table) (c : Cells) (p : Position) (id : ElementId) (lba : Lba) (s : Seen) (g : Ruled) where
+  pub found-missing : s .hit ≡ false → g ≡ quiet 4 p → g ≡ judgeFound t c p id lba s
   unfolding judgeFound
   found-missing n z = rw n z
 
   module _ (hit : s .hit ≡ true) where
-    pub found-other : (s .part .kind ≡ 1 → ⊥) → g ≡ says 4 d → g ≡ judgeFound d id lba s
+    pub found-other : (s .part .kind ≡ 1 → ⊥) → g ≡ quiet 4 p → g ≡ judgeFound t c p id lba s
     unfolding judgeFound
     found-other k z = rw (hit, ne-eqb _ _ k) z
 
     module _ (storage : s .part .kind ≡ 1) where
-      pub found-gone : s .health ≡ 0xFF → g ≡ stores (FailedTo Clear) d → g ≡ judgeFound d id lba s
+      pub found-gone : s .health ≡ 0xFF → g ≡ goes (FailedTo Clear) p → g ≡ judgeFound t c p id lba s
       unfolding judgeFound
       found-gone h z = rw (hit, eq-eqb _ _ storage, eq-eqb _ _ h) z
 
-      module _ (standing : s .health ≡ 0xFF → ⊥) (n : ℕ) (is-n : n ≡ removedNumber d) (b : Bool) (is-b : b ≡ limitMet (d .table .limit) n) where
-        pub found-limit : b ≡ true → g ≡ says 4 d → g ≡ judgeFound d id lba s
+      module _ (standing : s .health ≡ 0xFF → ⊥) (n : ℕ) (is-n : n ≡ removedIn t c) (b : Bool) (is-b : b ≡ limitMet (t .limit) n) where
+        pub found-limit : b ≡ true → g ≡ quiet 4 p → g ≡ judgeFound t c p id lba s
         unfolding judgeFound
         found-limit y z = rw (hit, eq-eqb _ _ storage, ne-eqb _ _ standing, ← is-n, sym is-b ∙ y) z
 
-        pub found-room : b ≡ false → g ≡ judgeRoom (d .position) (d .cells .native) id lba (s .part .blocks) → g ≡ judgeFound d id lba s
+        pub found-room : b ≡ false → g ≡ judgeRoom p (c .native) id lba (s .part .blocks) → g ≡ judgeFound t c p id lba s
         unfolding judgeFound
         found-room m z = rw (hit, eq-eqb _ _ storage, ne-eqb _ _ standing, ← is-n, sym is-b ∙ m) z
 
 -- ## Checks 1 and 2
 
-module _ (d : Device) (s : Security) (r : Registers) (g : Ruled) (a : Bool) (is-a : a ≡ aborts Remove s) where
-  pub remove-locked : a ≡ true → g ≡ says 1 d → g ≡ ruleRemove d s r
+module _ (t : Table) (c : Cells) (p : Position) (s : Security) (r : Registers) (g : Ruled) (a : Bool) (is-a : a ≡ aborts Remove s) where
+  pub remove-locked : a ≡ true → g ≡ quiet 1 p → g ≡ ruleRemove t c p s r
   remove-locked y z = rw (sym is-a ∙ y) z
 
-  module _ (n : a ≡ false) (u : Bool) (is-u : u ≡ underWay d) where
-    pub remove-busy : u ≡ true → g ≡ says 2 d → g ≡ ruleRemove d s r
+  module _ (n : a ≡ false) (u : Bool) (is-u : u ≡ isFull (c .note)) where
+    pub remove-busy : u ≡ true → g ≡ quiet 2 p → g ≡ ruleRemove t c p s r
     remove-busy y z = rw (sym is-a ∙ n, sym is-u ∙ y) z
 
-    pub remove-judged : u ≡ false → (id : ElementId) (low : Lba) (x : Seen) → id ≡ identifierOf r → low ≡ low48 (r .lba) → x ≡ see d id
-        → g ≡ judgeFound d id low x → g ≡ ruleRemove d s r
+    pub remove-judged : u ≡ false → (id : ElementId) (low : Lba) (x : Seen) → id ≡ identifierOf r → low ≡ low48 (r .lba) → x ≡ seeIn t c id
+        → g ≡ judgeFound t c p id low x → g ≡ ruleRemove t c p s r
     remove-judged m id low x is-id is-low is-x z =
         rw (sym is-a ∙ n, sym is-u ∙ m)
-        (z ∙ (λ i. judgeFound d (is-id i) (is-low i) ((is-x ∙ ap (see d) is-id) i)))
+        (z ∙ (λ i. judgeFound t c p (is-id i) (is-low i) ((is-x ∙ ap (seeIn t c) is-id) i)))

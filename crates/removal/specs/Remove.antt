@@ -9,17 +9,18 @@ use Rattle.paper.specs.declared.ElementId.{ElementId}
 use Rattle.paper.specs.declared.Lba.{Lba}
 use Rattle.paper.specs.declared.Security.{Security}
 use Rattle.table.specs.Elements.{isStorage}
-use Rattle.device.specs.Cells.{underWay, busyNumber, removedNumber}
-use Rattle.device.specs.Rulings.{Ruled, quiet, says, stores, goes}
-use Rattle.device.specs.Sights.{see}
+use Rattle.table.specs.declared.Table.{Table}
+use Rattle.cells.specs.Cells.{isFull, busyNumber, removedIn}
+use Rattle.cells.specs.Rulings.{Ruled, quiet, goes}
+use Rattle.cells.specs.Sights.{seeIn}
 use Rattle.paper.specs.declared.Command.the-variants.{Remove}
-use Rattle.device.specs.declared.Device.{Device}
-use Rattle.device.specs.declared.Mark.the-variants.{Clear}
-use Rattle.device.specs.declared.Position.the-variants.{Work1}
-use Rattle.device.specs.declared.Position.{Position}
-use Rattle.device.specs.declared.Removal.{Removal}
-use Rattle.device.specs.declared.Seen.{Seen}
-use Rattle.device.specs.declared.Store.the-variants.{FailedTo, Noted}
+use Rattle.cells.specs.declared.Cells.{Cells}
+use Rattle.cells.specs.declared.Mark.the-variants.{Clear}
+use Rattle.cells.specs.declared.Position.the-variants.{Work1}
+use Rattle.cells.specs.declared.Position.{Position}
+use Rattle.cells.specs.declared.Removal.{Removal}
+use Rattle.cells.specs.declared.Seen.{Seen}
+use Rattle.cells.specs.declared.Store.the-variants.{FailedTo, Noted}
 
 -- "Identifier = FEATURE x 65,536 + COUNT"
 abbrev pub identifierOf : Registers → ElementId
@@ -54,19 +55,19 @@ judgeRoom p native id lba blocks =
 -- 3: "identifier not in the table, or type not 01h: 4"
 -- 4: "health FFh: 0; no element or address changes, but a failed mark is cleared"
 -- then 5, and 6 and 7
-unfoldable pub judgeFound : Device → ElementId → Lba → Seen → Ruled
-judgeFound d id lba s =
-    cond (not (s .hit && isStorage (s .part))) (says 4 d)
-    (cond (removedHealth (s .health)) (stores (FailedTo Clear) d)
-    (cond (limitMet (d .table .limit) (removedNumber d)) (says 4 d)
-    (judgeRoom (d .position) (d .cells .native) id lba (s .part .blocks))))
+unfoldable pub judgeFound : Table → Cells → Position → ElementId → Lba → Seen → Ruled
+judgeFound t c p id lba s =
+    cond (not (s .hit && isStorage (s .part))) (quiet 4 p)
+    (cond (removedHealth (s .health)) (goes (FailedTo Clear) p)
+    (cond (limitMet (t .limit) (removedIn t c)) (quiet 4 p)
+    (judgeRoom p (c .native) id lba (s .part .blocks))))
 
 -- 1: "security state locked: 1"; 2: "removal under way: 2"
-abbrev pub judge : Device → Security → ElementId → Lba → Ruled
-judge d security id lba =
-    cond (aborts Remove security) (says 1 d)
-    (cond (underWay d) (says (busyNumber d) d)
-    (judgeFound d id lba (see d id)))
+abbrev pub judge : Table → Cells → Position → Security → ElementId → Lba → Ruled
+judge t c p security id lba =
+    cond (aborts Remove security) (quiet 1 p)
+    (cond (isFull (c .note)) (quiet (busyNumber c) p)
+    (judgeFound t c p id lba (seeIn t c id)))
 
-abbrev pub ruleRemove : Device → Security → Registers → Ruled
-ruleRemove d security r = judge d security (identifierOf r) (low48 (r .lba))
+abbrev pub ruleRemove : Table → Cells → Position → Security → Registers → Ruled
+ruleRemove t c p security r = judge t c p security (identifierOf r) (low48 (r .lba))

@@ -1,22 +1,23 @@
 // REMOVE ELEMENT AND TRUNCATE (7Ch): its seven checks, in document 01's order.
 ghost use mathlib.Core.Path.{_≡_};
 ghost use Prim.Native.Nat.{_+_, _*_};
-ghost use Rattle.device.specs.Rulings.{ruled};
+ghost use Rattle.cells.specs.Rulings.{ruled};
 ghost use Rattle.removal.specs.Remove as remove;
-use device::Device;
-use device::Mark;
-use device::Position;
-use device::Removal;
-use device::Ruling;
-use device::Seen;
-use device::Store;
-use device::goes;
-use device::quiet;
+use cells::Cells;
+use cells::Mark;
+use cells::Position;
+use cells::Removal;
+use cells::Ruling;
+use cells::Seen;
+use cells::Store;
+use cells::goes;
+use cells::quiet;
 use paper::Answer;
 use paper::Command;
 use paper::ElementId;
 use paper::Lba;
 use paper::Security;
+use table::Table;
 
 // FEATURE x 65,536 + COUNT.
 fn identifier(feature: u16, count: u16) -> ElementId
@@ -65,10 +66,9 @@ fn judge_room(at: Position, old: Lba, id: ElementId, lba: Lba, blocks: u64) -> R
 }
 
 // Checks 3 to 7.
-fn judge_found(d: Device, id: ElementId, lba: Lba, s: Seen) -> Ruling
-    ensures { λ r. ⌜ ruled r ≡ remove.judgeFound d id lba s ⌝ }
+fn judge_found(t: Table, c: Cells, at: Position, id: ElementId, lba: Lba, s: Seen) -> Ruling
+    ensures { λ r. ⌜ ruled r ≡ remove.judgeFound t c at id lba s ⌝ }
 {
-    let at = d.position;
     if !s.hit {
         return quiet(Answer::InvalidField, at);
     }
@@ -78,27 +78,34 @@ fn judge_found(d: Device, id: ElementId, lba: Lba, s: Seen) -> Ruling
     if s.health == 0xFF {
         return goes(Store::FailedTo(Mark::Clear), at);
     }
-    let healths = d.cells.healths;
-    if limit_met(d.table.limit, table::removed(healths, d.table.count)) {
+    let healths = c.healths;
+    if limit_met(t.limit, table::removed(healths, t.count)) {
         return quiet(Answer::InvalidField, at);
     }
-    let old = d.cells.native;
+    let old = c.native;
     judge_room(at, old, id, lba, s.part.blocks)
 }
 
-// What 7Ch rules: checks 1 and 2, then the others.
-pub fn rule_remove(d: Device, security: Security, feature: u16, count: u16, lba: Lba) -> Ruling
-    ensures { λ r. ⌜ ruled r ≡ remove.ruleRemove d security (record { code = 0x7C; feature = feature; count = count; lba = lba }) ⌝ }
+// What 7Ch rules over a table, its cells and the position: checks 1 and 2, then the others.
+pub fn rule_remove(
+    t: Table,
+    c: Cells,
+    at: Position,
+    security: Security,
+    feature: u16,
+    count: u16,
+    lba: Lba,
+) -> Ruling
+    ensures { λ r. ⌜ ruled r ≡ remove.ruleRemove t c at security (record { code = 0x7C; feature = feature; count = count; lba = lba }) ⌝ }
 {
-    let at = d.position;
     if paper::is_aborted(Command::Remove, security) {
         return quiet(Answer::SecurityLocked, at);
     }
-    if d.is_under_way() {
+    if c.is_under_way() {
         return quiet(Answer::InProgress, at);
     }
     let id = identifier(feature, count);
     let low = lba.low48();
-    let s = d.see(id);
-    judge_found(d, id, low, s)
+    let s = cells::see(t, c, id);
+    judge_found(t, c, at, id, low, s)
 }

@@ -1,9 +1,9 @@
 // What a script has on its bench, and its calls. No contract can say what was printed, so these functions promise nothing.
-use device::Cells;
+use cells::Cells;
+use cells::Mark;
+use cells::Note;
+use cells::Position;
 use device::Device;
-use device::Mark;
-use device::Note;
-use device::Position;
 use device::Stepped;
 use paper::Lba;
 use print::print_answer;
@@ -76,18 +76,18 @@ fn lengthened(list: Offer, e: Element) -> Offer {
 
 fn event(d: Device, e: Event) -> Stepped {
     match e {
-        Event::Step => machine::step(d),
-        Event::Error => machine::media_error(d),
-        Event::Cut => machine::power_cut(d),
-        Event::Comreset => machine::comreset(d),
-        Event::Hardreset => machine::hardware_reset(d),
-        Event::Softreset => machine::software_reset(d),
+        Event::Step => d.step(),
+        Event::Error => d.media_error(),
+        Event::Cut => d.power_cut(),
+        Event::Comreset => d.comreset(),
+        Event::Hardreset => d.hardware_reset(),
+        Event::Softreset => d.software_reset(),
     }
 }
 
 fn graded(d: Device, g: Grade) -> Stepped {
     let id = g.id;
-    machine::grade(d, id, g.health)
+    d.grade(id, g.health)
 }
 
 impl Bench {
@@ -133,7 +133,7 @@ impl Bench {
         let there = self.device;
         let mut list = self.offered;
         list.limit = limit;
-        let s = machine::make_device(there, list);
+        let s = device::make_device(there, list);
         let answer = s.answer;
         let mut next = self.after(s);
         if paper::number_of(answer) == 0 {

@@ -11,14 +11,14 @@ use lib.ListN.{length, take, drop, getD, set, replicate, length-append, length-r
 use lib.Seq.{length-take-le, take-all, take-length, set-split}
 use borrow.Author.Tests.{lt-ltb, le-ltb, ltb-false, le-leb, eq-eqb, ne-eqb}
 use mir.Val.{boolByte}
-use Rattle.device.specs.Cells.{removedNumber}
 use Rattle.device.specs.Commands.{statusNumber}
+use Rattle.device.specs.Record.{removedNumber}
 use Rattle.paper.specs.Table12.{aborts}
 use Rattle.paper.specs.declared.Command.the-variants.{Status}
 use Rattle.device.specs.declared.Device.{Device}
-use Rattle.device.specs.declared.Note.the-variants.{Empty, Full}
-use Rattle.device.specs.declared.Note.{Note}
-use Rattle.device.specs.declared.Removal.{Removal}
+use Rattle.cells.specs.declared.Note.the-variants.{Empty, Full}
+use Rattle.cells.specs.declared.Note.{Note}
+use Rattle.cells.specs.declared.Removal.{Removal}
 use Rattle.layout.proofs.Requests.{accepted}
 use Rattle.layout.specs.Bytes.{headerBytes, descriptorBytes, roomOf, returnedOf}
 use Rattle.layout.specs.Requests.{filterOf, reportTypeOf, pagesOf, takesId, takesType, takesHealth, refused}

@@ -9,7 +9,7 @@ use native.Mathlib.Omega.{arith}
 use lib.ListN.{length, take, getD, set, replicate, length-map, length-set, List·getD-map}
 use lib.Seq.{length-take-le, take-take, take-set-le, take-suc-set, getD-take}
 use mir.Val.{boolByte}
-use Rattle.device.specs.Cells.{healthAt}
+use Rattle.device.specs.Record.{healthAt}
 use Rattle.device.specs.declared.Device.{Device}
 use Rattle.layout.specs.declared.Descriptor.{Descriptor}
 use Rattle.layout.specs.declared.Request.{Request}

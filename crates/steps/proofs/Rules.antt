@@ -3,17 +3,18 @@ use Prim.Native.Nat.{ℕ, _-_, _≤_, _<_}
 use mathlib.Core.Bool.{Bool, true, false, true≢false}
 use mathlib.Core.Path.{_≡_, sym, ap, _∙_}
 use borrow.Author.Tests.{eq-eqb, ne-eqb, le-leb, lt-leb}
-use Rattle.device.specs.Rulings.{Ruled, says, stores, goes}
-use Rattle.device.specs.Sights.{see}
-use Rattle.device.specs.declared.Device.{Device}
-use Rattle.device.specs.declared.Note.the-variants.{Empty, Full}
-use Rattle.device.specs.declared.Note.{Note}
-use Rattle.device.specs.declared.Position.{Position}
-use Rattle.device.specs.declared.Removal.{Removal}
-use Rattle.device.specs.declared.Seen.{Seen}
-use Rattle.device.specs.declared.Store.the-variants.{Nothing, Marked, Graded}
-use Rattle.device.specs.declared.Store.{Store}
+use Rattle.cells.specs.Rulings.{Ruled, quiet, goes}
+use Rattle.cells.specs.Sights.{seeIn}
+use Rattle.cells.specs.declared.Cells.{Cells}
+use Rattle.cells.specs.declared.Note.the-variants.{Empty, Full}
+use Rattle.cells.specs.declared.Note.{Note}
+use Rattle.cells.specs.declared.Position.{Position}
+use Rattle.cells.specs.declared.Removal.{Removal}
+use Rattle.cells.specs.declared.Seen.{Seen}
+use Rattle.cells.specs.declared.Store.the-variants.{Nothing, Marked, Graded}
+use Rattle.cells.specs.declared.Store.{Store}
 use Rattle.paper.specs.declared.ElementId.{ElementId}
+use Rattle.table.specs.declared.Table.{Table}
 use Rattle.steps.specs.Steps.{woundTo, marking, storeFrom, Alike, Blind, nextOf, ruleStep, ruleStop, gradeSeen, ruleGrade}
 
 -- ## What a step looks at
@@ -52,36 +53,36 @@ module _ (s : Seen) where
     pub at-position : (x : Store) (p q : Position) → p ≡ q → x ≡ storeFrom s w q → x ≡ storeFrom s w p
     at-position x p q e z = z ∙ ap (storeFrom s w) (sym e)
 
-module _ (d : Device) (g : Ruled) where
-  pub step-idle : d .cells .note ≡ Empty → g ≡ says 10 d → g ≡ ruleStep d (d .cells .note)
-  step-idle e z = z ∙ ap (ruleStep d) (sym e)
+module _ (t : Table) (c : Cells) (p : Position) (g : Ruled) where
+  pub step-idle : c .note ≡ Empty → g ≡ quiet 10 p → g ≡ ruleStep t c p (c .note)
+  step-idle e z = z ∙ ap (ruleStep t c p) (sym e)
 
-  pub step-full : (w : Removal) (x : Seen) (s : Store) (p : Position) → d .cells .note ≡ Full w
-      → Alike (d .position) x (see d (w .element)) → s ≡ storeFrom x w (d .position) → p ≡ nextOf (d .position) → g ≡ goes s p → g ≡ ruleStep d (d .cells .note)
-  step-full w x s p e looked is-s is-p z = z ∙ (λ i. goes ((is-s ∙ looked w) i) (is-p i)) ∙ ap (ruleStep d) (sym e)
+  pub step-full : (w : Removal) (x : Seen) (s : Store) (q : Position) → c .note ≡ Full w
+      → Alike p x (seeIn t c (w .element)) → s ≡ storeFrom x w p → q ≡ nextOf p → g ≡ goes s q → g ≡ ruleStep t c p (c .note)
+  step-full w x s q e looked is-s is-q z = z ∙ (λ i. goes ((is-s ∙ looked w) i) (is-q i)) ∙ ap (ruleStep t c p) (sym e)
 
 pub stop-at : (p : Position) (idle : ℕ) (g : Ruled) (m n : Note) → m ≡ n → g ≡ ruleStop p idle n → g ≡ ruleStop p idle m
 stop-at p idle g m n e z = z ∙ ap (ruleStop p idle) (sym e)
 
 -- ## Grade
 
-module _ (d : Device) (id : ElementId) (h : ℕ) (g : Ruled) (s : Seen) (is-s : s ≡ see d id) where
-  graded-by : g ≡ gradeSeen d h s → g ≡ ruleGrade d id h
-  graded-by z = z ∙ ap (gradeSeen d h) is-s
+module _ (t : Table) (c : Cells) (p : Position) (id : ElementId) (h : ℕ) (g : Ruled) (s : Seen) (is-s : s ≡ seeIn t c id) where
+  graded-by : g ≡ gradeSeen p h s → g ≡ ruleGrade t c p id h
+  graded-by z = z ∙ ap (gradeSeen p h) is-s
 
-  pub grade-unknown : s .hit ≡ false → g ≡ says 11 d → g ≡ ruleGrade d id h
+  pub grade-unknown : s .hit ≡ false → g ≡ quiet 11 p → g ≡ ruleGrade t c p id h
   unfolding gradeSeen
   grade-unknown n z = graded-by (rw n z)
 
   module _ (hit : s .hit ≡ true) where
-    pub grade-gone : s .health ≡ 0xFF → g ≡ says 11 d → g ≡ ruleGrade d id h
+    pub grade-gone : s .health ≡ 0xFF → g ≡ quiet 11 p → g ≡ ruleGrade t c p id h
     unfolding gradeSeen
     grade-gone r z = graded-by (rw (hit, eq-eqb _ _ r) z)
 
-    pub grade-high : (s .health ≡ 0xFF → ⊥) → 0xCF < h → g ≡ says 11 d → g ≡ ruleGrade d id h
+    pub grade-high : (s .health ≡ 0xFF → ⊥) → 0xCF < h → g ≡ quiet 11 p → g ≡ ruleGrade t c p id h
     unfolding gradeSeen
     grade-high r m z = graded-by (rw (hit, ne-eqb _ _ r, lt-leb _ _ m) z)
 
-    pub graded : (s .health ≡ 0xFF → ⊥) → h ≤ 0xCF → g ≡ stores (Graded (s .place) h) d → g ≡ ruleGrade d id h
+    pub graded : (s .health ≡ 0xFF → ⊥) → h ≤ 0xCF → g ≡ goes (Graded (s .place) h) p → g ≡ ruleGrade t c p id h
     unfolding gradeSeen
     graded r m z = graded-by (rw (hit, ne-eqb _ _ r, le-leb _ _ m) z)

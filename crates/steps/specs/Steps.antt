@@ -5,18 +5,19 @@ use mathlib.Core.Path.{_≡_}
 use Rattle.paper.specs.Elements.{removedHealth, gradedHealth}
 use Rattle.paper.specs.declared.ElementId.{ElementId}
 use Rattle.paper.specs.declared.Lba.{Lba}
-use Rattle.device.specs.Rulings.{Ruled, quiet, says, stores, goes}
-use Rattle.device.specs.Sights.{see, gone}
-use Rattle.device.specs.declared.Device.{Device}
-use Rattle.device.specs.declared.Mark.the-variants.{Clear, Set}
-use Rattle.device.specs.declared.Note.the-variants.{Empty, Full}
-use Rattle.device.specs.declared.Note.{Note}
-use Rattle.device.specs.declared.Position.the-variants.{Work1, Work2, Work3, Work4, Work5, Wind1, Wind2, Wind3, Wind4}
-use Rattle.device.specs.declared.Position.{Position}
-use Rattle.device.specs.declared.Removal.{Removal}
-use Rattle.device.specs.declared.Seen.{Seen}
-use Rattle.device.specs.declared.Store.the-variants.{Nothing, NativeTo, AccessibleTo, Marked, Graded, FailedTo, NoteEmptied}
-use Rattle.device.specs.declared.Store.{Store}
+use Rattle.table.specs.declared.Table.{Table}
+use Rattle.cells.specs.Rulings.{Ruled, quiet, goes}
+use Rattle.cells.specs.Sights.{seeIn, gone}
+use Rattle.cells.specs.declared.Cells.{Cells}
+use Rattle.cells.specs.declared.Mark.the-variants.{Clear, Set}
+use Rattle.cells.specs.declared.Note.the-variants.{Empty, Full}
+use Rattle.cells.specs.declared.Note.{Note}
+use Rattle.cells.specs.declared.Position.the-variants.{Work1, Work2, Work3, Work4, Work5, Wind1, Wind2, Wind3, Wind4}
+use Rattle.cells.specs.declared.Position.{Position}
+use Rattle.cells.specs.declared.Removal.{Removal}
+use Rattle.cells.specs.declared.Seen.{Seen}
+use Rattle.cells.specs.declared.Store.the-variants.{Nothing, NativeTo, AccessibleTo, Marked, Graded, FailedTo, NoteEmptied}
+use Rattle.cells.specs.declared.Store.{Store}
 
 -- "both to the new value if the noted element is FFh, else the old"; one that is not there is not
 abbrev pub woundTo : Seen → Removal → Lba
@@ -39,13 +40,6 @@ storeFrom s w Wind2 = AccessibleTo (woundTo s w)
 storeFrom s w Wind3 = FailedTo Set
 storeFrom s w Wind4 = NoteEmptied
 
--- with the noted element as it is seen now
-abbrev pub storeAt : Device → Removal → Position → Store
-storeAt d w p = storeFrom (see d (w .element)) w p
-
-abbrev pub woundUp : Device → Removal → Lba
-woundUp d w = woundTo (see d (w .element)) w
-
 -- the step after; the last ones lead to the first work step, where the position rests while the note is empty
 abbrev pub nextOf : Position → Position
 nextOf Work1 = Work2
@@ -59,9 +53,9 @@ nextOf Wind3 = Wind4
 nextOf Wind4 = Work1
 
 -- "A work step .. with an empty note answers 10"
-abbrev pub ruleStep : Device → Note → Ruled
-ruleStep d Empty = says 10 d
-ruleStep d (Full w) = goes (storeAt d w (d .position)) (nextOf (d .position))
+abbrev pub ruleStep : Table → Cells → Position → Note → Ruled
+ruleStep t c p Empty = quiet 10 p
+ruleStep t c p (Full w) = goes (storeFrom (seeIn t c (w .element)) w p) (nextOf p)
 
 -- "A media error or a power cut while the note is full answers 0, makes no store and sets the position to the first winding-up step";
 -- with an empty note it answers `idle`: "media error .. 10; a power cut then answers 0 and changes nothing"
@@ -70,11 +64,11 @@ ruleStop p idle Empty = quiet idle p
 ruleStop p idle (Full w) = goes Nothing Wind1
 
 -- "Unknown identifier, element at FFh, or a value above CFh: 11."
-unfoldable pub gradeSeen : Device → ℕ → Seen → Ruled
-gradeSeen d h s = cond (not (s .hit) || (removedHealth (s .health) || not (gradedHealth h))) (says 11 d) (stores (Graded (s .place) h) d)
+unfoldable pub gradeSeen : Position → ℕ → Seen → Ruled
+gradeSeen p h s = cond (not (s .hit) || (removedHealth (s .health) || not (gradedHealth h))) (quiet 11 p) (goes (Graded (s .place) h) p)
 
-abbrev pub ruleGrade : Device → ElementId → ℕ → Ruled
-ruleGrade d id h = gradeSeen d h (see d id)
+abbrev pub ruleGrade : Table → Cells → Position → ElementId → ℕ → Ruled
+ruleGrade t c p id h = gradeSeen p h (seeIn t c id)
 
 -- ## What the code need not look at
 

@@ -1,23 +1,24 @@
-// Work steps, winding up and grades: what each rules.
+// Work steps, winding up and grades: what each rules over a table, its cells and the position.
 ghost use mathlib.Core.Path.{_≡_};
 ghost use mathlib.Core.Bool.{false};
 ghost use Rattle.paper.specs.Answers.{numberOf};
-ghost use Rattle.device.specs.Rulings.{ruled};
-ghost use Rattle.device.specs.Sights.{see};
+ghost use Rattle.cells.specs.Rulings.{ruled};
+ghost use Rattle.cells.specs.Sights.{seeIn};
 ghost use Rattle.steps.specs.Steps as steps;
-use device::Device;
-use device::Mark;
-use device::Note;
-use device::Position;
-use device::Removal;
-use device::Ruling;
-use device::Seen;
-use device::Store;
-use device::goes;
-use device::quiet;
+use cells::Cells;
+use cells::Mark;
+use cells::Note;
+use cells::Position;
+use cells::Removal;
+use cells::Ruling;
+use cells::Seen;
+use cells::Store;
+use cells::goes;
+use cells::quiet;
 use paper::Answer;
 use paper::ElementId;
 use paper::Lba;
+use table::Table;
 
 // The step after this one.
 fn next_of(at: Position) -> Position
@@ -95,11 +96,11 @@ fn store_from(s: Seen, w: Removal, at: Position) -> Store
 }
 
 // What a step sees of the noted element, or something blank where it need not look.
-fn look(d: Device, id: ElementId, at: Position) -> Seen
-    ensures { λ r. ⌜ steps.Alike at r (see d id) ⌝ }
+fn look(t: Table, c: Cells, id: ElementId, at: Position) -> Seen
+    ensures { λ r. ⌜ steps.Alike at r (seeIn t c id) ⌝ }
 {
     if does_look(at) {
-        return d.see(id);
+        return cells::see(t, c, id);
     }
     Seen {
         part: table::blank_part(),
@@ -110,15 +111,13 @@ fn look(d: Device, id: ElementId, at: Position) -> Seen
 }
 
 // A work step, or a step of winding up.
-pub fn rule_step(d: Device) -> Ruling
-    ensures { λ r. ⌜ ruled r ≡ steps.ruleStep d (d .cells .note) ⌝ }
+pub fn rule_step(t: Table, c: Cells, at: Position) -> Ruling
+    ensures { λ r. ⌜ ruled r ≡ steps.ruleStep t c at (c .note) ⌝ }
 {
-    let cells = d.cells;
-    let note = cells.note;
-    let at = d.position;
+    let note = c.note;
     match note {
         Note::Empty => quiet(Answer::NoRemoval, at),
-        Note::Full(w) => goes(store_from(look(d, w.element, at), w, at), next_of(at)),
+        Note::Full(w) => goes(store_from(look(t, c, w.element, at), w, at), next_of(at)),
     }
 }
 
@@ -132,11 +131,10 @@ pub fn rule_stop(note: Note, at: Position, idle: Answer) -> Ruling
     }
 }
 
-pub fn rule_grade(d: Device, id: ElementId, health: u8) -> Ruling
-    ensures { λ r. ⌜ ruled r ≡ steps.ruleGrade d id health ⌝ }
+pub fn rule_grade(t: Table, c: Cells, at: Position, id: ElementId, health: u8) -> Ruling
+    ensures { λ r. ⌜ ruled r ≡ steps.ruleGrade t c at id health ⌝ }
 {
-    let at = d.position;
-    let s = d.see(id);
+    let s = cells::see(t, c, id);
     if !s.hit {
         return quiet(Answer::GradeRefused, at);
     }

@@ -10,8 +10,8 @@ use Rattle.commands.proofs.command.Symbol as symbol
 use Rattle.commands.specs.Lent.{lent}
 use Rattle.datum.proofs.ChangedShown.{changed-shown}
 use Rattle.datum.proofs.Datum.{number}
-use Rattle.machine.specs.Machine as machine
-use Rattle.machine.specs.Machine.{told}
+use Rattle.device.specs.Machine as machine
+use Rattle.device.specs.Machine.{told}
 use Rattle.paper.specs.Told.{said}
 use Rattle.status.specs.Page.{shown}
 use Rattle.calls.proofs.Data.{device, answer, stepped, security, request, lba}

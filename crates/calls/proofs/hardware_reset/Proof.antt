@@ -1,11 +1,11 @@
--- `calls::hardware_reset`, over `machine::hardware_reset`.
+-- `calls::hardware_reset`, over `Device::hardware_reset`.
 use mathlib.Core.List.{[]}
 use mathlib.Core.Path.{_≡_}
 use Rattle.datum.proofs.Changed.{changed}
-use Rattle.machine.proofs.hardware_reset.Met as callee
-use Rattle.machine.proofs.hardware_reset.Symbol as symbol
-use Rattle.machine.specs.Machine as machine
-use Rattle.machine.specs.Machine.{told}
+use Rattle.device.proofs.Device.hardware_reset.Met as callee
+use Rattle.device.proofs.Device.hardware_reset.Symbol as symbol
+use Rattle.device.specs.Machine as machine
+use Rattle.device.specs.Machine.{told}
 use Rattle.paper.specs.Told.{said}
 use Rattle.calls.proofs.Data.{device, answer, stepped}
 use Rattle.calls.proofs.hardware_reset.Code as code
@@ -16,4 +16,4 @@ pub hardware-reset-spec : {M : Type 1} → statement M
 unfolding code.routine
 hardware-reset-spec 𝓤 H 𝓜 𝓖 𝓡 =
     changed device answer stepped [] (λ d x a e. said a e ≡ told d machine.hardwareReset)
-    _ 𝓤 H 𝓜 𝓖 𝓡 code.env name symbol.name (code.unfolded 𝓤 H 𝓜 𝓡) symbol.routine code.calls-machine·hardware-reset (callee.met 𝓤 H 𝓜 𝓖 𝓡)
+    _ 𝓤 H 𝓜 𝓖 𝓡 code.env name symbol.name (code.unfolded 𝓤 H 𝓜 𝓡) symbol.routine code.calls-device·Device·hardware-reset (callee.met 𝓤 H 𝓜 𝓖 𝓡)

@@ -1,11 +1,11 @@
--- `calls::step`, over `machine::step`.
+-- `calls::step`, over `Device::step`.
 use mathlib.Core.List.{[]}
 use mathlib.Core.Path.{_≡_}
 use Rattle.datum.proofs.Changed.{changed}
-use Rattle.machine.proofs.step.Met as callee
-use Rattle.machine.proofs.step.Symbol as symbol
-use Rattle.machine.specs.Machine as machine
-use Rattle.machine.specs.Machine.{told}
+use Rattle.device.proofs.Device.step.Met as callee
+use Rattle.device.proofs.Device.step.Symbol as symbol
+use Rattle.device.specs.Machine as machine
+use Rattle.device.specs.Machine.{told}
 use Rattle.paper.specs.Told.{said}
 use Rattle.calls.proofs.Data.{device, answer, stepped}
 use Rattle.calls.proofs.step.Code as code
@@ -16,4 +16,4 @@ pub step-spec : {M : Type 1} → statement M
 unfolding code.routine
 step-spec 𝓤 H 𝓜 𝓖 𝓡 =
     changed device answer stepped [] (λ d x a e. said a e ≡ told d machine.step)
-    _ 𝓤 H 𝓜 𝓖 𝓡 code.env name symbol.name (code.unfolded 𝓤 H 𝓜 𝓡) symbol.routine code.calls-machine·step (callee.met 𝓤 H 𝓜 𝓖 𝓡)
+    _ 𝓤 H 𝓜 𝓖 𝓡 code.env name symbol.name (code.unfolded 𝓤 H 𝓜 𝓡) symbol.routine code.calls-device·Device·step (callee.met 𝓤 H 𝓜 𝓖 𝓡)

@@ -1,6 +1,6 @@
 -- `device::Device::carry_out`: the device with the cells after the store.
 use borrow.Author.Needs.{needs}
-use Rattle.device.proofs.Stores.{carried}
+use Rattle.device.proofs.Rules.{carried}
 use Rattle.device.proofs.Device.carry_out.Statement.{statement}
 use Rattle.device.proofs.Device.carry_out.Tie as tie
 

@@ -1,0 +1,33 @@
+-- The bench examples and the edges hold: the definitions compute each row. Device A is made of its table.
+use mathlib.Core.Bool.{true}
+use mathlib.Core.Path.{_≡_, refl}
+use Rattle.cells.specs.Cells.{isSet}
+use Rattle.cells.specs.Sights.{seeIn}
+use Rattle.layout.specs.Requests.{refused}
+use Rattle.paper.specs.Told.{tells}
+use Rattle.table.specs.Check.{good}
+use Rattle.table.specs.Examples.{offerA}
+use Rattle.table.specs.Search.{sightIn}
+use Rattle.words.specs.Lists.{all}
+use Rattle.device.specs.Commands.{isOpen, mediaNumber, otherNumber}
+use Rattle.device.specs.Examples.{deviceA, holds, rows, removals, others}
+use Rattle.device.specs.Making.{fresh, madeOf}
+use Rattle.removal.specs.Remove.{judgeRoom, judgeFound}
+use Rattle.steps.specs.Steps.{gradeSeen}
+use Rattle.device.specs.declared.Device.{Device}
+
+pub examples : all holds rows ≡ true
+unfolding sightIn seeIn isSet judgeRoom judgeFound
+examples = refl
+
+removals-hold : all holds removals ≡ true
+unfolding sightIn seeIn isSet judgeRoom judgeFound gradeSeen
+removals-hold = refl
+
+others-hold : all holds others ≡ true
+unfolding sightIn seeIn isSet judgeRoom judgeFound isOpen mediaNumber otherNumber refused
+others-hold = refl
+
+pub made-of-A : (there : Device) → (madeOf there (offerA 2) ≡ tells 0 deviceA) × (madeOf there (offerA 1) ≡ tells 0 (fresh (offerA 1))) × (madeOf there (offerA 129) ≡ tells 8 there)
+unfolding good madeOf
+made-of-A there = (refl, refl, refl)
