@@ -1,3 +1,4 @@
 -- What is proved of the cells' functions.
+pub mod Once
 pub mod Sights
 pub mod Stores

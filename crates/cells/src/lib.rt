@@ -148,29 +148,29 @@ fn note_after(old: Note, store: Store) -> Note
     }
 }
 
-impl Cells {
-    // Whether a removal is under way.
-    pub fn is_under_way(self) -> bool
-        ensures { λ r. ⌜ r ≡ isFull (self .note) ⌝ }
+impl Note {
+    pub fn is_full(self) -> bool
+        ensures { λ r. ⌜ r ≡ isFull self ⌝ }
     {
-        let note = self.note;
-        match note {
+        match self {
             Note::Empty => false,
             Note::Full(_) => true,
         }
     }
+}
 
-    // Whether the failed mark is set.
-    pub fn is_failed(self) -> bool
-        ensures { λ r. ⌜ r ≡ isSet (self .failed) ⌝ }
+impl Mark {
+    pub fn is_set(self) -> bool
+        ensures { λ r. ⌜ r ≡ isSet self ⌝ }
     {
-        let mark = self.failed;
-        match mark {
+        match self {
             Mark::Clear => false,
             Mark::Set => true,
         }
     }
+}
 
+impl Cells {
     // The cells with one store made. The healths come last, so that their 128 bytes are moved at the end of every path alike.
     pub fn after(self, store: Store) -> Cells
         ensures { λ r. ⌜ r ≡ make store self ⌝ }

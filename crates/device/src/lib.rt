@@ -41,7 +41,8 @@ impl Device {
         ensures { λ r. ⌜ r ≡ underWay self ⌝ }
     {
         let cells = self.cells;
-        cells.is_under_way()
+        let note = cells.note;
+        note.is_full()
     }
 
     // Whether the failed mark is set.
@@ -49,7 +50,8 @@ impl Device {
         ensures { λ r. ⌜ r ≡ isSet (self .cells .failed) ⌝ }
     {
         let cells = self.cells;
-        cells.is_failed()
+        let mark = cells.failed;
+        mark.is_set()
     }
 
     // The ruling's store made and its position taken: the one place where an event changes a device.
@@ -76,10 +78,7 @@ impl Device {
     pub fn remove(self, security: Security, feature: u16, count: u16, lba: Lba) -> Stepped
         ensures { λ r. ⌜ said (r .answer) (r .device) ≡ told self (machine.command security (record { code = 0x7C; feature = feature; count = count; lba = lba }) 0) ⌝ }
     {
-        let table = self.table;
-        let cells = self.cells;
-        let at = self.position;
-        let r = removal::rule_remove(table, cells, at, security, feature, count, lba);
+        let r = self.rule_command(security, 0x7C, feature, count, lba, Answer::Done);
         self.carry_out(r)
     }
 

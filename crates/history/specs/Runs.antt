@@ -14,7 +14,7 @@ infixl 20 _▸_
 infixl 20 _▹_
 infixl 20 _▸▸_
 -- "any sequence of commands, work steps, grades, media errors, resets and power cuts", the latest last. An event makes at most one store
--- (machine/specs/Promises, `At-most-one-cell`), so "a cut after any single store included" is a cut after any event.
+-- (device/specs/Promises, `At-most-one-cell`), so "a cut after any single store included" is a cut after any event.
 pub data Script : Type 0 where
   begin : Script
   _▸_ : Script → Event → Script

@@ -101,7 +101,8 @@ pub fn rule_remove(
     if paper::is_aborted(Command::Remove, security) {
         return quiet(Answer::SecurityLocked, at);
     }
-    if c.is_under_way() {
+    let note = c.note;
+    if note.is_full() {
         return quiet(Answer::InProgress, at);
     }
     let id = identifier(feature, count);
