@@ -1,5 +1,4 @@
--- The table of what is open during a removal, and what holds of every code.
-
+-- How a row of what is open during a removal fits a command; what a command leaves in the lent buffer; what holds of every code.
 pub mod Lent
 pub mod Open
 pub mod Promises

@@ -1,4 +1,4 @@
--- Document 01's bench examples R1 to R8 of device A, one with the limit alone (R8 would meet check 6 without it), and the machine's edges.
+-- Document 01's bench examples R1 to R8 of device A, the limit alone (R8 would meet check 6 without it), and the machine's edges.
 use Prim.Native.Nat.{ℕ}
 use mathlib.Core.Bool.{Bool, true, false, not, _&&_}
 use mathlib.Core.List.{List, [], _∷_, _++_}

@@ -1,4 +1,4 @@
--- The definitions that the contracts of `paper` cite, and `Told`, in which every call's promise is put.
+-- What document 01 speaks of: answers and senses, an element's bytes, registers, the security table; and `Told`, in which promises are put.
 pub mod Answers
 pub mod Elements
 pub mod Registers

@@ -141,7 +141,7 @@ fn fill(d: Device, request: Request, buf: &mut [u8])
 {
     let ps = d.table.parts;
     let hs = d.cells.healths;
-    let n = words::smaller(d.table.count, 128);
+    let n = table::bounded(d.table.count);
     let mut places: [u8; 128] = [0; 128];
     let mut number: usize = 0;
     let mut i: usize = 0;
