@@ -12,7 +12,8 @@ use borrow.Author.Tests.{lt-ltb, leb-true}
 use Rattle.device.specs.declared.Device.{Device}
 use Rattle.layout.proofs.Bytes.{header-back, descriptor-back}
 use Rattle.layout.proofs.Requests.{accepted}
-use Rattle.layout.specs.Bytes.{headerBytes, headerIn, descriptorIn, roomOf, returnedOf, HeaderFits, DescriptorFits}
+use Rattle.layout.specs.Bytes.{headerBytes, headerIn, descriptorIn, roomOf, returnedOf}
+use Rattle.layout.specs.Promises.{HeaderFits, DescriptorFits}
 use Rattle.layout.specs.Requests.{filterOf, reportTypeOf, pagesOf, refused, takesId, takesType}
 use Rattle.layout.specs.declared.Descriptor.{Descriptor}
 use Rattle.layout.specs.declared.Header.{Header}
