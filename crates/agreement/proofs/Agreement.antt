@@ -11,15 +11,16 @@ use lib.Seq.{drop-append-add, getD-append-add, getD-take}
 use borrow.Author.Tests.{lt-ltb, leb-true}
 use Rattle.device.specs.declared.Device.{Device}
 use Rattle.layout.proofs.Bytes.{header-back, descriptor-back}
-use Rattle.layout.proofs.Requests.{accepted, type-exactly, health-exactly}
-use Rattle.layout.specs.Bytes.{headerBytes, headerIn, descriptorIn, roomOf, returnedOf, HeaderFits, DescriptorFits}
+use Rattle.layout.proofs.Requests.{accepted}
+use Rattle.layout.specs.Bytes.{headerBytes, headerIn, descriptorIn, roomOf, returnedOf}
+use Rattle.layout.specs.Promises.{HeaderFits, DescriptorFits}
 use Rattle.layout.specs.Requests.{filterOf, reportTypeOf, pagesOf, refused, takesId, takesType}
 use Rattle.layout.specs.declared.Descriptor.{Descriptor}
 use Rattle.layout.specs.declared.Header.{Header}
 use Rattle.layout.specs.declared.Request.{Request}
 use Rattle.paper.specs.Elements.{removedHealth}
 use Rattle.paper.specs.Told.{tells}
-use Rattle.reader.proofs.LayoutTheorem.{and-both}
+use Rattle.reader.proofs.LayoutTheorem.{and-both, type-exactly, health-exactly}
 use Rattle.reader.proofs.Taken.{Listed, Taken, takes}
 use Rattle.reader.specs.Checks as checks
 use Rattle.reader.specs.Checks.{baseOf, lastBefore}

@@ -1,5 +1,5 @@
 -- What is proved of the device and the reader together.
 pub mod Agreement
-pub mod Bench
+pub mod Examples
 pub mod Lists
 pub mod Pages

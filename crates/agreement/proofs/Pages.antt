@@ -30,15 +30,15 @@ old n = replicate n 0xA5
 abbrev zeros : ℕ → List ℕ
 zeros n = replicate n 0
 
--- a header of small numbers and one descriptor of G1's element
+-- a header of small numbers, and a descriptor of G1's element
 abbrev header : ℕ → ℕ → List ℕ → ℕ → List ℕ
 header number returned busy removed = (number ∷ zeros 3) ++ (returned ∷ zeros 3) ++ busy ++ (2 ∷ 0 ∷ removed ∷ zeros 17)
 
-abbrev slow : ℕ → List ℕ
-slow health = zeros 4 ++ (0x03 ∷ 0x00 ∷ 0x01 ∷ 0x00 ∷ zeros 6) ++ (0x01 ∷ health ∷ 0xF4 ∷ 0x01 ∷ zeros 14)
+abbrev descriptor : ℕ → List ℕ
+descriptor health = zeros 4 ++ (0x03 ∷ 0x00 ∷ 0x01 ∷ 0x00 ∷ zeros 6) ++ (0x01 ∷ health ∷ 0xF4 ∷ 0x01 ∷ zeros 14)
 
 -- five bytes more than a page are lent, and stay
-pub G1 : shown deviceA Unlocked (request 0x4100 1 0) (old 517) ≡ tells 0 (header 1 1 (zeros 4) 0 ++ slow 0x70 ++ zeros 448 ++ old 5)
+pub G1 : shown deviceA Unlocked (request 0x4100 1 0) (old 517) ≡ tells 0 (header 1 1 (zeros 4) 0 ++ descriptor 0x70 ++ zeros 448 ++ old 5)
 unfolding shownOf asks listOf pageOf refused takesHealth
 G1 = refl
 
@@ -61,7 +61,7 @@ small = refl
 
 -- locked, in a removal and marked, over two pages: the noted element, the removed number, FFh, and zeros to the end
 noted : shown (run deviceA (remove 1 3 0 ∷ steps 3)) Locked (request 0x4100 2 3) (old 1025)
-    ≡ tells 0 (header 1 1 (0x03 ∷ 0x00 ∷ 0x01 ∷ 0x00 ∷ []) 1 ++ slow 0xFF ++ zeros 960 ++ old 1)
+    ≡ tells 0 (header 1 1 (0x03 ∷ 0x00 ∷ 0x01 ∷ 0x00 ∷ []) 1 ++ descriptor 0xFF ++ zeros 960 ++ old 1)
 unfolding shownOf asks listOf pageOf refused takesHealth sightIn seeIn isSet judgeRoom judgeFound
 noted = refl
 

@@ -1,4 +1,4 @@
 -- The device and the reader together.
 
 pub mod Agreement
-pub mod Bench
+pub mod Examples

@@ -15,12 +15,12 @@ use Rattle.compare.specs.Walk.{cursor, first, keyAt, agreeAt, stepAt, pa
 use Rattle.compare.specs.declared.Line.the-variants.{OnlyOlder, OnlyNewer, Changed}
 
 -- a page's header and descriptors
-abbrev pub page : ℕ → ℕ → List Descriptor → List ℕ
+abbrev page : ℕ → ℕ → List Descriptor → List ℕ
 page number returned ds =
     headerBytes Little (record { number = number; returned = returned; busy = record { 0 = 0 }; limit = 2; removed = 0 })
     ++ flat (descriptorBytes Little) ds
 
-abbrev pub element : ℕ → ℕ → Descriptor
+abbrev element : ℕ → ℕ → Descriptor
 element id health = record { id = record { 0 = id }; restorable = false; kind = 1; health = health; capacity = 500 }
 
 -- 1 gone, 3 unchanged, 4 new, 0001_0003h removed

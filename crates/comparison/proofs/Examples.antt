@@ -1,39 +1,66 @@
--- Lines of a comparison, and texts that have none, computed from the definitions.
+-- The text of small comparisons, computed from the definitions. Each page is read once, and differences are found by the walk.
 use Prim.Native.Nat.{ℕ, _-_}
+use mathlib.Core.Bool.{true, false}
 use mathlib.Core.List.{List, [], _++_}
-use mathlib.Core.Path.{_≡_, refl, _∙_}
+use mathlib.Core.Path.{_≡_, refl, ap, _∙_}
 use lib.ListN.{length, replicate}
-use Rattle.compare.proofs.Examples.{element, older, newer}
-use Rattle.compare.specs.Opening.{bound, accepted}
+use Rattle.compare.proofs.Examples.{older, newer}
+use Rattle.compare.specs.Opening.{Values, bound, accepted}
 use Rattle.compare.specs.Pages.{countOf, elementAt, reachOf, boundOf}
-use Rattle.compare.specs.Walk.{keyAt, agreeAt, stepAt, past, nextTo, nextOf, walk, walkFrom}
-use Rattle.compare.specs.declared.Bound.the-variants.{UpTo}
+use Rattle.compare.specs.Parts.{descriptorPart}
+use Rattle.compare.specs.Walk.{first, keyAt, agreeAt, stepAt, past, nextTo, nextOf, walk, walkFrom}
+use Rattle.compare.specs.declared.Bound.the-variants.{Whole, UpTo}
 use Rattle.layout.specs.Requests.{refused, takesHealth}
+use Rattle.listing.specs.Listing.{requestFor}
 use Rattle.text.specs.Text.{ascii}
-use Rattle.comparison.specs.Comparison.{signed, changed, lastLine, judged, comparisonOf, linesFrom}
+use Rattle.comparison.specs.Comparison.{handed, olderOf, lineOf, lastLine, judged, comparisonOf, isAccepted, linesFrom}
 use Rattle.comparison.proofs.Accepted.{by-walk}
-
-pub one-gone : signed (ascii "- ") (element 1 0x20) ≡ ascii "- 00000001 01 20 500"
-one-gone = refl
-
-pub one-removed : changed (element 0x0001_0003 0xFF) (element 0x0001_0003 0x70) ≡ ascii "~ 00010003 01 FF 500 <- 01 70 500"
-one-removed = refl
-
-pub cut : lastLine (bound (UpTo (record { 0 = 15 }))) ≡ ascii "compared up to 0000000F\n"
-cut = refl
 
 -- a page of 512 bytes
 abbrev padded : List ℕ → List ℕ
 padded l = l ++ replicate (512 - length l) 0
 
-pub none : comparisonOf (padded newer) (padded newer) ≡ []
-unfolding refused takesHealth accepted countOf elementAt reachOf boundOf keyAt agreeAt stepAt past nextTo nextOf walk walkFrom judged linesFrom
-none = by-walk (padded newer) (padded newer) ∙ refl
+abbrev s : List ℕ
+s = padded older
 
-pub refused-older : comparisonOf [] (padded newer) ≡ ascii "refused 9 older\n"
-unfolding refused takesHealth accepted judged comparisonOf
+abbrev t : List ℕ
+t = padded newer
+
+older-taken : accepted s (requestFor 1) ≡ true
+unfolding refused takesHealth accepted
+older-taken = refl
+
+newer-taken : accepted t (requestFor 1) ≡ true
+unfolding refused takesHealth accepted
+newer-taken = refl
+
+nothing-taken : accepted [] (requestFor 1) ≡ false
+unfolding refused accepted
+nothing-taken = refl
+
+both-taken : judged s t .state ≡ bound Whole
+unfolding reachOf boundOf judged
+both-taken = rw (older-taken, newer-taken)
+
+same-taken : judged t t .state ≡ bound Whole
+unfolding reachOf boundOf judged
+same-taken = rw newer-taken
+
+abbrev text : List ℕ → List ℕ → Values → List ℕ
+text a b v = linesFrom (isAccepted v) a b first ++ lastLine v
+
+-- 1 gone, 3 unchanged, 4 new, 0001_0003h removed; and no difference from itself
+pub texts : (comparisonOf s t ≡ ascii "- 00000001 01 20 500\n+ 00000004 01 00 500\n~ 00010003 01 FF 500 <- 01 70 500\n") × (comparisonOf t t ≡ [])
+unfolding countOf elementAt reachOf boundOf descriptorPart keyAt agreeAt stepAt past nextTo nextOf walk walkFrom handed olderOf lineOf linesFrom
+texts = (by-walk s t ∙ ap (text s t) both-taken ∙ refl, by-walk t t ∙ ap (text t t) same-taken ∙ refl)
+
+pub cut : lastLine (bound (UpTo (record { 0 = 15 }))) ≡ ascii "compared up to 0000000F\n"
+cut = refl
+
+pub refused-older : comparisonOf [] t ≡ ascii "refused 9 older\n"
+unfolding refused accepted judged comparisonOf
 refused-older = refl
 
-pub refused-newer : comparisonOf (padded older) [] ≡ ascii "refused 9 newer\n"
-unfolding refused takesHealth accepted judged comparisonOf
-refused-newer = refl
+pub refused-newer : comparisonOf s [] ≡ ascii "refused 9 newer\n"
+unfolding judged comparisonOf
+refused-newer = rw (older-taken, nothing-taken)

@@ -20,6 +20,7 @@ use layout::Descriptor;
 use listing::Printed;
 use paper::Answer;
 use paper::ElementId;
+use paper::PageCount;
 use text::Text;
 use words::Order;
 
@@ -113,7 +114,8 @@ fn judge(older: &[u8], newer: &[u8]) -> Opening
     if 65536 < older.len() {
         return Opening::Refused(Turn::Older);
     }
-    compare::open(older, newer, listing::request_of(older))
+    let pages = PageCount((older.len() / 512) as u16);
+    compare::open(older, newer, listing::request_for(pages))
 }
 
 fn is_accepted(opening: Opening) -> bool

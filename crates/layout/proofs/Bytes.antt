@@ -10,7 +10,8 @@ use Rattle.words.specs.Bytes.{bytesOf, number, numberAt}
 use Rattle.words.specs.Lists.{stored, one}
 use Rattle.words.specs.declared.Order.the-variants.{Little, Big}
 use Rattle.words.specs.declared.Order.{Order}
-use Rattle.layout.specs.Bytes.{headerBytes, headerIn, descriptorBytes, descriptorIn, HeaderFits, DescriptorFits}
+use Rattle.layout.specs.Bytes.{headerBytes, headerIn, descriptorBytes, descriptorIn}
+use Rattle.layout.specs.Promises.{Header-back, Descriptor-back}
 use Rattle.layout.specs.declared.Descriptor.{Descriptor}
 use Rattle.layout.specs.declared.Header.{Header}
 
@@ -60,7 +61,7 @@ header-read : (o : Order) (h : Header) (rest : List ℕ) → headerIn o (headerB
 header-read Little h rest = refl
 header-read Big h rest = refl
 
-pub header-back : (o : Order) (h : Header) (rest : List ℕ) → HeaderFits h → headerIn o (headerBytes o h ++ rest) ≡ h
+pub header-back : Header-back
 header-back o h rest fits =
     header-read o h rest
     ∙ λ i. record {
@@ -86,7 +87,7 @@ descriptor-read : (o : Order) (d : Descriptor) (rest : List ℕ) → descriptorI
 descriptor-read Little d rest = refl
 descriptor-read Big d rest = refl
 
-pub descriptor-back : (o : Order) (d : Descriptor) (rest : List ℕ) → DescriptorFits d → descriptorIn o (descriptorBytes o d ++ rest) ≡ d
+pub descriptor-back : Descriptor-back
 descriptor-back o d rest fits =
     descriptor-read o d rest
     ∙ λ i. record {

@@ -1,12 +1,12 @@
 -- Laws of a request: what the code's tests say of it, a law for each way out, and what callers use of the shut definitions.
 use Prim.Native.Nat.{ℕ, _≤_, _<_}
-use mathlib.Core.Bool.{Bool, true, false, true≢false, false≢true, not, _||_}
+use mathlib.Core.Bool.{Bool, true, false, true≢false, _||_}
 use mathlib.Core.Path.{_≡_, refl, sym, _∙_}
 use native.Mathlib.Omega.{arith}
 use lib.Dec.{leb, ltb, eqb}
-use borrow.Author.Tests.{le-leb, lt-leb, lt-ltb, le-ltb, eq-eqb, ne-eqb, leb-false, ltb-false, eqb-true, eqb-false}
-use Rattle.paper.specs.Elements.{storageType, slow}
-use Rattle.layout.specs.Requests.{filterOf, reportTypeOf, pagesOf, refused, takesType, inFilter, takesHealth}
+use borrow.Author.Tests.{le-leb, lt-leb, lt-ltb, le-ltb, eq-eqb, ne-eqb, leb-false, ltb-false, eqb-false}
+use Rattle.paper.specs.Elements.{slow}
+use Rattle.layout.specs.Requests.{filterOf, reportTypeOf, pagesOf, refused, takesType, takesHealth}
 use Rattle.layout.specs.declared.Request.{Request}
 
 -- ## Which requests are due 4
@@ -65,26 +65,3 @@ accepted q e =
     let first = or-false-both (leb 2 (filterOf q) || ltb 1 (reportTypeOf q)) (eqb (pagesOf q) 0) e in
     let two = or-false-both (leb 2 (filterOf q)) (ltb 1 (reportTypeOf q)) (first .0) in
     (omega (arith, leb-false 2 (filterOf q) (two .0)), ltb-false 1 (reportTypeOf q) (two .1), omega (arith, eqb-false (pagesOf q) 0 (first .1)))
-
--- "if the first then the second", tested
-pub implied : (a b : Bool) → (not a || b) ≡ true → a ≡ true → b ≡ true
-implied true b e y = e
-implied false b e y = absurd (false≢true y)
-
-pub implies : (a b : Bool) → (a ≡ true → b ≡ true) → (not a || b) ≡ true
-implies true b f = f refl
-implies false b f = refl
-
--- the tests of a type and of a health as statements
-pub type-exactly : (r kind : ℕ) → (takesType r kind ≡ true → r ≡ 1 → kind ≡ 1) × ((r ≡ 1 → kind ≡ 1) → takesType r kind ≡ true)
-type-exactly r kind = (
-  λ e y. eqb-true _ _ (implied (eqb r 1) (storageType kind) e (eq-eqb _ _ y)),
-  λ f. implies (eqb r 1) (storageType kind) (λ y. eq-eqb _ _ (f (eqb-true _ _ y))),
-)
-
-pub health-exactly : (f h : ℕ) → (takesHealth f h ≡ true → f ≡ 1 → inFilter h ≡ true) × ((f ≡ 1 → inFilter h ≡ true) → takesHealth f h ≡ true)
-unfolding takesHealth
-health-exactly f h = (
-  λ e y. implied (eqb f 1) (inFilter h) e (eq-eqb _ _ y),
-  λ g. implies (eqb f 1) (inFilter h) (λ y. g (eqb-true _ _ y)),
-)

@@ -1,5 +1,5 @@
 -- The 32 bytes of a page's header (004, table 102) and of a descriptor (003, table 103), in either byte order, and their reading back.
-use Prim.Native.Nat.{ℕ, _-_, _*_, _%_, _^_, _<_, min}
+use Prim.Native.Nat.{ℕ, _-_, _*_, _%_, _^_, min}
 use mathlib.Core.List.{List, [], _∷_, _++_}
 use lib.Dec.{eqb}
 use lib.ListN.{getD, replicate}
@@ -48,20 +48,6 @@ descriptorIn o s =
       health = getD s 15 0;
       capacity = numberAt o 8 s 16;
     }
-
--- numbers that fit their fields, as every struct of the code has them
-pub record HeaderFits (h : Header) : Type 0 where
-  pub number : h .number < 2 ^ 32
-  pub returned : h .returned < 2 ^ 32
-  pub busy : h .busy .0 < 2 ^ 32
-  pub limit : h .limit < 2 ^ 16
-  pub removed : h .removed < 2 ^ 16
-
-pub record DescriptorFits (d : Descriptor) : Type 0 where
-  pub id : d .id .0 < 2 ^ 32
-  pub kind : d .kind < 2 ^ 8
-  pub health : d .health < 2 ^ 8
-  pub capacity : d .capacity < 2 ^ 64
 
 -- ## What a page of p times 512 bytes holds
 

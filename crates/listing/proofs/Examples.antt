@@ -17,10 +17,11 @@ use Rattle.listing.specs.Listing.{descriptorLine, headerLine, linesBelow
 abbrev zeros : ℕ → List ℕ
 zeros n = replicate n 0
 
-abbrev g1 : List ℕ
-g1 =
+-- a page of one descriptor, whose capacity has these bytes: the first, the second, and each of the other six
+abbrev page : ℕ → ℕ → ℕ → List ℕ
+page a b c =
     (1 ∷ zeros 3) ++ (1 ∷ zeros 3) ++ zeros 4 ++ (2 ∷ zeros 19)
-    ++ zeros 4 ++ (0x03 ∷ 0x00 ∷ 0x01 ∷ zeros 7) ++ (0x01 ∷ 0x70 ∷ 0xF4 ∷ 0x01 ∷ zeros 462)
+    ++ zeros 4 ++ (0x03 ∷ 0x00 ∷ 0x01 ∷ zeros 7) ++ (0x01 ∷ 0x70 ∷ a ∷ b ∷ replicate 6 c) ++ zeros 456
 
 abbrev numbers : Header
 numbers = record { number = 1; returned = 1; busy = record { 0 = 0 }; limit = 2; removed = 0 }
@@ -28,24 +29,25 @@ numbers = record { number = 1; returned = 1; busy = record { 0 = 0 }; limit = 2;
 abbrev element : ℕ → Descriptor
 element capacity = record { id = record { 0 = 0x0001_0003 }; restorable = false; kind = 0x01; health = 0x70; capacity = capacity }
 
-G1-numbers : judged g1 .state ≡ header numbers
+-- it is taken, whatever the capacity
+taken : (a b c : ℕ) → judged (page a b c) .state ≡ header numbers
 unfolding refused takesHealth
-G1-numbers = refl
+taken a b c = refl
 
-G1-element : descriptorAt Little g1 0 ≡ element 500
-G1-element = refl
-
-pub G1 : listingOf g1 ≡ ascii "number 1 returned 1 busy 00000000 limit 2 removed 0\n00010003 01 70 500\n"
+listed : (a b c : ℕ) (d : Descriptor) → descriptorAt Little (page a b c) 0 ≡ d → listingOf (page a b c) ≡ headerLine numbers ++ descriptorLine d
 unfolding listingOf
-G1 =
-    ap (λ (v : Values). firstLine v ++ linesBelow g1 (lineCount v)) G1-numbers
-    ∙ ap (λ (d : Descriptor). headerLine numbers ++ descriptorLine d) G1-element
+listed a b c d is-d =
+    ap (λ (v : Values). firstLine v ++ linesBelow (page a b c) (lineCount v)) (taken a b c)
+    ∙ ap (λ (x : Descriptor). headerLine numbers ++ descriptorLine x) is-d
 
-pub unreported : descriptorLine (element allOnes) ≡ ascii "00010003 01 70 -\n"
-unreported = refl
+pub G1 : listingOf (page 0xF4 0x01 0x00) ≡ ascii "number 1 returned 1 busy 00000000 limit 2 removed 0\n00010003 01 70 500\n"
+G1 = listed 0xF4 0x01 0x00 (element 500) refl
 
--- no page, a length that is not 512p, and N at 1 with nothing returned
+pub unreported : listingOf (page 0xFF 0xFF 0xFF) ≡ ascii "number 1 returned 1 busy 00000000 limit 2 removed 0\n00010003 01 70 -\n"
+unreported = listed 0xFF 0xFF 0xFF (element allOnes) refl
+
+-- no page, a length that is not 512p, N at 1 with nothing returned, and a last byte that is not 0
 pub refusals : (listingOf [] ≡ ascii "refused 9 at 0\n") × (listingOf (zeros 513) ≡ ascii "refused 9 at 0\n")
-    × (listingOf (1 ∷ zeros 511) ≡ ascii "refused 9 at 4\n")
+    × (listingOf (1 ∷ zeros 511) ≡ ascii "refused 9 at 4\n") × (listingOf (zeros 511 ++ (1 ∷ [])) ≡ ascii "refused 9 at 511\n")
 unfolding listingOf refused takesHealth
-refusals = (refl, refl, refl)
+refusals = (refl, refl, refl, refl)

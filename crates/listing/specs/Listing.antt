@@ -1,5 +1,5 @@
 -- Document 01, "The reader", last paragraph: the listing's text, and the lent output buffer.
-use Prim.Native.Nat.{ℕ, zero, suc, _/_, _%_}
+use Prim.Native.Nat.{ℕ, zero, suc, _/_}
 use mathlib.Core.Bool.{cond}
 use mathlib.Core.List.{List, [], _++_}
 use lib.Dec.{eqb, ltb}
@@ -52,9 +52,13 @@ linesBelow s (suc n) = linesBelow s n ++ descriptorLine (descriptorAt Little s n
 
 -- ## The text
 
--- "an answer to filter 0, report type 0, start 0, and as many pages as the input has"; COUNT has 16 bits, and no input of more is read
+-- "an answer to filter 0, report type 0, start 0, ..
+abbrev pub requestFor : ℕ → Request
+requestFor pages = record { feature = 0; count = record { 0 = pages }; lba = record { 0 = 0 } }
+
+-- .. and as many pages as the input has"
 abbrev pub requestOf : List ℕ → Request
-requestOf s = record { feature = 0; count = record { 0 = length s / 512 % 65536 }; lba = record { 0 = 0 } }
+requestOf s = requestFor (length s / 512)
 
 -- "at most 65,536 bytes ..; longer input is refused at 65536"
 abbrev pub judged : List ℕ → Told Values

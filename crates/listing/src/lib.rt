@@ -9,7 +9,7 @@ ghost use Rattle.reader.specs.Judgement.{heard};
 ghost use Rattle.text.specs.Text.{nothing, written};
 ghost use Rattle.words.specs.Lists.{stored};
 ghost use Rattle.words.specs.declared.Order.the-variants.{Little};
-ghost use Rattle.listing.specs.Listing.{capacityOf, valuesOf, descriptorLine, headerOf, headerLine, refusedLine, linesBelow, requestOf, judged, firstLine, lineCount, output, listed};
+ghost use Rattle.listing.specs.Listing.{capacityOf, valuesOf, descriptorLine, headerOf, headerLine, refusedLine, linesBelow, requestFor, judged, firstLine, lineCount, output, listed};
 use layout::Descriptor;
 use layout::Header;
 use layout::Request;
@@ -77,13 +77,13 @@ fn refused_line(place: usize) -> Text
         .word(b"\n")
 }
 
-// What an input is read as an answer to.
-pub fn request_of(input: &[u8]) -> Request
-    ensures { λ r. ⌜ r ≡ requestOf (now (input .entry)) ⌝ }
+// What an input of so many pages is read as an answer to.
+pub fn request_for(pages: PageCount) -> Request
+    ensures { λ r. ⌜ r ≡ requestFor (pages .0) ⌝ }
 {
     Request {
         feature: 0,
-        count: PageCount((input.len() / 512 % 65536) as u16),
+        count: pages,
         lba: Lba(0),
     }
 }
@@ -95,7 +95,8 @@ fn judge(input: &[u8]) -> Judgement
     if 65536 < input.len() {
         return Judgement::Refused(65536);
     }
-    reader::read(input, request_of(input))
+    let pages = PageCount((input.len() / 512) as u16);
+    reader::read(input, request_for(pages))
 }
 
 // The line that every listing starts with.

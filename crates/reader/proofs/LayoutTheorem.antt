@@ -1,24 +1,26 @@
 -- The layout theorem: the reader takes exactly the pages that keep each rule, and refuses any other at the first that is broken.
 use Prim.Native.Nat.{ℕ, _+_, _-_, _*_, _≤_, _<_}
-use mathlib.Core.Bool.{Bool, true, false, not, _&&_, false≢true}
+use mathlib.Core.Bool.{Bool, true, false, not, _&&_, _||_, or-true, false≢true}
 use mathlib.Core.List.{List, _∷_, _++_}
+use mathlib.Core.Logic.{_⊎_, inl, inr, ⊎-elim}
 use mathlib.Core.Path.{_≡_, refl, ap, subst}
 use native.Mathlib.Omega.{arith}
-use lib.Dec.{eqb, ltb}
+use lib.Dec.{eqb, leb, ltb}
 use lib.ListN.{length, getD}
 use borrow.Author.Tests.{eq-eqb, ne-eqb, le-leb, lt-leb, le-ltb, lt-ltb, eqb-true, eqb-false, leb-true, ltb-true, not-true}
-use Rattle.layout.proofs.Requests.{accepted, implied, implies, type-exactly, health-exactly}
+use Rattle.layout.proofs.Requests.{accepted}
 use Rattle.layout.specs.Bytes.{headerIn, returnedOf}
-use Rattle.layout.specs.Requests.{filterOf, reportTypeOf, pagesOf, startOf, refused, takesId, takesType, takesHealth}
+use Rattle.layout.specs.Requests.{filterOf, reportTypeOf, pagesOf, startOf, refused, takesId, takesType, inFilter, takesHealth}
 use Rattle.layout.specs.declared.Descriptor.{Descriptor}
 use Rattle.layout.specs.declared.Header.{Header}
 use Rattle.layout.specs.declared.Request.{Request}
+use Rattle.paper.specs.Elements.{storageType, removedHealth, slow, gradedHealth}
 use Rattle.paper.specs.Told.{Told, tells}
 use Rattle.words.specs.declared.Order.{Order}
 use Rattle.reader.specs.Checks.{baseOf, descriptorAt, lastBefore, inTurn, earned, checkOf, offenceAt, paddingAt, pageOffence}
 use Rattle.reader.specs.First.{unless, _orElse_, firstBelow}
 use Rattle.reader.specs.Judgement.{Values, header, place, answerOf, readOf}
-use Rattle.reader.specs.Layout.{Rule, rule, below, Asked, descriptorRules, rulesAt, paddingRules, pageRules}
+use Rattle.reader.specs.Layout.{Rule, rule, below, Asked, InFilter, descriptorRules, rulesAt, paddingRules, pageRules}
 use Rattle.reader.specs.Promises.{Takes-exactly, Refuses-exactly}
 use Rattle.reader.specs.declared.Offence.the-variants.{Clean, At}
 use Rattle.reader.specs.declared.Offence.{Offence}
@@ -29,6 +31,19 @@ use Rattle.reader.proofs.Rules.{Decides, one, join, next, all-below, cl
 pub and-both : (a b : Bool) → (a && b) ≡ true → (a ≡ true) × (b ≡ true)
 and-both true b e = (refl, e)
 and-both false b e = absurd (false≢true e)
+
+or-either : (a b : Bool) → (a || b) ≡ true → (a ≡ true) ⊎ (b ≡ true)
+or-either true b e = inl refl
+or-either false b e = inr e
+
+-- "if the first then the second", tested
+implied : (a b : Bool) → (not a || b) ≡ true → a ≡ true → b ≡ true
+implied true b e y = e
+implied false b e y = absurd (false≢true y)
+
+implies : (a b : Bool) → (a ≡ true → b ≡ true) → (not a || b) ≡ true
+implies true b f = f refl
+implies false b f = refl
 
 asked-to : (q : Request) → not (refused q) ≡ true → Asked q
 asked-to q e = accepted q (not-true _ e)
@@ -54,6 +69,30 @@ module _ (d : Descriptor) where
 
   earned-from : (d .restorable ≡ true → d .health ≡ 0xFF) → earned d ≡ true
   earned-from f = implies (d .restorable) (eqb (d .health) 0xFF) (λ y. eq-eqb _ _ (f y))
+
+pub type-exactly : (r kind : ℕ) → (takesType r kind ≡ true → r ≡ 1 → kind ≡ 1) × ((r ≡ 1 → kind ≡ 1) → takesType r kind ≡ true)
+type-exactly r kind = (
+  λ e y. eqb-true _ _ (implied (eqb r 1) (storageType kind) e (eq-eqb _ _ y)),
+  λ f. implies (eqb r 1) (storageType kind) (λ y. eq-eqb _ _ (f (eqb-true _ _ y))),
+)
+
+filter-to : (h : ℕ) → inFilter h ≡ true → InFilter h
+filter-to h e =
+    ⊎-elim
+    (λ x. let b = and-both (leb 0x65 h) (gradedHealth h) x in inl (leb-true _ _ (b .0), leb-true _ _ (b .1)))
+    (λ x. inr (eqb-true _ _ x))
+    (or-either (slow h) (removedHealth h) e)
+
+filter-from : (h : ℕ) → InFilter h → inFilter h ≡ true
+filter-from h (inl (low, high)) = rw (le-leb 0x65 h low, le-leb h 0xCF high)
+filter-from h (inr e) = rw (eq-eqb h 0xFF e, or-true)
+
+pub health-exactly : (f h : ℕ) → (takesHealth f h ≡ true → f ≡ 1 → InFilter h) × ((f ≡ 1 → InFilter h) → takesHealth f h ≡ true)
+unfolding takesHealth
+health-exactly f h = (
+  λ e y. filter-to h (implied (eqb f 1) (inFilter h) e (eq-eqb _ _ y)),
+  λ g. implies (eqb f 1) (inFilter h) (λ y. filter-from h (g (eqb-true _ _ y))),
+)
 
 -- ## The checks decide the rules
 

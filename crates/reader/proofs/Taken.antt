@@ -7,14 +7,14 @@ use native.Mathlib.Nat.{min-le-right}
 use native.Mathlib.Omega.{arith}
 use lib.ListN.{length, getD}
 use Rattle.layout.specs.Bytes.{headerIn, roomOf, returnedOf}
-use Rattle.layout.specs.Requests.{filterOf, reportTypeOf, pagesOf, startOf, inFilter}
+use Rattle.layout.specs.Requests.{filterOf, reportTypeOf, pagesOf, startOf}
 use Rattle.layout.specs.declared.Descriptor.{Descriptor}
 use Rattle.layout.specs.declared.Request.{Request}
 use Rattle.paper.specs.Told.{tells}
 use Rattle.words.specs.declared.Order.{Order}
 use Rattle.reader.specs.Checks.{baseOf, descriptorAt, lastBefore}
 use Rattle.reader.specs.Judgement.{header, readOf}
-use Rattle.reader.specs.Layout.{Rule, Each, below, Asked, descriptorRules, rulesAt, paddingRules}
+use Rattle.reader.specs.Layout.{Rule, Each, below, Asked, InFilter, descriptorRules, rulesAt, paddingRules}
 use Rattle.reader.proofs.LayoutTheorem.{takes-exactly}
 use Rattle.reader.proofs.Rules.{each-both, each-first, each-second, each-at, each-below}
 
@@ -26,7 +26,7 @@ pub record Listed (q : Request) (last : ℕ) (d : Descriptor) : Type 0 where
   pub rises : last < d .id .0
   pub earned : d .restorable ≡ true → d .health ≡ 0xFF
   pub typed : reportTypeOf q ≡ 1 → d .kind ≡ 1
-  pub filtered : filterOf q ≡ 1 → inFilter (d .health) ≡ true
+  pub filtered : filterOf q ≡ 1 → InFilter (d .health)
 
 module _ (q : Request) (last base : ℕ) (d : Descriptor) where
   listed-each : Listed q last d → Each (descriptorRules q last base d)

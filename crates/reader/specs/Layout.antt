@@ -6,7 +6,7 @@ use mathlib.Core.Logic.{_⊎_}
 use mathlib.Core.Path.{_≡_}
 use lib.ListN.{length, getD}
 use Rattle.layout.specs.Bytes.{headerIn, returnedOf}
-use Rattle.layout.specs.Requests.{filterOf, reportTypeOf, pagesOf, startOf, inFilter}
+use Rattle.layout.specs.Requests.{filterOf, reportTypeOf, pagesOf, startOf}
 use Rattle.layout.specs.declared.Descriptor.{Descriptor}
 use Rattle.layout.specs.declared.Request.{Request}
 use Rattle.words.specs.declared.Order.{Order}
@@ -40,13 +40,17 @@ below (suc n) g = below n g ++ g n
 abbrev pub Asked : Request → Type 0
 Asked q = (filterOf q ≤ 1) × (reportTypeOf q ≤ 1) × (1 ≤ pagesOf q)
 
+-- "only health 65h to CFh, or FFh"
+abbrev pub InFilter : ℕ → Type 0
+InFilter health = ((0x65 ≤ health) × (health ≤ 0xCF)) ⊎ (health ≡ 0xFF)
+
 -- of a descriptor that starts at `base`, after the identifier `last`: its bytes 4, 13, 14 and 15
 abbrev pub descriptorRules : Request → ℕ → ℕ → Descriptor → List Rule
 descriptorRules q last base d =
     rule (base + 4) ((1 ≤ d .id .0) × (startOf q ≤ d .id .0) × (last < d .id .0))
     ∷ rule (base + 13) (d .restorable ≡ true → d .health ≡ 0xFF)
     ∷ rule (base + 14) (reportTypeOf q ≡ 1 → d .kind ≡ 1)
-    ∷ rule (base + 15) (filterOf q ≡ 1 → inFilter (d .health) ≡ true)
+    ∷ rule (base + 15) (filterOf q ≡ 1 → InFilter (d .health))
     ∷ []
 
 abbrev pub rulesAt : Order → List ℕ → Request → ℕ → List Rule

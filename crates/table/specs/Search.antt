@@ -27,13 +27,15 @@ hits id (x ∷ xs) = cond (ltb x id) (hits id xs) (eqb x id)
 unfoldable pub find : ℕ → List Element → Found
 find id es = cond (hits id (elementIds es)) (One (getD es (place id (elementIds es)) blank)) Missing
 
--- the same where the search stops, at an element
-abbrev pub stopped : ℕ → Element → Found
-stopped id e = cond (eqb (e .id .0) id) (One e) Missing
-
 -- in a table: where the search stops, the part there (a blank one past the end), and whether it is a hit
 unfoldable pub sightIn : ℕ → List Part → Sight
 sightIn id ps = record { part = getD ps (place id (partIds ps)) blankPart; place = place id (partIds ps); hit = hits id (partIds ps) }
 
 abbrev pub sight : ℕ → Table → Sight
 sight id t = sightIn id (live t)
+
+-- ## For the promises of private functions
+
+-- what `find` finds, where the search stops at an element
+abbrev pub stopped : ℕ → Element → Found
+stopped id e = cond (eqb (e .id .0) id) (One e) Missing

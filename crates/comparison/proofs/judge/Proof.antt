@@ -9,6 +9,7 @@ judge-spec =
     tie.close
     (tie.spec
     (λ c. search (older-long))
+    (λ c. search needs)
     (λ c κs. search needs)
     (λ c κs. search needs)
     (λ c. search (both-read)))

@@ -9,6 +9,7 @@ judge-spec =
     tie.close
     (tie.spec
     (λ c. search (input-long))
+    (λ c. search needs)
     (λ c κs. search needs)
     (λ c κs. search needs)
     (λ c. search (input-read)))

@@ -9,7 +9,7 @@ use Rattle.layout.specs.Requests.{refused, takesHealth}
 use Rattle.status.specs.Page.{shownOf, asks, listOf, pageOf}
 use Rattle.table.specs.Search.{sightIn}
 use Rattle.words.specs.Lists.{all}
-use Rattle.agreement.specs.Bench.{asSaid, examples}
+use Rattle.agreement.specs.Examples.{asSaid, examples}
 
 pub twelve : all asSaid examples ≡ true
 unfolding sightIn seeIn isSet judgeRoom judgeFound refused takesHealth shownOf asks listOf pageOf

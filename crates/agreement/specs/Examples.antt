@@ -17,15 +17,15 @@ pub record Example : Type 0 where
   pub after : List ℕ
 
 -- only a command is lent a buffer
-abbrev pub leaves : Device → Event → List ℕ → List ℕ
-leaves d (command s r room) buf = lent d s r buf
-leaves d step buf = buf
-leaves d mediaError buf = buf
-leaves d powerCut buf = buf
-leaves d comreset buf = buf
-leaves d hardwareReset buf = buf
-leaves d softwareReset buf = buf
-leaves d (grade id h) buf = buf
+abbrev pub bufferAfter : Device → Event → List ℕ → List ℕ
+bufferAfter d (command s r room) buf = lent d s r buf
+bufferAfter d step buf = buf
+bufferAfter d mediaError buf = buf
+bufferAfter d powerCut buf = buf
+bufferAfter d comreset buf = buf
+bufferAfter d hardwareReset buf = buf
+bufferAfter d softwareReset buf = buf
+bufferAfter d (grade id h) buf = buf
 
 abbrev pub same : List ℕ → List ℕ → Bool
 same [] [] = true
@@ -35,7 +35,7 @@ same (x ∷ xs) (y ∷ ys) = eqb x y && same xs ys
 
 abbrev pub asSaid : Example → Bool
 asSaid x =
-    holds (x .line) && same (leaves (run (x .line .device) (x .line .before)) (x .line .event) (x .before)) (x .after)
+    holds (x .line) && same (bufferAfter (run (x .line .device) (x .line .before)) (x .line .event) (x .before)) (x .after)
 
 -- without a buffer
 abbrev pub unlent : Row → Example
