@@ -2,8 +2,6 @@
 use layout::Descriptor;
 use layout::Header;
 use layout::Request;
-use print::bit;
-use print::head;
 use print::print_line;
 use print::print_number;
 use print::print_words;
@@ -42,8 +40,7 @@ fn poke(page: &mut [u8], kept: usize, p: Poke) {
 fn print_descriptor(d: Descriptor) {
     let text = Text::nothing()
         .hex8(d.id.0)
-        .word(b" ")
-        .decimal(bit(d.restorable))
+        .field(b" ", words::bit(d.restorable) as u64)
         .word(b" ");
     print_line(listing::write_values(text, d));
 }
@@ -63,7 +60,7 @@ fn print_contents(page: &[u8], h: Header) {
 }
 
 fn read(page: &[u8], kept: usize, request: Request) {
-    let whole = head(page, kept);
+    let whole = words::head(page, kept);
     match reader::read(whole, request) {
         Judgement::Accepted(h) => print_contents(whole, h),
         Judgement::Refused(place) => print_number(b"9 at ", place),
