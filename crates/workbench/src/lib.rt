@@ -1,4 +1,6 @@
-// What a script has on its bench, and its calls. No contract can say what was printed, so these functions promise nothing.
+// What a script has on its bench, and its calls. No contract can say what these print.
+ghost use mathlib.Core.Path.{_≡_};
+ghost use Rattle.workbench.specs.Empty as spec;
 use device::Cells;
 use device::Device;
 use device::Mark;
@@ -8,15 +10,16 @@ use device::Stepped;
 use paper::Lba;
 use print::print_answer;
 use print::print_cells;
+use script::Bare;
 use script::Command;
-use script::Event;
 use script::Grade;
 use script::Line;
+use script::PageCall;
 use table::Element;
 use table::Offer;
 use table::Table;
 
-// The offered list, the device and whether one was made, and how many bytes of `page` are kept.
+// The offered list, the device and whether one was made, and how many bytes the kept page has, which is lent to each call.
 pub struct Bench {
     pub offered: Offer,
     pub made: bool,
@@ -24,7 +27,9 @@ pub struct Bench {
     pub kept: usize,
 }
 
-fn no_offer() -> Offer {
+fn no_offer() -> Offer
+    ensures { λ r. ⌜ r ≡ spec.noOffer ⌝ }
+{
     let blank = table::blank();
     Offer {
         elements: [blank; 128],
@@ -33,7 +38,9 @@ fn no_offer() -> Offer {
     }
 }
 
-fn no_table() -> Table {
+fn no_table() -> Table
+    ensures { λ r. ⌜ r ≡ spec.noTable ⌝ }
+{
     let blank = table::blank_part();
     Table {
         parts: [blank; 128],
@@ -42,7 +49,9 @@ fn no_table() -> Table {
     }
 }
 
-fn no_cells() -> Cells {
+fn no_cells() -> Cells
+    ensures { λ r. ⌜ r ≡ spec.noCells ⌝ }
+{
     Cells {
         native: Lba(0),
         accessible: Lba(0),
@@ -53,7 +62,9 @@ fn no_cells() -> Cells {
 }
 
 // What stands where the first device is made.
-fn no_device() -> Device {
+fn no_device() -> Device
+    ensures { λ r. ⌜ r ≡ spec.noDevice ⌝ }
+{
     Device {
         table: no_table(),
         cells: no_cells(),
@@ -74,14 +85,14 @@ fn lengthened(list: Offer, e: Element) -> Offer {
     longer
 }
 
-fn event(d: Device, e: Event) -> Stepped {
-    match e {
-        Event::Step => machine::step(d),
-        Event::Error => machine::media_error(d),
-        Event::Cut => machine::power_cut(d),
-        Event::Comreset => machine::comreset(d),
-        Event::Hardreset => machine::hardware_reset(d),
-        Event::Softreset => machine::software_reset(d),
+fn bare(d: Device, b: Bare) -> Stepped {
+    match b {
+        Bare::Step => machine::step(d),
+        Bare::Error => machine::media_error(d),
+        Bare::Cut => machine::power_cut(d),
+        Bare::Comreset => machine::comreset(d),
+        Bare::Hardreset => machine::hardware_reset(d),
+        Bare::Softreset => machine::software_reset(d),
     }
 }
 
@@ -91,7 +102,9 @@ fn graded(d: Device, g: Grade) -> Stepped {
 }
 
 impl Bench {
-    pub fn empty() -> Bench {
+    pub fn empty() -> Bench
+        ensures { λ r. ⌜ r ≡ spec.empty ⌝ }
+    {
         Bench {
             offered: no_offer(),
             made: false,
@@ -151,26 +164,26 @@ impl Bench {
         self.with_device(device).with_kept(left.kept)
     }
 
-    // Makes a call on the device. Any other line leaves it as it is.
-    fn device_call(self, line: Line, page: &mut [u8]) -> Bench {
+    fn on_page(self, c: PageCall, page: &mut [u8]) -> Bench {
+        let kept = kept::call(page, self.kept, c);
+        self.with_kept(kept)
+    }
+
+    // Makes the call of a line; one that says none leaves the bench as it is.
+    pub fn call(self, line: Line, page: &mut [u8]) -> Bench {
         let d = self.device;
         match line {
             Line::Element(e) => self.offer(e),
             Line::Make(limit) => self.make(limit),
             Line::Command(c) => self.command(c, page),
-            Line::Event(e) => self.after(event(d, e)),
+            Line::Bare(b) => self.after(bare(d, b)),
             Line::Grade(g) => self.after(graded(d, g)),
             Line::Cells => {
                 print_cells(d);
                 self
             }
+            Line::Page(c) => self.on_page(c, page),
             _ => self,
         }
-    }
-
-    // Makes a call, on the kept page or on the device.
-    pub fn call(self, line: Line, page: &mut [u8]) -> Bench {
-        let kept = kept::call(page, self.kept, line);
-        self.with_kept(kept).device_call(line, page)
     }
 }
