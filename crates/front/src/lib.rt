@@ -1,4 +1,4 @@
-// The bench's front call, over a lent buffer. No contract can say what was printed, so these functions promise nothing.
+// The bench's front call, over a lent buffer. No contract can say what it prints.
 ghost use mathlib.Core.Path.{_≡_};
 ghost use lib.ListN.{length};
 use device::Device;

@@ -17,13 +17,13 @@ lengthened kept n page = stored page kept (replicate (n - kept) 0)
 abbrev pub poked : ℕ → Poke → List ℕ → List ℕ
 poked kept p page = cond (leb kept (p .place)) page (stored page (p .place) (p .byte ∷ []))
 
--- how long it then is: LENGTH, or as long as what is lent
+-- how long it then is: LENGTH, as far as there is room
 abbrev pub keptAfter : PageCall → ℕ → List ℕ → ℕ
 keptAfter (calls.Length n) kept page = min n (length page)
 keptAfter (calls.Poke p) kept page = kept
 keptAfter (calls.Read q) kept page = kept
 
--- what is then lent; "`read FEATURE COUNT LBA` runs the reader on it"
+-- what then stands there; "`read FEATURE COUNT LBA` runs the reader on it" and changes nothing
 abbrev pub pageAfter : PageCall → ℕ → List ℕ → List ℕ
 pageAfter (calls.Length n) kept page = lengthened kept (min n (length page)) page
 pageAfter (calls.Poke p) kept page = poked kept p page

@@ -1,4 +1,4 @@
-// What a script has on its bench, and its calls. No contract can say what these print.
+// What a script has on its bench, and its calls. No contract can say what they print.
 ghost use mathlib.Core.Path.{_≡_};
 ghost use Rattle.workbench.specs.Empty as spec;
 use device::Cells;
