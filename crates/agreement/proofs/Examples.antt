@@ -3,7 +3,6 @@ use mathlib.Core.Bool.{true}
 use mathlib.Core.Path.{_≡_, refl}
 use Rattle.cells.specs.Cells.{isSet}
 use Rattle.cells.specs.Sights.{seeIn}
-use Rattle.device.specs.Record.{see}
 use Rattle.removal.specs.Remove.{judgeRoom, judgeFound}
 use Rattle.layout.specs.Requests.{refused, takesHealth}
 use Rattle.status.specs.Page.{shownOf, asks, listOf, pageOf}

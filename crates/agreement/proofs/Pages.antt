@@ -5,7 +5,6 @@ use mathlib.Core.Path.{_≡_, refl}
 use lib.ListN.{replicate, take, drop}
 use Rattle.cells.specs.Cells.{isSet}
 use Rattle.cells.specs.Sights.{seeIn}
-use Rattle.device.specs.Record.{see}
 use Rattle.device.specs.declared.Device.{Device}
 use Rattle.layout.specs.Requests.{refused, takesHealth}
 use Rattle.layout.specs.declared.Request.{Request}

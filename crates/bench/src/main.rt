@@ -6,7 +6,7 @@ use lines::Gathered;
 use lines::Taken;
 use print::print_words;
 use script::Line;
-use stand::Bench;
+use workbench::Bench;
 
 // A script as far as it was run: the line as far as it was read, and the bench.
 struct Run {
@@ -16,7 +16,7 @@ struct Run {
 
 fn needs_device(line: Line) -> bool {
     match line {
-        Line::Command(_) | Line::Event(_) | Line::Grade(_) | Line::Cells => true,
+        Line::Command(_) | Line::Bare(_) | Line::Grade(_) | Line::Cells => true,
         _ => false,
     }
 }

@@ -1,14 +1,12 @@
-// The bench's front call, over a lent buffer. No contract can say what was printed, so these functions promise nothing.
+// The bench's front call, over a lent buffer. No contract can say what it prints.
 ghost use mathlib.Core.Path.{_≡_};
 ghost use lib.ListN.{length};
 use device::Device;
 use device::Stepped;
 use paper::Answer;
-use print::head;
 use print::print_answer;
 use print::print_page;
 use print::print_touched;
-use print::within;
 use script::Command;
 
 // What the call leaves: the device, and how many bytes of the page are kept.
@@ -64,7 +62,7 @@ fn keep(page: &mut [u8], kept: usize, written: &[u8]) -> usize {
 // Prints the answer and what it left in the lent buffer, of which it wrote the first n bytes.
 fn print_lent(answer: Answer, lent: &[u8], n: usize) {
     print_answer(answer);
-    print_page(head(lent, n));
+    print_page(words::head(lent, n));
     print_touched(lent, n);
 }
 
@@ -77,12 +75,12 @@ fn command_over(d: Device, c: Command, kept: usize, lent: &mut [u8], page: &mut 
     print_lent(answer, lent, n);
     Left {
         device,
-        kept: keep(page, kept, head(lent, n)),
+        kept: keep(page, kept, words::head(lent, n)),
     }
 }
 
 pub fn command(d: Device, c: Command, kept: usize, page: &mut [u8]) -> Left {
     let mut lent = unanswered();
-    let n = within(c.length, &lent);
-    command_over(d, c, kept, &mut lent[..n], page)
+    let n = words::smaller(c.length, lent.len());
+    command_over(d, c, kept, &mut lent[0..n], page)
 }

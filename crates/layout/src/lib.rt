@@ -3,7 +3,6 @@ ghost use mathlib.Core.Path.{_≡_};
 ghost use Rattle.layout.specs.Requests.{filterOf, reportTypeOf, startOf, refused, takesId, takesType, takesHealth};
 ghost use Rattle.layout.specs.Bytes.{headerBytes, headerIn, descriptorBytes, descriptorIn};
 ghost use Rattle.paper.specs.Elements.{slow};
-ghost use Rattle.words.specs.Lists.{one};
 use paper::ElementId;
 use paper::Lba;
 use paper::PageCount;
@@ -139,7 +138,11 @@ impl Descriptor {
     {
         let mut b = [0; 32];
         words::put(&mut b, 4, &words::bytes4(self.id.0, o));
-        words::put(&mut b, 13, &[bit(self.restorable), self.kind, self.health]);
+        words::put(
+            &mut b,
+            13,
+            &[words::bit(self.restorable), self.kind, self.health],
+        );
         words::put(&mut b, 16, &words::bytes8(self.capacity, o));
         b
     }
@@ -157,10 +160,4 @@ impl Descriptor {
             capacity: words::number8(s, 16, o),
         }
     }
-}
-
-fn bit(b: bool) -> u8
-    ensures { λ r. ⌜ r ≡ one b ⌝ }
-{
-    if b { 1 } else { 0 }
 }

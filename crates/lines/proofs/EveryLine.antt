@@ -10,7 +10,7 @@ use lib.ListN.{drop, length-drop, length, replicate, length-append}
 use lib.Seq.{take-append-seam, append-snoc}
 use borrow.Author.Tests.{lt-ltb, ltb-true, ltb-false}
 use Rattle.words.proofs.Lists.{padded, padded-more}
-use Rattle.lines.specs.Lines.{nothing, pushed, gathered, takenFrom}
+use Rattle.lines.specs.Pieces.{nothing, pushed, gathered, takenFrom}
 use Rattle.lines.specs.Promises.{Cut-anywhere, noNewline, Ends-at-newline, Goes-on, Place-counts, Kept-whole, Longer-told}
 use Rattle.lines.specs.declared.Gathered.{Gathered}
 use Rattle.lines.specs.declared.Taken.{Taken}

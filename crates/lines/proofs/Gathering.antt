@@ -7,7 +7,7 @@ use native.Mathlib.Numerals.{add-one}
 use lib.ListN.{length, drop, getD, drop-of-length-le}
 use lib.Seq.{drop-cons}
 use borrow.Author.Tests.{eq-eqb, ne-eqb}
-use Rattle.lines.specs.Lines.{pushed, takenFrom}
+use Rattle.lines.specs.Pieces.{pushed, takenFrom}
 use Rattle.lines.specs.declared.Gathered.{Gathered}
 
 module _ (piece : List ℕ) (g line : Gathered) (from at : ℕ) (so : takenFrom line (drop at piece) at ≡ takenFrom g (drop from piece) from) where

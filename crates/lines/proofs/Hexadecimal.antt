@@ -13,7 +13,7 @@ use borrow.Author.Tests.{le-leb, lt-leb, lt-ltb, leb-true}
 use Rattle.text.specs.Digits.{within, digitOf, valueAfter, valueOf}
 use Rattle.words.specs.Lists.{all}
 use Rattle.lines.specs.Numbers.{isDigit, isNumber, noNumber, fieldOf, fieldAt}
-use Rattle.lines.specs.Words.{wordAt}
+use Rattle.lines.specs.Parts.{wordAt}
 use Rattle.lines.specs.declared.Field.{Field}
 
 -- ## A digit

@@ -9,7 +9,7 @@ use lib.Dec.{eqb}
 use lib.ListN.{length, take, drop, getD, length-append, length-drop, drop-of-length-le}
 use lib.Seq.{drop-cons, take-append-seam}
 use borrow.Author.Tests.{eq-eqb, ne-eqb, not-true, not-false}
-use Rattle.lines.specs.Words.{isSpace, isOther, dropWhile, takeWhile, spaceOr, fromWord, wordAt, isEmpty, same, named}
+use Rattle.lines.specs.Parts.{isSpace, isOther, dropWhile, takeWhile, spaceOr, fromWord, wordAt, isEmpty, same, named}
 
 -- ## Skipped while a test holds
 

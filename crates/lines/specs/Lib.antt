@@ -1,5 +1,5 @@
 -- A script's lines: their words and numbers, and lines put together from pieces of input.
-pub mod Lines
 pub mod Numbers
+pub mod Parts
+pub mod Pieces
 pub mod Promises
-pub mod Words

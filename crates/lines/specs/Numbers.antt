@@ -6,7 +6,7 @@ use lib.Dec.{leb, ltb}
 use lib.ListN.{length}
 use Rattle.text.specs.Digits.{within, digitOf, valueOf}
 use Rattle.words.specs.Lists.{all}
-use Rattle.lines.specs.Words.{wordAt}
+use Rattle.lines.specs.Parts.{wordAt}
 use Rattle.lines.specs.declared.Field.{Field}
 
 abbrev pub isDigit : ℕ → Bool

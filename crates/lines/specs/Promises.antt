@@ -6,7 +6,7 @@ use mathlib.Core.Path.{_≡_}
 use lib.Dec.{eqb}
 use lib.ListN.{length, take}
 use Rattle.words.specs.Lists.{all}
-use Rattle.lines.specs.Lines.{nothing, gathered, takenFrom}
+use Rattle.lines.specs.Pieces.{nothing, gathered, takenFrom}
 use Rattle.lines.specs.declared.Gathered.{Gathered}
 
 -- a piece that is cut in two adds to a line what the whole adds

@@ -2,7 +2,7 @@
 ghost use mathlib.Core.Path.{_≡_};
 ghost use Prim.Native.Nat.{_≤_};
 ghost use lib.ListN.{length, drop};
-ghost use Rattle.lines.specs.Words.{dropWhile, spaceOr, fromWord, wordAt, same, named};
+ghost use Rattle.lines.specs.Parts.{dropWhile, spaceOr, fromWord, wordAt, same, named};
 
 fn is_spaced(b: u8, space: bool) -> bool
     ensures { λ r. ⌜ r ≡ spaceOr space b ⌝ }

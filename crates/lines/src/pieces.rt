@@ -1,19 +1,19 @@
 // Lines put together from pieces of input.
 ghost use mathlib.Core.Path.{_≡_};
 ghost use lib.ListN.{drop};
-ghost use Rattle.lines.specs.Lines as lines;
+ghost use Rattle.lines.specs.Pieces as spec;
 use crate::Gathered;
 use crate::Taken;
 
 pub fn is_long(line: &[u8]) -> bool
-    ensures { λ r. ⌜ r ≡ lines.isLong (now (line .entry)) ⌝ }
+    ensures { λ r. ⌜ r ≡ spec.isLong (now (line .entry)) ⌝ }
 {
     200 < line.len()
 }
 
 impl Gathered {
     pub fn nothing() -> Gathered
-        ensures { λ r. ⌜ r ≡ lines.nothing ⌝ }
+        ensures { λ r. ⌜ r ≡ spec.nothing ⌝ }
     {
         Gathered {
             bytes: [0u8; 200],
@@ -22,7 +22,7 @@ impl Gathered {
     }
 
     pub fn push(self, b: u8) -> Gathered
-        ensures { λ r. ⌜ r ≡ lines.pushed self b ⌝ }
+        ensures { λ r. ⌜ r ≡ spec.pushed self b ⌝ }
     {
         let at = self.len;
         let mut next = self;
@@ -37,7 +37,7 @@ impl Gathered {
 
     // The line with what a piece adds from a place on, up to the next newline or the piece's end.
     pub fn take(self, piece: &[u8], from: usize) -> Taken
-        ensures { λ r. ⌜ r ≡ lines.takenFrom self (drop from (now (piece .entry))) from ⌝ }
+        ensures { λ r. ⌜ r ≡ spec.takenFrom self (drop from (now (piece .entry))) from ⌝ }
     {
         let mut line = self;
         let mut at = from;

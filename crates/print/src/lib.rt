@@ -1,12 +1,7 @@
 // What the bench writes on standard output, line by line. No contract can say what was written, so what prints promises nothing.
-ghost use mathlib.Core.Bool.{cond};
-ghost use mathlib.Core.Path.{_≡_};
-ghost use Prim.Native.Nat.{_*_, _≤_, min};
-ghost use lib.ListN.{length, take};
-ghost use Rattle.io.specs.Counts.{Counts};
+ghost use Prim.Native.Nat.{_*_, _≤_};
+ghost use lib.ListN.{length};
 use cells::Cells;
-use cells::Note;
-use cells::Position;
 use device::Device;
 use libc::STDOUT_FILENO;
 use paper::Answer;
@@ -15,25 +10,10 @@ use paper::Sensed;
 use table::Part;
 use text::Text;
 
-// n, or how many bytes there are if these are fewer.
-pub fn within(n: usize, s: &[u8]) -> usize
-    ensures { λ r. ⌜ Counts r (now (s .entry)) × (r ≡ min n (length (now (s .entry)))) ⌝ }
-{
-    words::smaller(n, s.len())
-}
-
-// The first n bytes, or all if these are fewer.
-pub fn head(s: &[u8], n: usize) -> &[u8]
-    ensures { λ r. ⌜ now r ≡ take (min n (length (now (s .entry)))) (now (s .entry)) ⌝ }
-{
-    let m = within(n, s);
-    &s[..m]
-}
-
 pub fn print_line(text: Text) {
     let line = text.word(b"\n");
     let bytes = line.bytes;
-    if !io::write_all(STDOUT_FILENO, head(&bytes, line.len)) {
+    if !io::write_all(STDOUT_FILENO, words::head(&bytes, line.len)) {
         os::fail(b"bench: standard output");
     }
 }
@@ -43,17 +23,7 @@ pub fn print_words(words: &[u8]) {
 }
 
 pub fn print_number(words: &[u8], n: usize) {
-    print_line(Text::nothing().word(words).decimal(n as u64));
-}
-
-pub fn bit(b: bool) -> u64
-    ensures { λ r. ⌜ r ≡ cond b 1 0 ⌝ }
-{
-    if b { 1 } else { 0 }
-}
-
-fn write_number(text: Text, words: &[u8], n: u64) -> Text {
-    text.word(words).decimal(n)
+    print_line(Text::nothing().field(words, n as u64));
 }
 
 fn write_sense(text: Text, s: Sense) -> Text {
@@ -80,11 +50,9 @@ pub fn print_answer(answer: Answer) {
 fn write_note(text: Text, note: Note) -> Text {
     match note {
         Note::Empty => text.word(b"-"),
-        Note::Full(w) => write_number(
-            write_number(text.hex8(w.element.0), b" ", w.old.0),
-            b" ",
-            w.new.0,
-        ),
+        Note::Full(w) => text.hex8(w.element.0)
+            .field(b" ", w.old.0)
+            .field(b" ", w.new.0),
     }
 }
 
@@ -109,20 +77,20 @@ fn step_number(at: Position) -> u64 {
 fn write_position(text: Text, at: Position) -> Text {
     let n = step_number(at);
     if is_work(at) {
-        return write_number(text, b"work", n);
+        return text.field(b"work", n);
     }
-    write_number(text, b"wind", n)
+    text.field(b"wind", n)
 }
 
 fn print_element(p: Part, health: u8) {
     let id = Text::nothing().hex8(p.id.0).word(b" ");
     let element = id.hex2(p.kind).word(b" ").hex2(health);
-    let blocks = write_number(element, b" ", p.blocks);
-    print_line(write_number(blocks, b" ", bit(p.unreported)));
+    let blocks = element.field(b" ", p.blocks);
+    print_line(blocks.field(b" ", words::bit(p.unreported) as u64));
 }
 
 fn print_elements(ps: [Part; 128], healths: [u8; 128], count: usize) {
-    let n = words::smaller(count, 128);
+    let n = table::bounded(count);
     for i in 0..n {
         let p = ps[i];
         print_element(p, healths[i]);
@@ -132,9 +100,10 @@ fn print_elements(ps: [Part; 128], healths: [u8; 128], count: usize) {
 fn write_cells(c: Cells, limit: u16) -> Text {
     let native = c.native;
     let accessible = c.accessible;
-    let limited = write_number(Text::nothing(), b"limit ", limit as u64);
-    let natively = write_number(limited, b" native ", native.0);
-    write_number(natively, b" accessible ", accessible.0)
+    Text::nothing()
+        .field(b"limit ", limit as u64)
+        .field(b" native ", native.0)
+        .field(b" accessible ", accessible.0)
 }
 
 pub fn print_cells(d: Device) {
@@ -142,7 +111,8 @@ pub fn print_cells(d: Device) {
     let c = d.cells;
     let note = c.note;
     let position = d.position;
-    let numbers = write_number(write_cells(c, t.limit), b" failed ", bit(d.is_failed()));
+    let failed = words::bit(d.is_failed()) as u64;
+    let numbers = write_cells(c, t.limit).field(b" failed ", failed);
     let noted = write_note(numbers.word(b" note "), note).word(b" position ");
     print_line(write_position(noted, position));
     let ps = t.parts;

@@ -6,7 +6,7 @@ use lib.Dec.{ltb}
 use lib.ListN.{length}
 use borrow.Author.Tests.{le-ltb, ltb-true, ltb-false}
 use Rattle.lines.proofs.EveryLine.{kept-whole, longer-told}
-use Rattle.lines.specs.Lines.{nothing, gathered}
+use Rattle.lines.specs.Pieces.{nothing, gathered}
 use Rattle.script.specs.Calls.{lineOf, meaningOf}
 use Rattle.script.specs.Promises.{Says-its-bytes}
 use Rattle.script.proofs.Says.{line-long}

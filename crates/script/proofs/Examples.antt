@@ -5,13 +5,14 @@ use mathlib.Core.List.{_++_}
 use mathlib.Core.Path.{_≡_, refl}
 use lib.ListN.{replicate}
 use Rattle.lines.specs.Numbers.{fieldOf, fieldAt}
-use Rattle.lines.specs.Words.{wordAt, same, named}
+use Rattle.lines.specs.Parts.{wordAt, same, named}
 use Rattle.paper.specs.declared.Security.the-variants.{Unlocked}
 use Rattle.text.specs.Text.{ascii}
 use Rattle.script.specs.Calls.{stateOf, askedAt, elementOf, makeOf, commandOf, gradeOf, lengthOf, pageCall, resetCall, eventCall, deviceCall, lineOf}
-use Rattle.script.specs.declared.Event.the-variants.{Step}
-use Rattle.script.specs.declared.Line.the-variants.{Passed, NotACall, Element, Make, Command, Event, Grade, Length}
+use Rattle.script.specs.declared.Bare.the-variants.{Step}
+use Rattle.script.specs.declared.Line.the-variants.{Passed, NotACall, Element, Make, Command, Bare, Grade, Page}
 use Rattle.script.specs.declared.Line.{Line}
+use Rattle.script.specs.declared.PageCall.the-variants.{Length}
 
 abbrev Says : String → Line → Type 0
 Says line call = lineOf (ascii line) ≡ call
@@ -22,14 +23,14 @@ Examples =
     × (Says "command unlocked 12 4100 1 0 200" (Command (record { security = Unlocked; code = 0x12; feature = 0x4100; count = 1; lba = record { 0 = 0 }; length = 512 })))
     × (Says "   make    2  " (Make 2))
     × (Says "grade aBcD CF" (Grade (record { id = record { 0 = 0xABCD }; health = 0xCF })))
-    × (Says "length 0000000000010000" (Length 0x1_0000))
+    × (Says "length 0000000000010000" (Page (Length 0x1_0000)))
     × (Says "length 10001" NotACall)
     × (Says "length 00000000000010000" NotACall)
     × (Says "step 1" NotACall)
     × (Says "grade 3" NotACall)
     × (Says "   " Passed)
     × (Says " #step" Passed)
-    × (lineOf (ascii "step" ++ replicate 196 32) ≡ Event Step)
+    × (lineOf (ascii "step" ++ replicate 196 32) ≡ Bare Step)
     × (lineOf (ascii "step" ++ replicate 197 32) ≡ NotACall)
 
 pub examples : Examples

@@ -7,19 +7,19 @@ use lib.Dec.{eqb}
 use lib.ListN.{length, take, getD}
 use borrow.Author.Tests.{lt-ltb, le-ltb, ne-eqb}
 use Rattle.lines.proofs.Words.{empty-length}
-use Rattle.lines.specs.Lines.{isLong}
 use Rattle.lines.specs.Numbers.{fieldAt}
-use Rattle.lines.specs.Words.{wordAt, same}
+use Rattle.lines.specs.Parts.{wordAt, same}
+use Rattle.lines.specs.Pieces.{isLong}
 use Rattle.lines.specs.declared.Field.{Field}
 use Rattle.lines.specs.declared.Gathered.{Gathered}
 use Rattle.paper.specs.declared.Security.the-variants.{Locked, Unlocked, Frozen}
 use Rattle.table.specs.Elements as elements
-use Rattle.table.specs.declared.Element.{Element as Offered}
 use Rattle.text.specs.Text.{ascii}
 use Rattle.script.specs.Calls.{most64, most32, most16, most8, mostPlace, stateOf, askedAt, elementOf, commandOf, gradeOf, pokeOf, deviceCall, isPassed, lineOf, meaningOf}
 use Rattle.script.specs.declared.Asked.{Asked}
-use Rattle.script.specs.declared.Line.the-variants.{Passed, NotACall, Element, Command, Grade, Poke}
+use Rattle.script.specs.declared.Line.the-variants.{Passed, NotACall, Element, Command, Grade, Page}
 use Rattle.script.specs.declared.Line.{Line}
+use Rattle.script.specs.declared.PageCall.the-variants.{Poke}
 use Rattle.script.specs.declared.State.{State}
 
 -- ## The security state
@@ -82,7 +82,7 @@ unfolding gradeOf
 grade-is l id health is-id is-health a is-a r is-r = is-r ∙ rw (is-a, is-id, is-health)
 
 pub poke-is : (l : List ℕ) (place byte : Field) → place ≡ fieldAt l 1 mostPlace → byte ≡ fieldAt l 2 most8 → (a : Bool) → a ≡ (place .fits && byte .fits)
-    → (r : Line) → r ≡ cond a (Poke (record { place = place .value; byte = byte .value })) NotACall → r ≡ pokeOf l
+    → (r : Line) → r ≡ cond a (Page (Poke (record { place = place .value; byte = byte .value }))) NotACall → r ≡ pokeOf l
 unfolding pokeOf
 poke-is l place byte is-place is-byte a is-a r is-r = is-r ∙ rw (is-a, is-place, is-byte)
 

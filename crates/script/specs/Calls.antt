@@ -4,17 +4,18 @@ use mathlib.Core.Bool.{Bool, true, cond, _&&_, _||_}
 use mathlib.Core.List.{List}
 use lib.Dec.{eqb, ltb}
 use lib.ListN.{take, getD}
-use Rattle.lines.specs.Lines.{isLong}
 use Rattle.lines.specs.Numbers.{fieldAt}
-use Rattle.lines.specs.Words.{wordAt, isEmpty, same, named}
+use Rattle.lines.specs.Parts.{wordAt, isEmpty, same, named}
+use Rattle.lines.specs.Pieces.{isLong}
 use Rattle.lines.specs.declared.Gathered.{Gathered}
 use Rattle.paper.specs.declared.Security.the-variants.{Locked, Unlocked, Frozen}
 use Rattle.table.specs.Elements as elements
 use Rattle.text.specs.Text.{ascii}
 use Rattle.script.specs.declared.Asked.{Asked}
-use Rattle.script.specs.declared.Event.the-variants.{Step, Error, Cut, Comreset, Hardreset, Softreset}
-use Rattle.script.specs.declared.Line.the-variants.{Passed, NotACall, Element, Make, Command, Event, Grade, Cells, Length, Poke, Read}
+use Rattle.script.specs.declared.Bare.the-variants.{Step, Error, Cut, Comreset, Hardreset, Softreset}
+use Rattle.script.specs.declared.Line.the-variants.{Passed, NotACall, Element, Make, Command, Bare, Grade, Cells, Page}
 use Rattle.script.specs.declared.Line.{Line}
+use Rattle.script.specs.declared.PageCall.the-variants.{Length, Poke, Read}
 use Rattle.script.specs.declared.State.{State}
 
 -- "FEATURE, COUNT and LIMIT 16 bits, LBA and BLOCKS 64, ID 32, TYPE, HEALTH, CODE and BYTE 8, FLAG 1, LENGTH and PLACE up to 10000h"
@@ -97,18 +98,18 @@ gradeOf l =
 
 -- `length LENGTH`
 unfoldable pub lengthOf : List ℕ → Line
-lengthOf l = cond (fieldAt l 1 mostPlace .fits) (Length (fieldAt l 1 mostPlace .value)) NotACall
+lengthOf l = cond (fieldAt l 1 mostPlace .fits) (Page (Length (fieldAt l 1 mostPlace .value))) NotACall
 
 -- `poke PLACE BYTE`
 unfoldable pub pokeOf : List ℕ → Line
 pokeOf l =
     let place = fieldAt l 1 mostPlace in
     let byte = fieldAt l 2 most8 in
-    cond (place .fits && byte .fits) (Poke (record { place = place .value; byte = byte .value })) NotACall
+    cond (place .fits && byte .fits) (Page (Poke (record { place = place .value; byte = byte .value }))) NotACall
 
 -- `read FEATURE COUNT LBA`
 unfoldable pub readOf : List ℕ → Line
-readOf l = cond (askedAt l 1 .fits) (Read (askedAt l 1 .request)) NotACall
+readOf l = cond (askedAt l 1 .fits) (Page (Read (askedAt l 1 .request))) NotACall
 
 -- ## What a line says: the call of its name, "with exactly its words", or that there is none
 
@@ -121,16 +122,16 @@ pageCall l =
 
 unfoldable pub resetCall : List ℕ → Line
 resetCall l =
-    cond (named (ascii "comreset") 1 l) (Event Comreset)
-    (cond (named (ascii "hardreset") 1 l) (Event Hardreset)
-    (cond (named (ascii "softreset") 1 l) (Event Softreset)
+    cond (named (ascii "comreset") 1 l) (Bare Comreset)
+    (cond (named (ascii "hardreset") 1 l) (Bare Hardreset)
+    (cond (named (ascii "softreset") 1 l) (Bare Softreset)
     (pageCall l)))
 
 unfoldable pub eventCall : List ℕ → Line
 eventCall l =
-    cond (named (ascii "step") 1 l) (Event Step)
-    (cond (named (ascii "error") 1 l) (Event Error)
-    (cond (named (ascii "cut") 1 l) (Event Cut)
+    cond (named (ascii "step") 1 l) (Bare Step)
+    (cond (named (ascii "error") 1 l) (Bare Error)
+    (cond (named (ascii "cut") 1 l) (Bare Cut)
     (cond (named (ascii "grade") 3 l) (gradeOf l)
     (resetCall l))))
 

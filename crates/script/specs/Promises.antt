@@ -2,7 +2,7 @@
 use Prim.Native.Nat.{ℕ}
 use mathlib.Core.List.{List}
 use mathlib.Core.Path.{_≡_}
-use Rattle.lines.specs.Lines.{nothing, gathered}
+use Rattle.lines.specs.Pieces.{nothing, gathered}
 use Rattle.script.specs.Calls.{lineOf, meaningOf}
 
 -- what was gathered of a line says what the line says, however long it is

@@ -5,10 +5,11 @@ ghost use Prim.Native.Nat.{_≤_};
 ghost use Rattle.script.specs.Calls as spec;
 ghost use Rattle.script.specs.declared.Line.the-variants.{NotACall};
 use crate::Asked;
+use crate::Bare;
 use crate::Command;
-use crate::Event;
 use crate::Grade;
 use crate::Line;
+use crate::PageCall;
 use crate::Poke;
 use crate::State;
 use layout::Request;
@@ -150,7 +151,8 @@ fn length(line: &[u8]) -> Line
     ensures { λ r. ⌜ r ≡ spec.lengthOf (now (line .entry)) ⌝ }
 {
     let given = field_at(line, 1, 0x1_0000);
-    fitting(given.fits, Line::Length(given.value as usize))
+    let size = given.value as usize;
+    fitting(given.fits, Line::Page(PageCall::Length(size)))
 }
 
 fn poke(line: &[u8]) -> Line
@@ -162,7 +164,10 @@ fn poke(line: &[u8]) -> Line
         place: place.value as usize,
         byte: byte.value as u8,
     };
-    fitting(both(place.fits, byte.fits), Line::Poke(given))
+    fitting(
+        both(place.fits, byte.fits),
+        Line::Page(PageCall::Poke(given)),
+    )
 }
 
 fn read(line: &[u8]) -> Line
@@ -170,7 +175,7 @@ fn read(line: &[u8]) -> Line
 {
     let asked = asked(line, 1);
     let request = asked.request;
-    fitting(asked.fits, Line::Read(request))
+    fitting(asked.fits, Line::Page(PageCall::Read(request)))
 }
 
 // ---- A line
@@ -194,13 +199,13 @@ fn reset_call(line: &[u8]) -> Line
     ensures { λ r. ⌜ r ≡ spec.resetCall (now (line .entry)) ⌝ }
 {
     if is_named(line, b"comreset", 1) {
-        return Line::Event(Event::Comreset);
+        return Line::Bare(Bare::Comreset);
     }
     if is_named(line, b"hardreset", 1) {
-        return Line::Event(Event::Hardreset);
+        return Line::Bare(Bare::Hardreset);
     }
     if is_named(line, b"softreset", 1) {
-        return Line::Event(Event::Softreset);
+        return Line::Bare(Bare::Softreset);
     }
     page_call(line)
 }
@@ -209,13 +214,13 @@ fn event_call(line: &[u8]) -> Line
     ensures { λ r. ⌜ r ≡ spec.eventCall (now (line .entry)) ⌝ }
 {
     if is_named(line, b"step", 1) {
-        return Line::Event(Event::Step);
+        return Line::Bare(Bare::Step);
     }
     if is_named(line, b"error", 1) {
-        return Line::Event(Event::Error);
+        return Line::Bare(Bare::Error);
     }
     if is_named(line, b"cut", 1) {
-        return Line::Event(Event::Cut);
+        return Line::Bare(Bare::Cut);
     }
     if is_named(line, b"grade", 3) {
         return grade(line);

@@ -10,15 +10,15 @@ use paper::Security;
 use table::Element;
 
 // A security state that a word names, and whether it names one.
-pub struct State {
-    pub fits: bool,
-    pub security: Security,
+struct State {
+    fits: bool,
+    security: Security,
 }
 
 // FEATURE, COUNT and LBA, and whether each fits its field.
-pub struct Asked {
-    pub fits: bool,
-    pub request: Request,
+struct Asked {
+    fits: bool,
+    request: Request,
 }
 
 // The front call, with the length of the buffer that is lent.
@@ -41,14 +41,21 @@ pub struct Poke {
     pub byte: u8,
 }
 
-// What happens to the device by itself.
-pub enum Event {
+// An event of the device that carries no value.
+pub enum Bare {
     Step,
     Error,
     Cut,
     Comreset,
     Hardreset,
     Softreset,
+}
+
+// A call on the kept page.
+pub enum PageCall {
+    Length(usize),
+    Poke(Poke),
+    Read(Request),
 }
 
 // What a line says.
@@ -58,10 +65,8 @@ pub enum Line {
     Element(Element),
     Make(u16),
     Command(Command),
-    Event(Event),
+    Bare(Bare),
     Grade(Grade),
     Cells,
-    Length(usize),
-    Poke(Poke),
-    Read(Request),
+    Page(PageCall),
 }

@@ -3,12 +3,12 @@ use Prim.Native.Nat.{ℕ, zero, suc, _+_, _-_, _*_, _≤_, _<_, min}
 use mathlib.Core.Bool.{Bool, true, false, cond}
 use mathlib.Core.List.{List, [], _∷_, _++_, map, append-assoc, append-nil}
 use mathlib.Core.Path.{_≡_, refl, sym, ap, _∙_, subst, subst⁻¹}
-use native.Mathlib.Nat.{zero-add, zero-min, min-zero, suc-min-suc, mul-zero, mul-suc, add-comm, mul-add, mul-one, add-zero, add-assoc, not-suc-le-zero, le-of-suc-le-suc}
+use native.Mathlib.Nat.{zero-add, zero-min, min-zero, suc-min-suc, mul-zero, mul-suc, add-comm, mul-add, mul-one, add-zero, add-assoc, sub-self, not-suc-le-zero, le-of-suc-le-suc}
 use native.Mathlib.Numerals.{add-one}
 use native.Mathlib.Omega.{arith}
 use lib.Dec.{leb}
-use lib.ListN.{length, getD, take, drop, set, length-append, length-take, length-drop, drop-of-length-le, take-append-drop, replicate}
-use lib.Seq.{take-suc, drop-cons, getD-take, drop-append-add, drop-drop, take-at, length-take-le, paste, take-all, set-append-seam, append-snoc}
+use lib.ListN.{length, getD, take, drop, set, length-append, length-take, length-drop, length-replicate, drop-of-length-le, take-append-drop, replicate, replicate-append-replicate}
+use lib.Seq.{take-suc, drop-cons, getD-take, drop-append-add, drop-drop, take-at, length-take-le, paste, take-all, set-split, set-append-seam, append-snoc}
 use borrow.Author.Tests.{le-leb, lt-leb, leb-true, leb-false}
 use Rattle.words.specs.Lists.{keep, upTo, Every, flat, fits, stored, sum}
 
@@ -201,6 +201,22 @@ stored-two {A} d a b x y n room is-n is-x is-y =
     let start : n ≡ 0 + length a = omega arith in
     let one : y ≡ stored d 0 (a ++ b) = is-y ∙ rw (is-x, start) (stored-more d 0 a b (omega arith)) in
     one ∙ stored-front d (a ++ b) room
+
+-- a loop that stores zeros from a place on: none yet, and one more
+pub zero-none : (d : List ℕ) (at : ℕ) → d ≡ stored d at (replicate (at - at) 0)
+zero-none d at = sym (rw sub-self (stored-none d at))
+
+pub zero-next : (d x : List ℕ) (at i : ℕ) → at ≤ i → i < length d → length x ≡ length d → x ≡ stored d at (replicate (i - at) 0)
+    → set x i 0 ≡ stored d at (replicate (i + 1 - at) 0)
+zero-next d x at i low less long is-x =
+    let z : List ℕ = replicate (i - at) 0 in
+    let place : i ≡ at + length z = omega (arith, length-replicate {A = ℕ} (i - at) 0) in
+    let one-more : i + 1 - at ≡ i - at + 1 = omega arith in
+    let more : z ++ (0 ∷ []) ≡ replicate (i + 1 - at) 0 = rw one-more (replicate-append-replicate (i - at) 1 0) in
+    let room : at + length (z ++ (0 ∷ [])) ≤ length d = rw (more, length-replicate) (omega arith) in
+    let one : set x i 0 ≡ stored x i (0 ∷ []) =
+    set-split x i 0 (omega arith) ∙ rw (le-leb (i + 1) (length x) (omega arith), add-one i) (sym (append-assoc (take i x) (0 ∷ []) (drop (suc i) x))) in
+    one ∙ (λ j. stored (is-x j) (place j) (0 ∷ [])) ∙ stored-more d at z (0 ∷ []) room ∙ ap (stored d at) more
 
 -- a loop that stores f of each element of es, of w each, side by side from a place on
 pub stored-each : {A B : Type 0} (f : A → List B) (w : ℕ) → ((x : A) → length (f x) ≡ w) → (es : List A) (d x y : List B) (at k : ℕ) (z : A)

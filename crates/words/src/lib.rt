@@ -1,11 +1,11 @@
 // Numbers as bytes, in either order, at widths 2, 4 and 8, and bytes at a place. Any place will do: past the end a byte is 0, and bytes
-// that do not fit are not stored. And the smaller of two numbers.
+// that do not fit are not stored. And the smaller of two numbers, and a test's bit.
 ghost use mathlib.Core.Path.{_≡_};
 ghost use Prim.Native.Nat.{_+_, _≤_, min};
-ghost use lib.ListN.{length, getD, drop};
+ghost use lib.ListN.{length, getD, take, drop};
 ghost use lib.Seq.{paste};
 ghost use Rattle.words.specs.Bytes.{bytesOf, numberAt, joined};
-ghost use Rattle.words.specs.Lists.{fits, stored};
+ghost use Rattle.words.specs.Lists.{fits, stored, one};
 
 // Which byte of a number comes first: the lowest (ATA) or the highest (SCSI).
 pub enum Order {
@@ -85,6 +85,19 @@ pub fn smaller(a: usize, b: usize) -> usize
     ensures { λ r. ⌜ r ≡ min a b ⌝ }
 {
     if a < b { a } else { b }
+}
+
+pub fn bit(b: bool) -> u8
+    ensures { λ r. ⌜ r ≡ one b ⌝ }
+{
+    if b { 1 } else { 0 }
+}
+
+// The first n bytes, or all if these are fewer.
+pub fn head(s: &[u8], n: usize) -> &[u8]
+    ensures { λ r. ⌜ now r ≡ take n (now (s .entry)) ⌝ }
+{
+    if n < s.len() { &s[0..n] } else { s }
 }
 
 // What stands from a place on, nothing past the end.

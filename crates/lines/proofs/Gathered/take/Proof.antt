@@ -3,7 +3,7 @@ use Prim.Native.Nat.{_-_}
 use mathlib.Core.Path.{_≡_, refl}
 use lib.ListN.{length, drop}
 use borrow.Author.Needs.{needs}
-use Rattle.lines.specs.Lines.{takenFrom}
+use Rattle.lines.specs.Pieces.{takenFrom}
 use Rattle.lines.proofs.Gathered.take.Statement.{statement}
 use Rattle.lines.proofs.Gathered.take.Tie as tie
 use Rattle.lines.proofs.Gathering.{taken-newline, taken-more, taken-end}

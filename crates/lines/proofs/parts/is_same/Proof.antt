@@ -4,7 +4,7 @@ use mathlib.Core.Path.{_≡_, refl}
 use native.Mathlib.Omega.{arith}
 use lib.ListN.{length, drop}
 use borrow.Author.Needs.{needs}
-use Rattle.lines.specs.Words.{same}
+use Rattle.lines.specs.Parts.{same}
 use Rattle.lines.proofs.Words.{same-not-long, same-next, same-stop, same-end}
 use Rattle.lines.proofs.parts.is_same.Statement.{statement}
 use Rattle.lines.proofs.parts.is_same.Tie as tie

@@ -5,7 +5,7 @@ use native.Mathlib.Omega.{arith}
 use lib.ListN.{length, drop}
 use borrow.Author.Needs.{needs}
 use borrow.Author.Tests.{not-true, not-false}
-use Rattle.lines.specs.Words.{dropWhile, spaceOr}
+use Rattle.lines.specs.Parts.{dropWhile, spaceOr}
 use Rattle.lines.proofs.Words.{skip-next, skip-stop, skip-end}
 use Rattle.lines.proofs.parts.skip.Statement.{statement}
 use Rattle.lines.proofs.parts.skip.Tie as tie

@@ -4,7 +4,7 @@ use mathlib.Core.Path.{_≡_}
 use native.Mathlib.Omega.{arith}
 use lib.ListN.{length, drop}
 use borrow.Author.Needs.{needs}
-use Rattle.lines.specs.Words.{fromWord}
+use Rattle.lines.specs.Parts.{fromWord}
 use Rattle.lines.proofs.Words.{first-word, next-word}
 use Rattle.lines.proofs.parts.start_of.Statement.{statement}
 use Rattle.lines.proofs.parts.start_of.Tie as tie

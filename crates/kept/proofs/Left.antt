@@ -1,0 +1,27 @@
+-- Laws of what a call leaves of the kept page: one for each way out.
+use Prim.Native.Nat.{ℕ, _≤_, _<_}
+use mathlib.Core.List.{List, [], _∷_}
+use mathlib.Core.Path.{_≡_, sym, _∙_}
+use borrow.Author.Tests.{le-leb, lt-leb}
+use Rattle.script.specs.declared.PageCall.{PageCall}
+use Rattle.script.specs.declared.Poke.{Poke}
+use Rattle.words.specs.Lists.{stored}
+use Rattle.kept.specs.Kept.{lengthened, poked, keptAfter, pageAfter}
+
+pub length-as-given : (kept n m : ℕ) (page r : List ℕ) → n ≡ m → r ≡ lengthened kept n page → r ≡ lengthened kept m page
+length-as-given kept n m page r is-n is-r = is-r ∙ rw is-n
+
+module _ (kept : ℕ) (p : Poke) (page : List ℕ) where
+  pub poke-outside : kept ≤ p .place → page ≡ poked kept p page
+  poke-outside h = sym (rw (le-leb kept (p .place) h))
+
+  pub poke-inside : p .place < kept → (r : List ℕ) → r ≡ stored page (p .place) (p .byte ∷ []) → r ≡ poked kept p page
+  poke-inside h r is-r = is-r ∙ sym (rw (lt-leb kept (p .place) h))
+
+-- a call, by what it was found to be
+module _ (call found : PageCall) (is-found : call ≡ found) (kept : ℕ) (page : List ℕ) where
+  pub kept-of : (r : ℕ) → r ≡ keptAfter found kept page → r ≡ keptAfter call kept page
+  kept-of r is-r = is-r ∙ sym (rw is-found)
+
+  pub page-of : (r : List ℕ) → r ≡ pageAfter found kept page → r ≡ pageAfter call kept page
+  page-of r is-r = is-r ∙ sym (rw is-found)

@@ -1,0 +1,30 @@
+-- docs/BENCH.md, "The kept page (empty at first)": the first `kept` bytes of the page that is lent, and what a call on it leaves.
+use Prim.Native.Nat.{ℕ, _-_, min}
+use mathlib.Core.Bool.{cond}
+use mathlib.Core.List.{List, [], _∷_}
+use lib.Dec.{leb}
+use lib.ListN.{length, replicate}
+use Rattle.script.specs.declared.PageCall.the-variants as calls
+use Rattle.script.specs.declared.PageCall.{PageCall}
+use Rattle.script.specs.declared.Poke.{Poke}
+use Rattle.words.specs.Lists.{stored}
+
+-- "`length LENGTH` cuts it or lengthens it with zeros"
+abbrev pub lengthened : ℕ → ℕ → List ℕ → List ℕ
+lengthened kept n page = stored page kept (replicate (n - kept) 0)
+
+-- "`poke PLACE BYTE` changes a byte .. or `outside` past its end"
+abbrev pub poked : ℕ → Poke → List ℕ → List ℕ
+poked kept p page = cond (leb kept (p .place)) page (stored page (p .place) (p .byte ∷ []))
+
+-- how long it then is: LENGTH, as far as there is room
+abbrev pub keptAfter : PageCall → ℕ → List ℕ → ℕ
+keptAfter (calls.Length n) kept page = min n (length page)
+keptAfter (calls.Poke p) kept page = kept
+keptAfter (calls.Read q) kept page = kept
+
+-- what then stands there; "`read FEATURE COUNT LBA` runs the reader on it" and changes nothing
+abbrev pub pageAfter : PageCall → ℕ → List ℕ → List ℕ
+pageAfter (calls.Length n) kept page = lengthened kept (min n (length page)) page
+pageAfter (calls.Poke p) kept page = poked kept p page
+pageAfter (calls.Read q) kept page = page
