@@ -2,6 +2,8 @@
 ghost use Prim.Native.Nat.{_*_, _≤_};
 ghost use lib.ListN.{length};
 use cells::Cells;
+use cells::Note;
+use cells::Position;
 use device::Device;
 use libc::STDOUT_FILENO;
 use paper::Answer;

@@ -1,15 +1,13 @@
 -- The list, the descriptor and the page: a law for each way out, and the page put together from what its parts store.
-use Prim.Native.Nat.{ℕ, suc, _+_, _-_, _*_, _^_, _≤_, _<_, min}
+use Prim.Native.Nat.{ℕ, _+_, _-_, _*_, _^_, _≤_, _<_, min}
 use mathlib.Core.Bool.{Bool, true, false, cond}
-use mathlib.Core.List.{List, [], _∷_, _++_, map, append-assoc}
+use mathlib.Core.List.{List, _++_, map}
 use mathlib.Core.Path.{_≡_, refl, sym, ap, _∙_}
-use native.Mathlib.Nat.{sub-self}
-use native.Mathlib.Numerals.{add-one}
 use native.Mathlib.Omega.{arith}
 use lib.Dec.{ltb}
-use lib.ListN.{length, take, drop, getD, set, replicate, length-append, length-replicate, replicate-append-replicate, List·getD-map}
-use lib.Seq.{length-take-le, take-all, take-length, set-split}
-use borrow.Author.Tests.{lt-ltb, le-ltb, ltb-false, le-leb, eq-eqb, ne-eqb}
+use lib.ListN.{length, take, drop, getD, set, replicate, length-append, length-replicate, List·getD-map}
+use lib.Seq.{length-take-le, take-all, take-length}
+use borrow.Author.Tests.{lt-ltb, le-ltb, ltb-false, eq-eqb, ne-eqb}
 use mir.Val.{boolByte}
 use Rattle.device.specs.Commands.{statusNumber}
 use Rattle.device.specs.Record.{removedNumber}
@@ -32,7 +30,7 @@ use Rattle.paper.specs.declared.ElementId.{ElementId}
 use Rattle.paper.specs.declared.Security.{Security}
 use Rattle.table.specs.Elements.{live, blankPart, identifiers, size, identifierAt}
 use Rattle.table.specs.declared.Part.{Part}
-use Rattle.words.proofs.Lists.{take-min, map-map, map-upTo, map-places, stored-front, stored-none, stored-more, stored-each, length-flat}
+use Rattle.words.proofs.Lists.{take-min, map-map, map-upTo, map-places, stored-front, stored-more, stored-each, length-flat}
 use Rattle.words.specs.Lists.{upTo, flat, stored}
 use Rattle.words.specs.declared.Order.the-variants.{Little}
 use Rattle.status.specs.Page.{capacityOf, shownOf, shownAt, shownAll, asks, listOf, busyOf, headed, headerOf, pageOf, shown}
@@ -96,22 +94,6 @@ put-there d out b e at is-out is-b = is-out ∙ ap (stored d at) is-b
 
 pub put-shown : (d out b : List ℕ) (at : ℕ) (x y : Descriptor) → out ≡ stored d at b → b ≡ bytesOf x → x ≡ y → out ≡ stored d at (bytesOf y)
 put-shown d out b at x y is-out is-b is-x = is-out ∙ ap (stored d at) (is-b ∙ ap bytesOf is-x)
-
--- zeros from a place on: none yet, and one more
-pub zero-none : (d : List ℕ) (end : ℕ) → d ≡ stored d end (replicate (end - end) 0)
-zero-none d end = sym (rw sub-self (stored-none d end))
-
-pub zero-next : (d x : List ℕ) (end i : ℕ) → end ≤ i → i < length d → length x ≡ length d → x ≡ stored d end (replicate (i - end) 0)
-    → set x i 0 ≡ stored d end (replicate (i + 1 - end) 0)
-zero-next d x end i low less long is-x =
-    let z : List ℕ = replicate (i - end) 0 in
-    let place : i ≡ end + length z = omega (arith, length-replicate {A = ℕ} (i - end) 0) in
-    let one-more : i + 1 - end ≡ i - end + 1 = omega arith in
-    let more : z ++ (0 ∷ []) ≡ replicate (i + 1 - end) 0 = rw one-more (replicate-append-replicate (i - end) 1 0) in
-    let room : end + length (z ++ (0 ∷ [])) ≤ length d = rw (more, length-replicate) (omega arith) in
-    let one : set x i 0 ≡ stored x i (0 ∷ []) =
-    set-split x i 0 (omega arith) ∙ rw (le-leb (i + 1) (length x) (omega arith), add-one i) (sym (append-assoc (take i x) (0 ∷ []) (drop (suc i) x))) in
-    one ∙ (λ j. stored (is-x j) (place j) (0 ∷ [])) ∙ stored-more d end z (0 ∷ []) room ∙ ap (stored d end) more
 
 -- ## The header
 

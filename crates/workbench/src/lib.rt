@@ -2,6 +2,9 @@
 ghost use mathlib.Core.Path.{_≡_};
 ghost use Rattle.workbench.specs.Empty as spec;
 use cells::Cells;
+use cells::Mark;
+use cells::Note;
+use cells::Position;
 use device::Device;
 use device::Stepped;
 use paper::Lba;

@@ -5,7 +5,7 @@ use native.Mathlib.Omega.{arith}
 use lib.ListN.{length, replicate, length-set}
 use borrow.Author.Needs.{needs}
 use Rattle.words.specs.Lists.{stored}
-use Rattle.status.proofs.Page.{zero-none, zero-next}
+use Rattle.words.proofs.Lists.{zero-none, zero-next}
 use Rattle.status.proofs.put_zeros.Statement.{statement}
 use Rattle.status.proofs.put_zeros.Tie as tie
 
