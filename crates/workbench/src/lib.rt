@@ -169,21 +169,28 @@ impl Bench {
         self.with_kept(kept)
     }
 
-    // Makes the call of a line; one that says none leaves the bench as it is.
-    pub fn call(self, line: Line, page: &mut [u8]) -> Bench {
+    // Makes a call that needs no page; any other line leaves the bench as it is.
+    fn on_device(self, line: Line) -> Bench {
         let d = self.device;
         match line {
             Line::Element(e) => self.offer(e),
             Line::Make(limit) => self.make(limit),
-            Line::Command(c) => self.command(c, page),
             Line::Bare(b) => self.after(bare(d, b)),
             Line::Grade(g) => self.after(graded(d, g)),
             Line::Cells => {
                 print_cells(d);
                 self
             }
-            Line::Page(c) => self.on_page(c, page),
             _ => self,
+        }
+    }
+
+    // Makes the call of a line; one that says none leaves the bench as it is.
+    pub fn call(self, line: Line, page: &mut [u8]) -> Bench {
+        match line {
+            Line::Command(c) => self.command(c, page),
+            Line::Page(c) => self.on_page(c, page),
+            _ => self.on_device(line),
         }
     }
 }
