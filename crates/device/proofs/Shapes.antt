@@ -17,7 +17,7 @@ use Rattle.removal.specs.Remove.{identifierOf, limitMet, tooSmall, tooHigh, rem
 use Rattle.steps.specs.Steps.{marking, nextOf, ruleStep, ruleStop, gradeSeen, ruleGrade}
 use Rattle.paper.specs.declared.Command.the-variants.{Remove}
 use Rattle.cells.specs.declared.Cells.{Cells}
-use Rattle.device.specs.Record.{underWay, removedNumber, says, stores, see, storeAt}
+use Rattle.device.specs.Record.{underWay, removedNumber, says, see, storeAt}
 use Rattle.device.specs.declared.Device.{Device}
 use Rattle.cells.specs.declared.Mark.the-variants.{Clear}
 use Rattle.cells.specs.declared.Note.the-variants.{Empty, Full}
@@ -40,7 +40,7 @@ pub data Shape (d : Device) : Kind → Ruled → Type 0 where
   -- a number, and nothing changes
   quiet : {k : Kind} (n : ℕ) → Shape d k (says n d)
   -- a command for an element at FFh
-  clears : Shape d still (stores (FailedTo Clear) d)
+  clears : Shape d still (goes (FailedTo Clear) (d .position))
   -- an accepted removal
   notes : (id : ElementId) (lba : Lba) → d .cells .note ≡ Empty → Standing d id
       → Shape d still (goes (Noted (removalOf (d .cells .native) id lba (see d id .part .blocks))) Work1)
@@ -51,7 +51,7 @@ pub data Shape (d : Device) : Kind → Ruled → Type 0 where
 
 pub data Grading (d : Device) (id : ElementId) (h : ℕ) : Ruled → Type 0 where
   refuses : Grading d id h (says 11 d)
-  grades : Standing d id → gradedHealth h ≡ true → Grading d id h (stores (Graded (see d id .place) h) d)
+  grades : Standing d id → gradedHealth h ≡ true → Grading d id h (goes (Graded (see d id .place) h) (d .position))
 
 abbrev pub Shaped : Device → Event → Ruled → Type 0
 Shaped d (command s x room) r = Shape d still r

@@ -2,7 +2,7 @@
 use Prim.Native.Nat.{ℕ}
 use mathlib.Core.Bool.{Bool}
 use Rattle.cells.specs.Cells.{make, isFull, healthIn, removedIn}
-use Rattle.cells.specs.Rulings.{Ruled, quiet, goes}
+use Rattle.cells.specs.Rulings.{Ruled, quiet}
 use Rattle.cells.specs.Sights.{seeIn}
 use Rattle.cells.specs.declared.Position.{Position}
 use Rattle.cells.specs.declared.Removal.{Removal}
@@ -42,10 +42,6 @@ woundUp d w = woundTo (see d (w .element)) w
 -- a number at the device's own position: nothing changes
 abbrev pub says : ℕ → Device → Ruled
 says n d = quiet n (d .position)
-
--- 0 with one store, the position kept
-abbrev pub stores : Store → Device → Ruled
-stores s d = goes s (d .position)
 
 -- the store is made in the cells, the position taken, and the table stays as built. The position is no cell: "Only the position in the step
 -- list is lost with power"
