@@ -1,6 +1,10 @@
 // The bench's front call, over a lent buffer. No contract can say what it prints.
 ghost use mathlib.Core.Path.{_≡_};
+ghost use Prim.Native.Nat.{min};
 ghost use lib.ListN.{length};
+ghost use Rattle.device.specs.Machine.{told};
+ghost use Rattle.paper.specs.Told.{said};
+ghost use Rattle.front.specs.Front.{eventOf, deviceAfter};
 use device::Device;
 use device::Stepped;
 use paper::Answer;
@@ -34,10 +38,12 @@ fn answer_size(c: Command, answer: Answer) -> usize {
 }
 
 // The front call by value.
-fn commanded(d: Device, c: Command, length: usize) -> Stepped {
+fn commanded(d: Device, c: Command, room: usize) -> Stepped
+    ensures { λ r. ⌜ said (r .answer) (r .device) ≡ told d (eventOf c room) ⌝ }
+{
     let security = c.security;
     let lba = c.lba;
-    commands::command(d, security, c.code, c.feature, c.count, lba, length)
+    commands::command(d, security, c.code, c.feature, c.count, lba, room)
 }
 
 // The page of 12h.
@@ -66,7 +72,9 @@ fn print_lent(answer: Answer, lent: &[u8], n: usize) {
     print_touched(lent, n);
 }
 
-fn command_over(d: Device, c: Command, kept: usize, lent: &mut [u8], page: &mut [u8]) -> Left {
+fn command_over(d: Device, c: Command, kept: usize, lent: &mut [u8], page: &mut [u8]) -> Left
+    ensures { λ r. ⌜ r .device ≡ deviceAfter d c (length (now (lent .entry))) ⌝ }
+{
     let s = commanded(d, c, lent.len());
     show(d, c, lent);
     let answer = s.answer;
@@ -79,7 +87,9 @@ fn command_over(d: Device, c: Command, kept: usize, lent: &mut [u8], page: &mut 
     }
 }
 
-pub fn command(d: Device, c: Command, kept: usize, page: &mut [u8]) -> Left {
+pub fn command(d: Device, c: Command, kept: usize, page: &mut [u8]) -> Left
+    ensures { λ r. ⌜ r .device ≡ deviceAfter d c (min (c .length) 65536) ⌝ }
+{
     let mut lent = unanswered();
     let n = words::smaller(c.length, lent.len());
     command_over(d, c, kept, &mut lent[0..n], page)
