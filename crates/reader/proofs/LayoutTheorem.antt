@@ -14,16 +14,17 @@ use Rattle.layout.specs.Requests.{filterOf, reportTypeOf, pagesOf, startOf, ref
 use Rattle.layout.specs.declared.Descriptor.{Descriptor}
 use Rattle.layout.specs.declared.Header.{Header}
 use Rattle.layout.specs.declared.Request.{Request}
+use Rattle.offences.specs.Checks.{baseOf, descriptorAt, lastBefore, inTurn, earned, checkOf, offenceAt}
+use Rattle.offences.specs.First.{unless, _orElse_, firstBelow}
+use Rattle.offences.specs.declared.Offence.the-variants.{Clean, At}
+use Rattle.offences.specs.declared.Offence.{Offence}
 use Rattle.paper.specs.Elements.{storageType, removedHealth, slow, gradedHealth}
 use Rattle.paper.specs.Told.{Told, tells}
 use Rattle.words.specs.declared.Order.{Order}
-use Rattle.reader.specs.Checks.{baseOf, descriptorAt, lastBefore, inTurn, earned, checkOf, offenceAt, paddingAt, pageOffence}
-use Rattle.reader.specs.First.{unless, _orElse_, firstBelow}
 use Rattle.reader.specs.Judgement.{Values, header, place, answerOf, readOf}
 use Rattle.reader.specs.Layout.{Rule, rule, below, Asked, InFilter, descriptorRules, rulesAt, paddingRules, pageRules}
+use Rattle.reader.specs.Page.{paddingAt, pageOffence}
 use Rattle.reader.specs.Promises.{Takes-exactly, Refuses-exactly}
-use Rattle.reader.specs.declared.Offence.the-variants.{Clean, At}
-use Rattle.reader.specs.declared.Offence.{Offence}
 use Rattle.reader.proofs.Rules.{Decides, one, join, next, all-below, clean-if, at-if}
 
 -- ## Each test and its rule

@@ -7,10 +7,10 @@ use mathlib.Core.Path.{_≡_, refl, sym, ap, subst, _∙_}
 use native.Mathlib.Omega.{arith}
 use lib.Dec.{eqb}
 use borrow.Author.Tests.{eqb-true, eqb-false}
-use Rattle.reader.specs.First.{unless, _orElse_, firstBelow}
+use Rattle.offences.specs.First.{unless, _orElse_, firstBelow}
+use Rattle.offences.specs.declared.Offence.the-variants.{Clean, At}
+use Rattle.offences.specs.declared.Offence.{Offence}
 use Rattle.reader.specs.Layout.{Rule, Each, FirstBroken, below}
-use Rattle.reader.specs.declared.Offence.the-variants.{Clean, At}
-use Rattle.reader.specs.declared.Offence.{Offence}
 
 abbrev pub Decides : Offence → List Rule → Type 0
 Decides Clean rs = Each rs

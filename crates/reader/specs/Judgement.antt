@@ -6,13 +6,14 @@ use lib.Dec.{ltb}
 use Rattle.layout.specs.Bytes.{headerIn}
 use Rattle.layout.specs.declared.Header.{Header}
 use Rattle.layout.specs.declared.Request.{Request}
+use Rattle.offences.specs.Checks.{descriptorAt}
+use Rattle.offences.specs.declared.Offence.the-variants.{Clean, At}
+use Rattle.offences.specs.declared.Offence.{Offence}
 use Rattle.paper.specs.Told.{Told, tells}
 use Rattle.words.specs.declared.Order.{Order}
-use Rattle.reader.specs.Checks.{descriptorAt, pageOffence}
+use Rattle.reader.specs.Page.{pageOffence}
 use Rattle.reader.specs.declared.Judgement.the-variants.{Accepted, Refused}
 use Rattle.reader.specs.declared.Judgement.{Judgement}
-use Rattle.reader.specs.declared.Offence.the-variants.{Clean, At}
-use Rattle.reader.specs.declared.Offence.{Offence}
 use Rattle.reader.specs.declared.Slot.the-variants.{Outside, Holds}
 use Rattle.reader.specs.declared.Slot.{Slot}
 

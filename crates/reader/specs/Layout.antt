@@ -9,8 +9,8 @@ use Rattle.layout.specs.Bytes.{headerIn, returnedOf}
 use Rattle.layout.specs.Requests.{filterOf, reportTypeOf, pagesOf, startOf}
 use Rattle.layout.specs.declared.Descriptor.{Descriptor}
 use Rattle.layout.specs.declared.Request.{Request}
+use Rattle.offences.specs.Checks.{baseOf, descriptorAt, lastBefore}
 use Rattle.words.specs.declared.Order.{Order}
-use Rattle.reader.specs.Checks.{baseOf, descriptorAt, lastBefore}
 
 pub record Rule : Type 1 where
   pub place : ℕ

@@ -1,7 +1,6 @@
 -- The checks of a page and what the reader says.
 
-pub mod Checks
-pub mod First
 pub mod Judgement
 pub mod Layout
+pub mod Page
 pub mod Promises

@@ -1,6 +1,6 @@
 -- `reader::answer`.
 use borrow.Author.Needs.{needs}
-use Rattle.reader.proofs.Checks.{heard-clean, heard-at}
+use Rattle.reader.proofs.Page.{heard-clean, heard-at}
 use Rattle.reader.proofs.answer.Statement.{statement}
 use Rattle.reader.proofs.answer.Tie as tie
 

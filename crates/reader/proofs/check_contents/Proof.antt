@@ -1,6 +1,6 @@
 -- `reader::check_contents`: a law for each way out.
 use borrow.Author.Needs.{needs}
-use Rattle.reader.proofs.Checks.{contents-listed, contents-padded}
+use Rattle.reader.proofs.Page.{contents-listed, contents-padded}
 use Rattle.reader.proofs.check_contents.Statement.{statement}
 use Rattle.reader.proofs.check_contents.Tie as tie
 

@@ -6,10 +6,10 @@ use lib.ListN.{length, getD}
 use borrow.Author.Needs.{needs}
 use borrow.Author.Tests.{eq-eqb, ne-eqb}
 use denote.Ref.{now}
-use Rattle.reader.specs.Checks.{paddingAt}
-use Rattle.reader.specs.First.{firstBelow}
-use Rattle.reader.specs.declared.Offence.the-variants.{Clean, At}
-use Rattle.reader.proofs.First.{first-more, first-found, first-done}
+use Rattle.offences.proofs.First.{first-more, first-found, first-done}
+use Rattle.offences.specs.First.{firstBelow}
+use Rattle.offences.specs.declared.Offence.the-variants.{Clean, At}
+use Rattle.reader.specs.Page.{paddingAt}
 use Rattle.reader.proofs.check_padding.Statement.{statement}
 use Rattle.reader.proofs.check_padding.Tie as tie
 

@@ -1,6 +1,6 @@
 -- `reader::descriptor`: a law for each way out.
 use borrow.Author.Needs.{needs}
-use Rattle.reader.proofs.Checks.{slot-outside, slot-holds}
+use Rattle.reader.proofs.Page.{slot-outside, slot-holds}
 use Rattle.reader.proofs.descriptor.Statement.{statement}
 use Rattle.reader.proofs.descriptor.Tie as tie
 

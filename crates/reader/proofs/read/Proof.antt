@@ -1,6 +1,6 @@
 -- `reader::read`: a law for each way out.
 use borrow.Author.Needs.{needs}
-use Rattle.reader.proofs.Checks.{read-refused, read-long, some-pages, read-returned, list-fits, read-contents}
+use Rattle.reader.proofs.Page.{read-refused, read-long, some-pages, read-returned, list-fits, read-contents}
 use Rattle.reader.proofs.read.Statement.{statement}
 use Rattle.reader.proofs.read.Tie as tie
 

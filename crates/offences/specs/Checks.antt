@@ -1,19 +1,17 @@
 -- Document 01, "The reader": "Checks, first offence reported, descriptor by descriptor, its place counted from the page's first byte".
-use Prim.Native.Nat.{ℕ, zero, suc, _+_, _-_, _*_}
+use Prim.Native.Nat.{ℕ, zero, suc, _+_, _*_}
 use mathlib.Core.Bool.{Bool, not, _&&_, _||_}
 use mathlib.Core.List.{List}
 use lib.Dec.{eqb, ltb}
-use lib.ListN.{length, drop, getD}
-use Rattle.layout.specs.Bytes.{headerIn, descriptorIn, returnedOf}
-use Rattle.layout.specs.Requests.{filterOf, reportTypeOf, pagesOf, refused, takesId, takesType, takesHealth}
+use lib.ListN.{drop}
+use Rattle.layout.specs.Bytes.{descriptorIn}
+use Rattle.layout.specs.Requests.{filterOf, reportTypeOf, takesId, takesType, takesHealth}
 use Rattle.layout.specs.declared.Descriptor.{Descriptor}
 use Rattle.layout.specs.declared.Request.{Request}
 use Rattle.paper.specs.Elements.{removedHealth}
 use Rattle.words.specs.declared.Order.{Order}
-use Rattle.reader.specs.First.{unless, _orElse_, firstBelow}
-use Rattle.reader.specs.declared.Offence.{Offence}
-
--- ## A descriptor
+use Rattle.offences.specs.First.{unless, _orElse_}
+use Rattle.offences.specs.declared.Offence.{Offence}
 
 -- where descriptor k starts
 abbrev pub baseOf : ℕ → ℕ
@@ -45,21 +43,3 @@ checkOf q last base d =
 
 abbrev pub offenceAt : Order → List ℕ → Request → ℕ → Offence
 offenceAt o s q k = checkOf q (lastBefore o s k) (baseOf k) (descriptorAt o s k)
-
--- ## A page
-
--- "then the first non-zero padding byte"
-abbrev pub paddingAt : List ℕ → ℕ → ℕ → Offence
-paddingAt s from i = unless (eqb (getD s (from + i) 0) 0) (from + i)
-
--- the descriptors, and the padding after them
-abbrev pub contentsOf : Order → List ℕ → Request → ℕ → Offence
-contentsOf o s q count = firstBelow count (offenceAt o s q) orElse firstBelow (length s - baseOf count) (paddingAt s (baseOf count))
-
--- "A request that would get 4 gets 9 at place 0"; "length not 512p .. (place 0); returned not the smaller of N and 16p - 1 (4); then each descriptor"
-abbrev pub pageOffence : Order → List ℕ → Request → Offence
-pageOffence o s q =
-    unless (not (refused q)) 0 orElse
-    (unless (eqb (length s) (512 * pagesOf q)) 0 orElse
-    (unless (eqb (headerIn o s .returned) (returnedOf (headerIn o s .number) (pagesOf q))) 4 orElse
-    contentsOf o s q (headerIn o s .returned)))

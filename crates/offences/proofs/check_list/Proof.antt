@@ -1,16 +1,16 @@
--- `reader::check_list`. The invariant: the first k descriptors are clean, and the last identifier is the one before descriptor k.
+-- `offences::check_list`. The invariant: the first k descriptors are clean, and the last identifier is the one before descriptor k.
 use Prim.Native.Nat.{_≤_, _-_}
 use mathlib.Core.Path.{_≡_, refl, sym, _∙_}
 use native.Mathlib.Omega.{arith}
 use borrow.Author.Needs.{needs}
 use denote.Ref.{now}
-use Rattle.reader.specs.Checks.{lastBefore, offenceAt}
-use Rattle.reader.specs.First.{firstBelow}
-use Rattle.reader.specs.declared.Offence.the-variants.{Clean, At}
-use Rattle.reader.proofs.Checks.{judged-here, last-next}
-use Rattle.reader.proofs.First.{first-more, first-found, first-done}
-use Rattle.reader.proofs.check_list.Statement.{statement}
-use Rattle.reader.proofs.check_list.Tie as tie
+use Rattle.offences.specs.Checks.{lastBefore, offenceAt}
+use Rattle.offences.specs.First.{firstBelow}
+use Rattle.offences.specs.declared.Offence.the-variants.{Clean, At}
+use Rattle.offences.proofs.Checks.{judged-here, last-next}
+use Rattle.offences.proofs.First.{first-more, first-found, first-done}
+use Rattle.offences.proofs.check_list.Statement.{statement}
+use Rattle.offences.proofs.check_list.Tie as tie
 
 abbrev Inv-loop : tie.InvT-loop
 Inv-loop page request count o last₀ k₀ last k = (k ≤ count) × (last .0 ≡ lastBefore o page k) × (firstBelow k (offenceAt o page request) ≡ Clean)

@@ -1,8 +1,8 @@
 -- The first of several checks that offends.
 use Prim.Native.Nat.{ℕ, zero, suc}
 use mathlib.Core.Bool.{Bool, true, false}
-use Rattle.reader.specs.declared.Offence.the-variants.{Clean, At}
-use Rattle.reader.specs.declared.Offence.{Offence}
+use Rattle.offences.specs.declared.Offence.the-variants.{Clean, At}
+use Rattle.offences.specs.declared.Offence.{Offence}
 
 -- an offence at the place unless the test holds
 abbrev pub unless : Bool → ℕ → Offence

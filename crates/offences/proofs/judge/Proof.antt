@@ -1,9 +1,9 @@
--- `reader::judge`: a law for each way out.
+-- `offences::judge`: a law for each way out.
 use borrow.Author.Needs.{needs}
 use borrow.Author.Tests.{not-true, not-false}
-use Rattle.reader.proofs.Checks.{judged-turn, judged-flag, judged-type, judged-health, judged-clean}
-use Rattle.reader.proofs.judge.Statement.{statement}
-use Rattle.reader.proofs.judge.Tie as tie
+use Rattle.offences.proofs.Checks.{judged-turn, judged-flag, judged-type, judged-health, judged-clean}
+use Rattle.offences.proofs.judge.Statement.{statement}
+use Rattle.offences.proofs.judge.Tie as tie
 
 pub judge-spec : {M : Type 1} → statement M
 judge-spec =

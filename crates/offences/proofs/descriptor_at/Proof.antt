@@ -1,8 +1,8 @@
--- `reader::descriptor_at`.
+-- `offences::descriptor_at`.
 use borrow.Author.Needs.{needs}
-use Rattle.reader.proofs.Checks.{descriptor-read}
-use Rattle.reader.proofs.descriptor_at.Statement.{statement}
-use Rattle.reader.proofs.descriptor_at.Tie as tie
+use Rattle.offences.proofs.Checks.{descriptor-read}
+use Rattle.offences.proofs.descriptor_at.Statement.{statement}
+use Rattle.offences.proofs.descriptor_at.Tie as tie
 
 pub descriptor-at-spec : {M : Type 1} → statement M
 descriptor-at-spec =

@@ -1,9 +1,9 @@
--- `reader::is_in_turn`: a law for each way out.
+-- `offences::is_in_turn`: a law for each way out.
 use borrow.Author.Needs.{needs}
 use borrow.Author.Tests.{not-true, not-false}
-use Rattle.reader.proofs.Checks.{turn-none, turn-below, turn-after}
-use Rattle.reader.proofs.is_in_turn.Statement.{statement}
-use Rattle.reader.proofs.is_in_turn.Tie as tie
+use Rattle.offences.proofs.Checks.{turn-none, turn-below, turn-after}
+use Rattle.offences.proofs.is_in_turn.Statement.{statement}
+use Rattle.offences.proofs.is_in_turn.Tie as tie
 
 pub is-in-turn-spec : {M : Type 1} → statement M
 is-in-turn-spec =

@@ -4,9 +4,9 @@ use mathlib.Core.Logic.{⊎-elim}
 use mathlib.Core.Path.{_≡_, subst}
 use native.Mathlib.Nat.{le-antisymm, le-of-suc-le-suc, not-suc-le-zero, eq-or-lt-of-le}
 use native.Mathlib.Numerals.{add-one}
-use Rattle.reader.specs.First.{firstBelow}
-use Rattle.reader.specs.declared.Offence.the-variants.{Clean, At}
-use Rattle.reader.specs.declared.Offence.{Offence}
+use Rattle.offences.specs.First.{firstBelow}
+use Rattle.offences.specs.declared.Offence.the-variants.{Clean, At}
+use Rattle.offences.specs.declared.Offence.{Offence}
 
 module _ (f : ℕ → Offence) where
   -- one clean check more

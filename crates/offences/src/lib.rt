@@ -1,0 +1,85 @@
+// The offences of a status page's list, in either byte order: what the reader looks at of each descriptor, in document 01's order.
+ghost use mathlib.Core.Path.{_≡_};
+ghost use Prim.Native.Nat.{_+_, _^_, _<_};
+ghost use Rattle.offences.specs.Checks.{descriptorAt, inTurn, earned, checkOf, offenceAt};
+ghost use Rattle.offences.specs.First.{firstBelow};
+use layout::Descriptor;
+use layout::Request;
+use paper::ElementId;
+use words::Order;
+
+// What a check finds: nothing, or the place of an offence.
+pub enum Offence {
+    Clean,
+    At(usize),
+}
+
+// Whether an identifier may follow the last one, 0 being none.
+fn is_in_turn(request: Request, last: ElementId, id: ElementId) -> bool
+    ensures { λ r. ⌜ r ≡ inTurn request (last .0) (id .0) ⌝ }
+{
+    if id.0 == 0 {
+        return false;
+    }
+    if !request.takes_id(id) {
+        return false;
+    }
+    last.0 < id.0
+}
+
+// Whether the restoration bit is clear or the element is removed.
+fn is_earned(d: Descriptor) -> bool
+    ensures { λ r. ⌜ r ≡ earned d ⌝ }
+{
+    if !d.restorable {
+        return true;
+    }
+    d.health == 0xFF
+}
+
+// The first offence of a descriptor that starts at `base`, after the last identifier.
+fn judge(d: Descriptor, request: Request, last: ElementId, base: usize) -> Offence
+    requires { ⌜ base + 32 < 2 ^ 64 ⌝ }
+    ensures { λ r. ⌜ r ≡ checkOf request (last .0) base d ⌝ }
+{
+    let id = d.id;
+    if !is_in_turn(request, last, id) {
+        return Offence::At(base + 4);
+    }
+    if !is_earned(d) {
+        return Offence::At(base + 13);
+    }
+    if !request.takes_type(d.kind) {
+        return Offence::At(base + 14);
+    }
+    if !request.takes_health(d.health) {
+        return Offence::At(base + 15);
+    }
+    Offence::Clean
+}
+
+// Descriptor k of a page, in an order. A byte past the end counts as 0.
+pub fn descriptor_at(page: &[u8], k: u32, o: Order) -> Descriptor
+    ensures { λ r. ⌜ r ≡ descriptorAt o (now (page .entry)) k ⌝ }
+{
+    let base = 32 + 32 * (k as usize);
+    Descriptor::read(words::tail(page, base), o)
+}
+
+// The first offence of the first `count` descriptors.
+pub fn check_list(page: &[u8], request: Request, count: u32, o: Order) -> Offence
+    ensures { λ r. ⌜ r ≡ firstBelow count (offenceAt o (now (page .entry)) request) ⌝ }
+{
+    let mut last = ElementId(0);
+    let mut k: u32 = 0;
+    while k < count {
+        let d = descriptor_at(page, k, o);
+        let found = judge(d, request, last, 32 + 32 * (k as usize));
+        if let Offence::At(place) = found {
+            return Offence::At(place);
+        }
+        last = d.id;
+        k += 1;
+    }
+    Offence::Clean
+}
