@@ -29,8 +29,7 @@ use Rattle.reader.specs.declared.Slot.the-variants.{Holds}
 use Rattle.status.proofs.EveryPage.{whole-pages}
 use Rattle.status.proofs.Page.{bytesOf, wide, shown-ids}
 use Rattle.status.specs.Page.{shownOf, shownAt, shownAll, asks, listOf, headerOf, pageOf}
-use Rattle.table.specs.Check.{ascending}
-use Rattle.table.specs.Elements.{live, blankPart, identifiers, size, removedCount}
+use Rattle.table.specs.Elements.{live, blankPart, identifiers, size, ascending, removedCount}
 use Rattle.table.specs.declared.Part.{Part}
 use Rattle.words.proofs.Lists.{length-keep, length-upTo, length-flat, every-take, every-keep, every-at, every-below, kept-all}
 use Rattle.words.specs.Lists.{Every, keep, upTo, flat, one}

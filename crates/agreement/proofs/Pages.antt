@@ -10,14 +10,14 @@ use Rattle.layout.specs.Requests.{refused, takesHealth}
 use Rattle.layout.specs.declared.Request.{Request}
 use Rattle.device.specs.Examples.{deviceA, run, remove, steps}
 use Rattle.device.specs.Making.{fresh}
+use Rattle.offer.specs.Elements.{blank}
+use Rattle.offer.specs.Examples.{element}
+use Rattle.offer.specs.declared.Element.{Element}
 use Rattle.paper.specs.Told.{tells}
 use Rattle.paper.specs.declared.Security.the-variants.{Locked, Unlocked}
 use Rattle.removal.specs.Remove.{judgeRoom, judgeFound}
 use Rattle.status.specs.Page.{shownOf, asks, listOf, pageOf, shown}
-use Rattle.table.specs.Elements.{blank}
-use Rattle.table.specs.Examples.{element}
 use Rattle.table.specs.Search.{sightIn}
-use Rattle.table.specs.declared.Element.{Element}
 
 abbrev request : ℕ → ℕ → ℕ → Request
 request feature count lba = record { feature = feature; count = record { 0 = count }; lba = record { 0 = lba } }

@@ -10,8 +10,7 @@ use Rattle.paper.specs.Told.{tells}
 use Rattle.reader.specs.Judgement.{header, readOf, slotOf}
 use Rattle.reader.specs.declared.Slot.the-variants.{Holds}
 use Rattle.status.specs.Page.{shownOf, listOf, busyOf, headerOf, pageOf}
-use Rattle.table.specs.Check.{ascending}
-use Rattle.table.specs.Elements.{identifiers, blankPart}
+use Rattle.table.specs.Elements.{identifiers, blankPart, ascending}
 use Rattle.table.specs.declared.Part.{Part}
 use Rattle.words.specs.Lists.{Every}
 use Rattle.words.specs.declared.Order.the-variants.{Little}

@@ -9,6 +9,12 @@ use Rattle.device.proofs.Stepped as Stepped
 use Rattle.device.proofs.Stepped.Laws as Stepped′
 use Rattle.layout.proofs.Request as Request
 use Rattle.layout.proofs.Request.Laws as Request′
+use Rattle.offer.proofs.Checked as Checked
+use Rattle.offer.proofs.Checked.Laws as Checked′
+use Rattle.offer.proofs.Element as Element
+use Rattle.offer.proofs.Element.Laws as Element′
+use Rattle.offer.proofs.Found as Found
+use Rattle.offer.proofs.Found.Laws as Found′
 use Rattle.paper.proofs.Answer as Answer
 use Rattle.paper.proofs.Answer.Laws as Answer′
 use Rattle.paper.proofs.ElementId as ElementId
@@ -17,12 +23,6 @@ use Rattle.paper.proofs.Lba as Lba
 use Rattle.paper.proofs.Lba.Laws as Lba′
 use Rattle.paper.proofs.Security as Security
 use Rattle.paper.proofs.Security.Laws as Security′
-use Rattle.table.proofs.Checked as Checked
-use Rattle.table.proofs.Checked.Laws as Checked′
-use Rattle.table.proofs.Element as Element
-use Rattle.table.proofs.Element.Laws as Element′
-use Rattle.table.proofs.Found as Found
-use Rattle.table.proofs.Found.Laws as Found′
 
 abbrev pub identifier : Datum
 identifier = struct ElementId.the-type ElementId′.the-laws ElementId′.the-plain ElementId′.the-copy

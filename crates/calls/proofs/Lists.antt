@@ -11,14 +11,15 @@ use lib.Seq.{take-all, take-at}
 use borrow.Author.Tests.{leb-true, leb-false, le-leb, lt-leb}
 use Rattle.device.specs.Making.{fresh, madeOf}
 use Rattle.device.specs.Promises.{Leaves}
+use Rattle.offer.proofs.Laws.{good-count}
+use Rattle.offer.specs.Check.{good, checkOf}
+use Rattle.offer.specs.Elements.{offered, blank, partOf, healthOf, blockSum}
+use Rattle.offer.specs.Search.{find}
+use Rattle.offer.specs.declared.Element.{Element}
+use Rattle.offer.specs.declared.Found.the-variants.{Missing}
+use Rattle.offer.specs.declared.Found.{Found}
 use Rattle.paper.specs.Told.{tells}
-use Rattle.table.proofs.Laws.{good-count}
-use Rattle.table.specs.Check.{good, checkOf}
-use Rattle.table.specs.Elements.{offered, blank, blankPart, partOf, healthOf, blockSum}
-use Rattle.table.specs.Search.{find}
-use Rattle.table.specs.declared.Element.{Element}
-use Rattle.table.specs.declared.Found.the-variants.{Missing}
-use Rattle.table.specs.declared.Found.{Found}
+use Rattle.table.specs.Elements.{blankPart}
 use Rattle.words.proofs.Lists.{take-min}
 use Rattle.calls.specs.Offered.{checkList, findList, arrayOf, offerOf, madeFrom}
 use Rattle.calls.specs.Promises.{Long-list-refused, Refused-list-leaves, Made-alike, Copied-whole}

@@ -4,9 +4,9 @@ use lib.ListN.{length}
 use borrow.Author.Tests.{ne-eqb}
 use Rattle.device.proofs.EveryCall.{one-answer}
 use Rattle.device.specs.Machine.{command, told}
+use Rattle.offer.proofs.Check.{verdict-injective}
 use Rattle.paper.proofs.Once.{number-injective, told-once}
 use Rattle.status.proofs.EveryPage.{one-page}
-use Rattle.table.proofs.Check.{verdict-injective}
 use Rattle.calls.specs.Offered.{madeFrom}
 use Rattle.calls.specs.Promises.{One-command, One-fits, Judged-alike}
 

@@ -7,14 +7,14 @@ use lib.Dec.{leb}
 use lib.ListN.{length, take, replicate}
 use Rattle.device.specs.Making.{fresh}
 use Rattle.device.specs.declared.Device.{Device}
+use Rattle.offer.specs.Check.{good}
+use Rattle.offer.specs.Elements.{blank, blockSum}
+use Rattle.offer.specs.Search.{find}
+use Rattle.offer.specs.declared.Element.{Element}
+use Rattle.offer.specs.declared.Found.the-variants.{Missing}
+use Rattle.offer.specs.declared.Found.{Found}
+use Rattle.offer.specs.declared.Offer.{Offer}
 use Rattle.paper.specs.Told.{Told, tells}
-use Rattle.table.specs.Check.{good}
-use Rattle.table.specs.Elements.{blank, blockSum}
-use Rattle.table.specs.Search.{find}
-use Rattle.table.specs.declared.Element.{Element}
-use Rattle.table.specs.declared.Found.the-variants.{Missing}
-use Rattle.table.specs.declared.Found.{Found}
-use Rattle.table.specs.declared.Offer.{Offer}
 
 -- what the check tells of a list: 0 and the blocks of all, or 8
 unfoldable pub checkList : List Element → ℕ → Told (List ℕ)

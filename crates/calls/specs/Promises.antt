@@ -10,18 +10,19 @@ use Rattle.device.specs.Machine.{command, told}
 use Rattle.device.specs.Making.{madeOf}
 use Rattle.device.specs.Promises.{One-answer, Leaves}
 use Rattle.device.specs.declared.Device.{Device}
+use Rattle.offer.specs.Check.{verdict, good}
+use Rattle.offer.specs.Elements.{partOf, healthOf}
+use Rattle.offer.specs.declared.Checked.{Checked}
+use Rattle.offer.specs.declared.Element.{Element}
+use Rattle.offer.specs.declared.Found.the-variants.{Missing}
+use Rattle.offer.specs.declared.Found.{Found}
 use Rattle.paper.specs.Answers.{numberOf}
 use Rattle.paper.specs.Registers.{Registers}
 use Rattle.paper.specs.Told.{tells, said}
 use Rattle.paper.specs.declared.Answer.{Answer}
 use Rattle.paper.specs.declared.Security.{Security}
 use Rattle.status.specs.Promises.{One-page}
-use Rattle.table.specs.Check.{verdict, good}
-use Rattle.table.specs.Elements.{live, partOf, healthOf}
-use Rattle.table.specs.declared.Checked.{Checked}
-use Rattle.table.specs.declared.Element.{Element}
-use Rattle.table.specs.declared.Found.the-variants.{Missing}
-use Rattle.table.specs.declared.Found.{Found}
+use Rattle.table.specs.Elements.{live}
 use Rattle.calls.specs.Offered.{checkList, findList, offerOf, madeFrom}
 
 -- ## No second answer fits, no second device and no second buffer

@@ -9,24 +9,24 @@ ghost use Rattle.device.specs.Commands.{otherNumber};
 ghost use Rattle.device.specs.Machine as machine;
 ghost use Rattle.device.specs.Machine.{told};
 ghost use Rattle.device.specs.Making.{madeOf};
+ghost use Rattle.offer.specs.Check.{checkOf, verdict};
+ghost use Rattle.offer.specs.Elements.{blank};
+ghost use Rattle.offer.specs.Search as search;
 ghost use Rattle.paper.specs.Answers.{numberOf};
 ghost use Rattle.paper.specs.Told.{said};
 ghost use Rattle.status.specs.Page.{shown};
-ghost use Rattle.table.specs.Check.{checkOf, verdict};
-ghost use Rattle.table.specs.Elements.{blank};
-ghost use Rattle.table.specs.Search as search;
 ghost use Rattle.calls.specs.Offered.{arrayOf, checkList, findList, madeFrom};
 use device::Device;
 use device::Stepped;
 use layout::Request;
+use offer::Checked;
+use offer::Element;
+use offer::Found;
+use offer::Offer;
 use paper::Answer;
 use paper::ElementId;
 use paper::Lba;
 use paper::Security;
-use table::Checked;
-use table::Element;
-use table::Found;
-use table::Offer;
 
 // ---- The device, changed in place
 
@@ -138,7 +138,7 @@ pub fn show(d: &Device, security: Security, request: Request, buf: &mut [u8]) ->
 fn blanks() -> [Element; 128]
     ensures { λ r. ⌜ r ≡ replicate 128 blank ⌝ }
 {
-    [table::blank(); 128]
+    [offer::blank(); 128]
 }
 
 // The records of a list in an array, with blanks after them.

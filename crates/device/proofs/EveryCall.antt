@@ -9,16 +9,17 @@ use lib.Seq.{drop-set-lt}
 use Rattle.cells.specs.Cells.{make}
 use Rattle.cells.specs.Rulings.{Ruled}
 use Rattle.cells.specs.Sights.{seeIn}
+use Rattle.offer.proofs.Laws.{good-ascending, good-count}
+use Rattle.offer.proofs.Splits.{split-past, built-ids}
+use Rattle.offer.specs.Check.{good}
+use Rattle.offer.specs.Elements.{offered, partOf, healthOf}
+use Rattle.offer.specs.declared.Offer.{Offer}
 use Rattle.paper.proofs.Once.{told-once}
 use Rattle.paper.specs.Told.{tells}
 use Rattle.paper.specs.declared.ElementId.{ElementId}
-use Rattle.table.proofs.Laws.{good-ascending, good-count}
 use Rattle.table.proofs.Search.{hits-there}
-use Rattle.table.proofs.Splits.{split-past, built-ids}
-use Rattle.table.specs.Check.{ascending, good}
-use Rattle.table.specs.Elements.{offered, identifiers, blankPart, partOf, healthOf}
+use Rattle.table.specs.Elements.{identifiers, blankPart, ascending}
 use Rattle.table.specs.Search.{sightIn}
-use Rattle.table.specs.declared.Offer.{Offer}
 use Rattle.device.specs.Making.{fresh, madeOf}
 use Rattle.device.specs.Promises.{One-answer, One-device, Leaves, Refusal-leaves, Refusal-makes-none, Keeps-table, Tidy, Keeps-tidy, Made-tidy, Made-in-order}
 use Rattle.steps.specs.Steps.{marking, nextOf}

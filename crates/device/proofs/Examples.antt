@@ -4,9 +4,9 @@ use mathlib.Core.Path.{_≡_, refl}
 use Rattle.cells.specs.Cells.{isSet}
 use Rattle.cells.specs.Sights.{seeIn}
 use Rattle.layout.specs.Requests.{refused}
+use Rattle.offer.specs.Check.{good}
+use Rattle.offer.specs.Examples.{offerA}
 use Rattle.paper.specs.Told.{tells}
-use Rattle.table.specs.Check.{good}
-use Rattle.table.specs.Examples.{offerA}
 use Rattle.table.specs.Search.{sightIn}
 use Rattle.words.specs.Lists.{all}
 use Rattle.device.specs.Commands.{isOpen, mediaNumber, otherNumber}

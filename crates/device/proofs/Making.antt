@@ -3,14 +3,14 @@ use Prim.Native.Nat.{ℕ, _-_, _≤_}
 use mathlib.Core.List.{List}
 use mathlib.Core.Path.{_≡_, sym, ap, _∙_}
 use native.Mathlib.Omega.{arith}
+use Rattle.offer.proofs.Laws.{check-refused, check-blocks, good-blocks}
+use Rattle.offer.specs.Check.{checkOf, verdict}
+use Rattle.offer.specs.Elements.{offered, tableOf, healthsOf}
+use Rattle.offer.specs.declared.Checked.the-variants.{Refused, Blocks}
+use Rattle.offer.specs.declared.Checked.{Checked}
+use Rattle.offer.specs.declared.Offer.{Offer}
 use Rattle.paper.specs.Told.{said}
 use Rattle.paper.specs.declared.Answer.the-variants.{Done, TableRefused}
-use Rattle.table.proofs.Laws.{check-refused, check-blocks, good-blocks}
-use Rattle.table.specs.Check.{checkOf, verdict}
-use Rattle.table.specs.Elements.{offered, tableOf, healthsOf}
-use Rattle.table.specs.declared.Checked.the-variants.{Refused, Blocks}
-use Rattle.table.specs.declared.Checked.{Checked}
-use Rattle.table.specs.declared.Offer.{Offer}
 use Rattle.table.specs.declared.Table.{Table}
 use Rattle.device.specs.Making.{madeOf}
 use Rattle.device.specs.declared.Device.{Device}

@@ -5,9 +5,9 @@ use mathlib.Core.List.{List, [], _∷_, _++_}
 use lib.Dec.{eqb}
 use lib.ListN.{take, replicate}
 use Rattle.cells.specs.Cells.{isSet}
+use Rattle.offer.specs.Examples.{offerA}
 use Rattle.paper.specs.Registers.{Registers}
 use Rattle.paper.specs.declared.Security.the-variants.{Locked, Unlocked, Frozen}
-use Rattle.table.specs.Examples.{offerA}
 use Rattle.device.specs.Machine.{Event, command, step, mediaError, powerCut, comreset, hardwareReset, softwareReset, grade, told}
 use Rattle.device.specs.Making.{fresh}
 use Rattle.device.specs.Record.{underWay}

@@ -4,12 +4,11 @@ use mathlib.Core.Bool.{true}
 use mathlib.Core.Path.{_≡_}
 use lib.ListN.{length, take, drop, replicate}
 use Rattle.cells.specs.Rulings.{Ruled}
+use Rattle.offer.specs.declared.Offer.{Offer}
 use Rattle.paper.specs.Told.{Told, tells, said}
 use Rattle.paper.specs.declared.Answer.{Answer}
 use Rattle.paper.specs.declared.Lba.{Lba}
-use Rattle.table.specs.Check.{ascending}
-use Rattle.table.specs.Elements.{live, identifiers, blankPart}
-use Rattle.table.specs.declared.Offer.{Offer}
+use Rattle.table.specs.Elements.{live, identifiers, blankPart, ascending}
 use Rattle.device.specs.Machine.{Event, mediaError, powerCut, comreset, hardwareReset, softwareReset, told}
 use Rattle.device.specs.Making.{madeOf}
 use Rattle.device.specs.Record.{healthAt, tell}

@@ -15,12 +15,12 @@ use cells::Note;
 use cells::Position;
 use cells::Ruling;
 use cells::quiet;
+use offer::Checked;
+use offer::Offer;
 use paper::Answer;
 use paper::ElementId;
 use paper::Lba;
 use paper::Security;
-use table::Checked;
-use table::Offer;
 use table::Table;
 
 pub struct Device {

@@ -23,8 +23,7 @@ use Rattle.cells.specs.declared.Store.the-variants.{Nothing, Marked}
 use Rattle.paper.specs.Elements.{removedHealth}
 use Rattle.paper.specs.declared.ElementId.{ElementId}
 use Rattle.paper.specs.declared.Lba.{Lba}
-use Rattle.table.specs.Check.{ascending}
-use Rattle.table.specs.Elements.{identifiers, size, identifierAt}
+use Rattle.table.specs.Elements.{identifiers, size, identifierAt, ascending}
 use Rattle.table.specs.declared.Table.{Table}
 use Rattle.history.specs.Ledger.{markedBy, marked, acceptedBy, accepted, addressBy, address, gradedBy, gradeIn}
 use Rattle.history.specs.Runs.{History, _▹_, entry}

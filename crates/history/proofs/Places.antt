@@ -14,10 +14,9 @@ use Rattle.device.specs.Record.{healthAt, see}
 use Rattle.device.specs.declared.Device.{Device}
 use Rattle.paper.specs.Elements.{removedHealth}
 use Rattle.paper.specs.declared.ElementId.{ElementId}
-use Rattle.table.proofs.Check.{both}
+use Rattle.table.proofs.Ascending.{both}
 use Rattle.table.proofs.Search.{hits-there, hits-member}
-use Rattle.table.specs.Check.{ascending}
-use Rattle.table.specs.Elements.{identifiers, size, identifierAt}
+use Rattle.table.specs.Elements.{identifiers, size, identifierAt, ascending}
 use Rattle.table.specs.Search.{place, sightIn}
 use Rattle.table.specs.declared.Table.{Table}
 use Rattle.history.specs.Runs.{Script, begin, _▸_, after}

@@ -18,7 +18,7 @@ use Rattle.cells.specs.declared.Removal.{Removal}
 use Rattle.cells.specs.declared.Store.the-variants.{Marked, Noted}
 use Rattle.cells.specs.declared.Store.{Store}
 use Rattle.paper.specs.declared.ElementId.{ElementId}
-use Rattle.table.proofs.Check.{both}
+use Rattle.table.proofs.Ascending.{both}
 use Rattle.history.specs.Progress.{calm, steps, At, On-its-way, workStore, Five-steps, Fifth-ends, stops, Stop-winds, windStore, Four-steps, Fourth-ends}
 use Rattle.history.specs.Runs.{Script, begin, _▸_, _▸▸_, after}
 use Rattle.history.proofs.Events.{Tells, store-tells}

@@ -11,16 +11,17 @@ use Rattle.device.proofs.EveryCall.{fresh-order}
 use Rattle.device.specs.Making.{fresh, madeOf}
 use Rattle.device.specs.Record.{healthAt}
 use Rattle.device.specs.declared.Device.{Device}
+use Rattle.offer.proofs.Laws.{good-healthy, good-count}
+use Rattle.offer.proofs.Splits.{split-front, built-ids}
+use Rattle.offer.specs.Check.{healthy, good}
+use Rattle.offer.specs.Elements.{offered, partOf, healthOf}
+use Rattle.offer.specs.declared.Element.{Element}
+use Rattle.offer.specs.declared.Offer.{Offer}
 use Rattle.paper.specs.Answers.{numberOf}
 use Rattle.paper.specs.Elements.{gradedHealth, removedHealth}
 use Rattle.paper.specs.Told.{Told, tells, said}
-use Rattle.table.proofs.Check.{both}
-use Rattle.table.proofs.Laws.{good-healthy, good-count}
-use Rattle.table.proofs.Splits.{split-front, built-ids}
-use Rattle.table.specs.Check.{healthy, good}
-use Rattle.table.specs.Elements.{offered, blankPart, size, partOf, healthOf}
-use Rattle.table.specs.declared.Element.{Element}
-use Rattle.table.specs.declared.Offer.{Offer}
+use Rattle.table.proofs.Ascending.{both}
+use Rattle.table.specs.Elements.{blankPart, size}
 use Rattle.words.specs.Lists.{all}
 use Rattle.history.specs.Starts.{Made-of, Accepted-starts}
 use Rattle.history.proofs.Places.{gone-told}

@@ -11,13 +11,14 @@ use Rattle.device.specs.declared.Device.{Device}
 use Rattle.cells.specs.declared.Note.the-variants.{Empty, Full}
 use Rattle.cells.specs.declared.Note.{Note}
 use Rattle.cells.specs.declared.Position.the-variants.{Wind1}
+use Rattle.offer.specs.Check.{good}
+use Rattle.offer.specs.Elements.{offered, partOf, healthOf, blockSum}
+use Rattle.offer.specs.declared.Offer.{Offer}
 use Rattle.paper.specs.Answers.{numberOf}
 use Rattle.paper.specs.Elements.{removedHealth, gradedHealth}
 use Rattle.paper.specs.Told.{said}
 use Rattle.paper.specs.declared.Answer.{Answer}
-use Rattle.table.specs.Check.{ascending, good}
-use Rattle.table.specs.Elements.{offered, live, identifiers, size, identifierAt, partOf, healthOf, blockSum}
-use Rattle.table.specs.declared.Offer.{Offer}
+use Rattle.table.specs.Elements.{live, identifiers, size, identifierAt, ascending}
 use Rattle.table.specs.declared.Table.{Table}
 use Rattle.history.specs.Ledger.{marked, address, failedIn}
 use Rattle.history.specs.Runs.{Script, _▸_, empty, after}

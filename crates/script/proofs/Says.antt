@@ -12,9 +12,9 @@ use Rattle.lines.specs.Parts.{wordAt, same}
 use Rattle.lines.specs.Pieces.{isLong}
 use Rattle.lines.specs.declared.Field.{Field}
 use Rattle.lines.specs.declared.Gathered.{Gathered}
+use Rattle.offer.specs.Elements as elements
+use Rattle.offer.specs.declared.Element.{Element as Offered}
 use Rattle.paper.specs.declared.Security.the-variants.{Locked, Unlocked, Frozen}
-use Rattle.table.specs.Elements as elements
-use Rattle.table.specs.declared.Element.{Element as Offered}
 use Rattle.text.specs.Text.{ascii}
 use Rattle.script.specs.Calls.{most64, most32, most16, most8, mostPlace, stateOf, askedAt, elementOf, commandOf, gradeOf, pokeOf, deviceCall, isPassed, lineOf, meaningOf}
 use Rattle.script.specs.declared.Asked.{Asked}

@@ -8,8 +8,8 @@ use Rattle.lines.specs.Numbers.{fieldAt}
 use Rattle.lines.specs.Parts.{wordAt, isEmpty, same, named}
 use Rattle.lines.specs.Pieces.{isLong}
 use Rattle.lines.specs.declared.Gathered.{Gathered}
+use Rattle.offer.specs.Elements as elements
 use Rattle.paper.specs.declared.Security.the-variants.{Locked, Unlocked, Frozen}
-use Rattle.table.specs.Elements as elements
 use Rattle.text.specs.Text.{ascii}
 use Rattle.script.specs.declared.Asked.{Asked}
 use Rattle.script.specs.declared.Bare.the-variants.{Step, Error, Cut, Comreset, Hardreset, Softreset}

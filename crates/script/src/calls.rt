@@ -18,11 +18,11 @@ use lines::field_at;
 use lines::is_long;
 use lines::is_named;
 use lines::is_same;
+use offer::Element;
 use paper::ElementId;
 use paper::Lba;
 use paper::PageCount;
 use paper::Security;
-use table::Element;
 
 fn both(a: bool, b: bool) -> bool
     ensures { λ r. ⌜ r ≡ (a && b) ⌝ }
@@ -54,7 +54,7 @@ fn element(line: &[u8]) -> Line
     let blocks = field_at(line, 4, 0xFFFF_FFFF_FFFF_FFFF);
     let flag = field_at(line, 5, 1);
     let figures = each(health.fits, blocks.fits, flag.fits);
-    let offered = table::element_of(
+    let offered = offer::element_of(
         ElementId(id.value as u32),
         kind.value as u8,
         health.value as u8,

@@ -4,10 +4,10 @@ mod calls;
 pub use calls::meaning;
 pub use calls::meaning_of;
 use layout::Request;
+use offer::Element;
 use paper::ElementId;
 use paper::Lba;
 use paper::Security;
-use table::Element;
 
 // A security state that a word names, and whether it names one.
 struct State {

@@ -13,7 +13,7 @@ use Rattle.device.specs.Record.{healthAt}
 use Rattle.device.specs.declared.Device.{Device}
 use Rattle.layout.specs.declared.Descriptor.{Descriptor}
 use Rattle.layout.specs.declared.Request.{Request}
-use Rattle.table.proofs.Splits.{length-taken}
+use Rattle.table.proofs.Arrays.{length-taken}
 use Rattle.table.specs.Elements.{live, blankPart, size}
 use Rattle.table.specs.declared.Part.{Part}
 use Rattle.words.proofs.Lists.{keep-append, map-append, map-upTo, every-same, every-set}

@@ -9,7 +9,7 @@ use Rattle.paper.specs.Elements.{removedHealth}
 use Rattle.words.proofs.Lists.{sum-next, sum-end}
 use Rattle.words.specs.Lists.{one}
 use Rattle.table.specs.Elements.{removedCount}
-use Rattle.table.proofs.Splits.{taken}
+use Rattle.table.proofs.Arrays.{taken}
 
 module _ (health : ℕ) where
   pub one-yes : health ≡ 0xFF → 1 ≡ one (removedHealth health)

@@ -6,18 +6,14 @@ use mathlib.Core.Path.{_≡_, refl, sym, ap, _∙_}
 use native.Mathlib.Numerals.{add-one}
 use native.Mathlib.Omega.{arith}
 use lib.Dec.{eqb, ltb}
-use lib.ListN.{length, take, drop, getD, length-map, length-take, drop-of-length-le, List·getD-eq-default, List·getD-map}
+use lib.ListN.{length, take, drop, getD, length-take, drop-of-length-le, List·getD-eq-default}
 use lib.Seq.{drop-cons, getD-take}
-use borrow.Author.Tests.{lt-ltb, le-ltb, eq-eqb, ne-eqb, eqb-true}
-use Rattle.table.specs.Check.{ascending}
-use Rattle.table.specs.Elements.{blank, blankPart, elementIds, partIds}
-use Rattle.table.specs.Search.{place, hits, find, stopped, sightIn}
-use Rattle.table.specs.declared.Element.{Element}
-use Rattle.table.specs.declared.Found.the-variants.{Missing, One}
-use Rattle.table.specs.declared.Found.{Found}
+use borrow.Author.Tests.{lt-ltb, le-ltb, eq-eqb, eqb-true}
+use Rattle.table.specs.Elements.{blankPart, partIds, ascending}
+use Rattle.table.specs.Search.{place, hits, sightIn}
 use Rattle.table.specs.declared.Part.{Part}
-use Rattle.table.proofs.Check.{ascending-both}
-use Rattle.table.proofs.Splits.{taken, length-taken}
+use Rattle.table.proofs.Arrays.{taken, length-taken}
+use Rattle.table.proofs.Ascending.{ascending-both, ascending-low}
 
 -- ## What is found
 
@@ -31,16 +27,6 @@ hits-there id (x ∷ xs) q = go (ltb x id) q (hits-there id xs)
     go true r later = let w = later r in (omega (arith, w .0), w .1)
     go false r later = (omega arith, eqb-true x id r)
 
--- on an ascending list the identifier at a place lies above those before it
-pub ascending-low : (low : ℕ) (ids : List ℕ) (i : ℕ) → ascending low ids ≡ true → i < length ids → low < getD ids i 0
-ascending-low low [] i q h = absurd (omega arith)
-ascending-low low (x ∷ xs) zero q h = ascending-both low x xs q .0
-ascending-low low (x ∷ xs) (suc i) q h =
-    let two = ascending-both low x xs q in
-    let above : x < getD xs i 0 = ascending-low x xs i (two .1) (omega arith) in
-    let up : low < x = two .0 in
-    omega arith
-
 -- and so each is found, at its place
 pub hits-member : (low : ℕ) (ids : List ℕ) (i : ℕ) → ascending low ids ≡ true → i < length ids → (hits (getD ids i 0) ids ≡ true) × (place (getD ids i 0) ids ≡ i)
 hits-member low [] i q h = absurd (omega arith)
@@ -49,32 +35,6 @@ hits-member low (x ∷ xs) (suc i) q h =
     let two = ascending-both low x xs q in
     let later = hits-member x xs i (two .1) (omega arith) in
     rw (lt-ltb x (getD xs i 0) (ascending-low x xs i (two .1) (omega arith))) (later .0, ap suc (later .1))
-
-abbrev element : Found → Element
-element Missing = blank
-element (One e) = e
-
--- so an element that is found is in the list, under its identifier
-pub find-sound : (id : ℕ) (es : List Element) (e : Element) → find id es ≡ One e → (i : ℕ) × (i < length es) × (getD es i blank ≡ e) × (e .id .0 ≡ id)
-unfolding find
-find-sound id es e q = go (hits id (elementIds es)) q (hits-there id (elementIds es))
-  where
-    go : (b : Bool) → cond b (One (getD es (place id (elementIds es)) blank)) Missing ≡ One e
-        → (b ≡ true → (place id (elementIds es) < length (elementIds es)) × (getD (elementIds es) (place id (elementIds es)) 0 ≡ id))
-        → (i : ℕ) × (i < length es) × (getD es i blank ≡ e) × (e .id .0 ≡ id)
-    go true r there =
-        let w = there refl in
-        let same : getD es (place id (elementIds es)) blank ≡ e = ap element r in
-        (place id (elementIds es), simp length-map at (w .0), same, ap (λ (x : Element). x .id .0) (sym same) ∙ sym (List·getD-map (λ (x : Element). x .id .0) es _ blank) ∙ w .1)
-    go false r there = absurd (let z : _≡_ {A = ℕ} 0 1 = cc in omega arith)
-
--- and on an ascending list each is found
-pub find-member : (low : ℕ) (es : List Element) (i : ℕ) → ascending low (elementIds es) ≡ true → i < length es → find (getD es i blank .id .0) es ≡ One (getD es i blank)
-unfolding find
-find-member low es i q h =
-    let name : getD (elementIds es) i 0 ≡ getD es i blank .id .0 = List·getD-map (λ (x : Element). x .id .0) es i blank in
-    let w = hits-member low (elementIds es) i q (simp length-map h) in
-    rw (← name, w .0, w .1)
 
 -- ## The loop over the first n, n being the count or 128; `so` is its invariant
 
@@ -135,36 +95,7 @@ module _ {A : Type 0} (key : A → ℕ) (l : List A) (z : A) (count n i id : ℕ
       end-at =
           sym (List·getD-eq-default (take count l) z {n = place id (map key (take count l))} (rw (sym end-place, length-taken l count n full is-n) done))
 
--- ## What the two searches answer
-
-module _ (e : Element) (id : ℕ) where
-  pub stopped-one : e .id .0 ≡ id → One e ≡ stopped id e
-  stopped-one q = sym (rw (eq-eqb _ _ q))
-
-  pub stopped-other : (e .id .0 ≡ id → ⊥) → Missing ≡ stopped id e
-  stopped-other q = sym (rw (ne-eqb _ _ q))
-
-module _ (es : List Element) (count n i id : ℕ) (full : length es ≡ 128) (is-n : n ≡ min count 128)
-    (so : i + place id (elementIds (drop i (take n es))) ≡ place id (elementIds (take n es)))
-    (so-hits : hits id (elementIds (drop i (take n es))) ≡ hits id (elementIds (take n es))) where
-  abbrev key : Element → ℕ
-  key e = e .id .0
-
-  pub found-pass : i < n → getD es i blank .id .0 < id → i + 1 + place id (elementIds (drop (i + 1) (take n es))) ≡ place id (elementIds (take n es))
-  found-pass less h = seek-pass key es blank count n i id full is-n so so-hits less h .0
-
-  pub found-still : i < n → getD es i blank .id .0 < id → hits id (elementIds (drop (i + 1) (take n es))) ≡ hits id (elementIds (take n es))
-  found-still less h = seek-pass key es blank count n i id full is-n so so-hits less h .1
-
-  pub found-stop : i < n → id ≤ getD es i blank .id .0 → (f : Found) → f ≡ stopped id (getD es i blank) → f ≡ find id (take count es)
-  unfolding find
-  found-stop less h f is-f =
-      is-f
-      ∙ rw (← seek-hits key es blank count n i id full is-n so so-hits less h, ← seek-at key es blank count n i id full is-n so so-hits less h)
-
-  pub found-end : n ≤ i → Missing ≡ find id (take count es)
-  unfolding find
-  found-end done = sym (rw (← end-hits key es blank count n i id full is-n so so-hits done))
+-- ## What the search answers
 
 module _ (ps : List Part) (count n i id : ℕ) (full : length ps ≡ 128) (is-n : n ≡ min count 128)
     (so : i + place id (partIds (drop i (take n ps))) ≡ place id (partIds (take n ps)))

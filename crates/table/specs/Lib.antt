@@ -1,5 +1,3 @@
--- The element table: its elements, offered and as built; which tables are good; the search; the counts.
-pub mod Check
+-- The table as built: its elements, the search, the counts.
 pub mod Elements
-pub mod Examples
 pub mod Search

@@ -6,8 +6,9 @@ use Rattle.device.specs.declared.Device.{Device}
 use Rattle.cells.specs.declared.Mark.the-variants.{Clear}
 use Rattle.cells.specs.declared.Note.the-variants.{Empty}
 use Rattle.cells.specs.declared.Position.the-variants.{Work1}
-use Rattle.table.specs.Elements.{blank, blankPart}
-use Rattle.table.specs.declared.Offer.{Offer}
+use Rattle.offer.specs.Elements.{blank}
+use Rattle.offer.specs.declared.Offer.{Offer}
+use Rattle.table.specs.Elements.{blankPart}
 use Rattle.table.specs.declared.Table.{Table}
 use Rattle.workbench.specs.declared.Bench.{Bench}
 

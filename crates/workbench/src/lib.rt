@@ -7,6 +7,8 @@ use cells::Note;
 use cells::Position;
 use device::Device;
 use device::Stepped;
+use offer::Element;
+use offer::Offer;
 use paper::Lba;
 use print::print_answer;
 use print::print_cells;
@@ -15,8 +17,6 @@ use script::Command;
 use script::Grade;
 use script::Line;
 use script::PageCall;
-use table::Element;
-use table::Offer;
 use table::Table;
 
 // The offered list, the device and whether one was made, and how many bytes the kept page has, which is lent to each call.
@@ -30,7 +30,7 @@ pub struct Bench {
 fn no_offer() -> Offer
     ensures { λ r. ⌜ r ≡ spec.noOffer ⌝ }
 {
-    let blank = table::blank();
+    let blank = offer::blank();
     Offer {
         elements: [blank; 128],
         count: 0,

@@ -4,7 +4,7 @@ use mathlib.Core.Path.{_≡_, _∙_}
 use mir.Syntax.{w16}
 use Rattle.datum.proofs.Datum.{number}
 use Rattle.datum.proofs.Listed.{listed}
-use Rattle.table.specs.Check.{checkOf, verdict}
+use Rattle.offer.specs.Check.{checkOf, verdict}
 use Rattle.calls.proofs.Data.{element, checked}
 use Rattle.calls.proofs.Lists.{check-offer}
 use Rattle.calls.proofs.copied.Met as copied

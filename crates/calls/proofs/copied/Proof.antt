@@ -1,8 +1,8 @@
 -- `calls::copied`, over `table::bounded` and `blanks`.
 use Rattle.datum.proofs.Copied.{copied}
+use Rattle.offer.specs.Elements.{blank}
 use Rattle.table.proofs.bounded.Met as bounded
 use Rattle.table.proofs.bounded.Symbol as bounded-symbol
-use Rattle.table.specs.Elements.{blank}
 use Rattle.calls.proofs.Data.{element}
 use Rattle.calls.proofs.Lists.{all-held}
 use Rattle.calls.proofs.blanks.Met as blanks

@@ -5,8 +5,8 @@ use mathlib.Core.Path.{_≡_, _∙_}
 use lib.Dec.{leb}
 use lib.ListN.{take}
 use Rattle.datum.proofs.Listed.{listed}
-use Rattle.table.specs.Search.{find}
-use Rattle.table.specs.declared.Found.the-variants.{Missing}
+use Rattle.offer.specs.Search.{find}
+use Rattle.offer.specs.declared.Found.the-variants.{Missing}
 use Rattle.calls.proofs.Data.{element, found, identifier}
 use Rattle.calls.proofs.Lists.{find-offer}
 use Rattle.calls.proofs.copied.Met as copied

@@ -1,6 +1,6 @@
 -- `table::health_at`: 0 past the end.
 use borrow.Author.Needs.{needs}
-use Rattle.table.proofs.Splits.{past-end}
+use Rattle.table.proofs.Arrays.{past-end}
 use Rattle.table.proofs.health_at.Statement.{statement}
 use Rattle.table.proofs.health_at.Tie as tie
 

@@ -1,6 +1,6 @@
 -- `table::with_health`: nothing is stored past the end.
 use borrow.Author.Needs.{needs}
-use Rattle.table.proofs.Splits.{set-past}
+use Rattle.table.proofs.Arrays.{set-past}
 use Rattle.table.proofs.with_health.Statement.{statement}
 use Rattle.table.proofs.with_health.Tie as tie
 

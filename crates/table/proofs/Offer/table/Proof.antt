@@ -1,8 +1,0 @@
--- `table::Offer::table`: the parts, all else kept.
-use borrow.Author.Needs.{needs}
-use Rattle.table.proofs.Splits.{table-built}
-use Rattle.table.proofs.Offer.table.Statement.{statement}
-use Rattle.table.proofs.Offer.table.Tie as tie
-
-pub table-spec : {M : Type 1} → statement M
-table-spec = tie.close (tie.spec (λ c κs. search needs) (λ c. search (table-built)))
