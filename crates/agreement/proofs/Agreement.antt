@@ -18,12 +18,12 @@ use Rattle.layout.specs.Requests.{filterOf, reportTypeOf, pagesOf, refused, tak
 use Rattle.layout.specs.declared.Descriptor.{Descriptor}
 use Rattle.layout.specs.declared.Header.{Header}
 use Rattle.layout.specs.declared.Request.{Request}
+use Rattle.offences.specs.Checks as checks
+use Rattle.offences.specs.Checks.{baseOf, lastBefore}
 use Rattle.paper.specs.Elements.{removedHealth}
 use Rattle.paper.specs.Told.{tells}
 use Rattle.reader.proofs.LayoutTheorem.{and-both, type-exactly, health-exactly}
 use Rattle.reader.proofs.Taken.{Listed, Taken, takes}
-use Rattle.reader.specs.Checks as checks
-use Rattle.reader.specs.Checks.{baseOf, lastBefore}
 use Rattle.reader.specs.Judgement.{header, slotOf}
 use Rattle.reader.specs.declared.Slot.the-variants.{Holds}
 use Rattle.status.proofs.EveryPage.{whole-pages}

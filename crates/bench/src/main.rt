@@ -1,11 +1,11 @@
 // Runs scripts of calls on one device, and answers each call. A script is a file that an argument names, after a line with its name;
 // without arguments it is standard input.
+use arguments::Line;
 use libc::STDIN_FILENO;
 use libc::STDOUT_FILENO;
-use lines::Gathered;
-use lines::Taken;
+use pieces::Gathered;
+use pieces::Taken;
 use print::print_words;
-use script::Line;
 use workbench::Bench;
 
 // A script as far as it was run: the line as far as it was read, and the bench.

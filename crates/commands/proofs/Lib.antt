@@ -1,5 +1,5 @@
 -- What is proved of any command.
 
+pub mod Codes
 pub mod Judgement
-pub mod Rows
 pub mod Security

@@ -1,6 +1,4 @@
 // Any command code, by value: the security state, the registers, and the length of the lent buffer.
-mod open;
-
 ghost use mathlib.Core.Path.{_≡_};
 ghost use mathlib.Core.Bool.{not, _&&_};
 ghost use Prim.Native.Nat.{_≤_};
@@ -9,9 +7,10 @@ ghost use Rattle.device.specs.Record.{underWay};
 ghost use Rattle.paper.specs.Answers.{numberOf};
 ghost use Rattle.words.specs.Lists.{oneOf};
 ghost use Rattle.paper.specs.Told.{said};
-ghost use Rattle.device.specs.Commands.{otherNumber, isMedia, isNamed, isOpen, sectorsOf, isBeyond, mediaNumber};
+ghost use Rattle.device.specs.Commands.{otherNumber, isMedia, isNamed, sectorsOf, isBeyond, mediaNumber};
 ghost use Rattle.device.specs.Machine as machine;
 ghost use Rattle.device.specs.Machine.{told};
+ghost use Rattle.open.specs.Open.{isOpen};
 use device::Device;
 use device::Stepped;
 use layout::Request;

@@ -8,11 +8,11 @@ use lib.Dec.{eqb}
 use borrow.Author.Tests.{eqb-true, eqb-false}
 use Rattle.layout.specs.Requests.{pagesOf}
 use Rattle.layout.specs.declared.Request.{Request}
+use Rattle.reach.specs.Opening.{accepted}
+use Rattle.reach.specs.Pages.{countOf, elementAt}
 use Rattle.reader.proofs.Taken.{Taken, taken, room}
 use Rattle.reader.specs.Judgement.{readOf}
 use Rattle.words.specs.declared.Order.the-variants.{Little}
-use Rattle.compare.specs.Opening.{accepted}
-use Rattle.compare.specs.Pages.{countOf, elementAt}
 
 abbrev pub idAt : List ℕ → ℕ → ℕ
 idAt s k = elementAt s k .id .0

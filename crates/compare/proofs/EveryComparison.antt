@@ -12,39 +12,20 @@ use Rattle.layout.specs.Bytes.{descriptorIn}
 use Rattle.layout.specs.Requests.{pagesOf}
 use Rattle.layout.specs.declared.Descriptor.{Descriptor}
 use Rattle.layout.specs.declared.Request.{Request}
-use Rattle.paper.specs.Told.{Told}
+use Rattle.offences.specs.Checks.{baseOf}
 use Rattle.paper.specs.declared.ElementId.{ElementId}
-use Rattle.reader.specs.Checks.{baseOf}
+use Rattle.reach.specs.Opening.{accepted}
+use Rattle.reach.specs.Pages.{countOf, elementAt, boundOf, endOf}
 use Rattle.words.specs.Bytes.{number, front, numberAt}
 use Rattle.words.specs.Lists.{Every}
 use Rattle.words.specs.declared.Order.the-variants.{Little}
 use Rattle.words.specs.declared.Order.{Order}
 use Rattle.compare.specs.Differences.{alike, Standing, absent, stands, standingIn, standing, difference, differenceAt, differencesIn, differencesOf}
-use Rattle.compare.specs.Opening.{accepted, Values, bound, turn, heard}
-use Rattle.compare.specs.Pages.{countOf, elementAt, boundOf, endOf}
 use Rattle.compare.specs.Parts.{descriptorPart, partOf}
-use Rattle.compare.specs.Promises.{One-opening, Stands-for, idOf, Ascending, Each-once, Hands-out, Hands-out-each}
+use Rattle.compare.specs.Promises.{Stands-for, idOf, Ascending, Each-once, Hands-out, Hands-out-each}
 use Rattle.compare.specs.declared.Line.the-variants.{OnlyOlder, OnlyNewer, Changed}
 use Rattle.compare.specs.declared.Line.{Line}
-use Rattle.compare.specs.declared.Opening.the-variants.{Accepted, Refused}
-use Rattle.compare.specs.declared.Opening.{Opening}
 use Rattle.compare.proofs.Ascending.{idAt, is-taken, count-room}
-
--- ## What was heard gives the answer back
-
-abbrev of : Values → Opening
-of (bound b) = Accepted b
-of (turn t) = Refused t
-
-abbrev answer : Told Values → Opening
-answer u = of (u .state)
-
-back : (a : Opening) → answer (heard a) ≡ a
-back (Accepted b) = refl
-back (Refused t) = refl
-
-pub one-opening : One-opening
-one-opening s t q a b is-a is-b = sym (back a) ∙ ap answer (is-a ∙ sym is-b) ∙ back b
 
 -- ## Standings
 

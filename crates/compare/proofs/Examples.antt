@@ -6,10 +6,10 @@ use mathlib.Core.List.{List, [], _∷_, _++_}
 use mathlib.Core.Path.{_≡_, refl}
 use Rattle.layout.specs.Bytes.{headerBytes, descriptorBytes}
 use Rattle.layout.specs.declared.Descriptor.{Descriptor}
+use Rattle.reach.specs.Pages.{countOf, elementAt, reachOf, boundOf}
 use Rattle.words.specs.Lists.{flat}
 use Rattle.words.specs.declared.Order.the-variants.{Little}
 use Rattle.compare.specs.Differences.{standing, differenceAt, differencesIn, differencesOf}
-use Rattle.compare.specs.Pages.{countOf, elementAt, reachOf, boundOf}
 use Rattle.compare.specs.Parts.{descriptorPart, partOf}
 use Rattle.compare.specs.Walk.{cursor, first, keyAt, agreeAt, stepAt, past, nextTo, nextOf, walk, walkFrom}
 use Rattle.compare.specs.declared.Line.the-variants.{OnlyOlder, OnlyNewer, Changed}

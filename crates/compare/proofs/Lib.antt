@@ -1,6 +1,5 @@
 -- What is proved of `compare`'s definitions, and of its functions.
 pub mod Ascending
-pub mod Bounds
 pub mod EveryComparison
 pub mod Examples
 pub mod Merging

@@ -9,8 +9,8 @@ use native.Mathlib.Omega.{arith}
 use lib.Dec.{eqb, ltb}
 use borrow.Author.Tests.{ltb-true, ltb-false, eqb-true, eqb-false}
 use Rattle.paper.specs.declared.ElementId.{ElementId}
+use Rattle.reach.specs.Pages.{countOf, elementAt, boundOf, endOf}
 use Rattle.compare.specs.Differences.{alike, absent, standing, differenceAt, differencesIn, differencesOf}
-use Rattle.compare.specs.Pages.{countOf, elementAt, boundOf, endOf}
 use Rattle.compare.specs.Promises.{Walk-gives}
 use Rattle.compare.specs.Walk.{cursor, first, keyAt, agreeAt, foundBy, stepAt, nextOf, ahead, after, walkFrom}
 use Rattle.compare.specs.declared.Cursor.{Cursor}

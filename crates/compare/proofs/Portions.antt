@@ -7,13 +7,13 @@ use lib.ListN.{length, take, drop}
 use borrow.Author.Tests.{lt-ltb, le-ltb}
 use Rattle.layout.specs.Bytes.{headerIn}
 use Rattle.layout.specs.declared.Header.{Header}
+use Rattle.reach.proofs.Bounds.{count-read}
+use Rattle.reach.specs.Pages.{countOf}
 use Rattle.words.specs.declared.Order.the-variants.{Little}
-use Rattle.compare.specs.Pages.{countOf}
 use Rattle.compare.specs.Parts.{firstPart, descriptorPart, partOf}
 use Rattle.compare.specs.declared.Cursor.{Cursor}
 use Rattle.compare.specs.declared.Line.the-variants.{OnlyOlder, OnlyNewer, Changed}
 use Rattle.compare.specs.declared.Line.{Line}
-use Rattle.compare.proofs.Bounds.{count-read}
 
 pub first-none : (s : List ℕ) → length s < 32 → [] ≡ firstPart s
 first-none s l = sym (rw (lt-ltb (length s) 32 l))

@@ -7,8 +7,8 @@ use native.Mathlib.Omega.{arith}
 use lib.Dec.{eqb, ltb}
 use borrow.Author.Tests.{eqb-true, eqb-false, ne-eqb, lt-ltb, ltb-true, ltb-false}
 use Rattle.paper.specs.declared.ElementId.{ElementId}
+use Rattle.reach.specs.Pages.{countOf}
 use Rattle.compare.specs.Differences.{absent, stands, standingIn, standing}
-use Rattle.compare.specs.Pages.{countOf}
 use Rattle.compare.specs.Walk.{keyAt}
 use Rattle.compare.proofs.Ascending.{idAt, Ascends}
 use Rattle.compare.proofs.Steps.{inside}

@@ -10,19 +10,18 @@ use borrow.Author.Tests.{eq-eqb, ne-eqb, le-leb, lt-leb, lt-ltb, le-ltb, leb-tru
 use Rattle.layout.specs.Bytes.{headerIn}
 use Rattle.layout.specs.declared.Descriptor.{Descriptor}
 use Rattle.layout.specs.declared.Header.{Header}
+use Rattle.offences.specs.Checks.{descriptorAt}
 use Rattle.paper.specs.declared.ElementId.{ElementId}
+use Rattle.reach.proofs.Bounds.{count-read}
+use Rattle.reach.specs.Pages.{countOf, elementAt, boundOf, endOf}
 use Rattle.reader.proofs.LayoutTheorem.{and-both}
-use Rattle.reader.specs.Checks.{descriptorAt}
 use Rattle.words.specs.declared.Order.the-variants.{Little}
 use Rattle.compare.specs.Differences.{alike}
-use Rattle.compare.specs.Pages.{countOf, elementAt, boundOf, endOf}
 use Rattle.compare.specs.Walk.{cursor, keyAt, agreeAt, found, foundBy, stepAt, past, nextTo, nextOf}
-use Rattle.compare.specs.declared.Bound.{Bound}
 use Rattle.compare.specs.declared.Cursor.{Cursor}
 use Rattle.compare.specs.declared.Line.the-variants.{OnlyOlder, OnlyNewer, Changed}
 use Rattle.compare.specs.declared.Step.the-variants.{Done}
 use Rattle.compare.specs.declared.Step.{Step}
-use Rattle.compare.proofs.Bounds.{count-read}
 
 -- ## A key
 
@@ -141,7 +140,7 @@ module _ (s t : List ℕ) (end : ElementId) where
   unfolding nextTo
   next-here c r is-r off x is-x = is-x ∙ ap (stepAt s t end) (sym (stays c (countOf s - c .older) (sym is-r ∙ off)))
 
-  pub next-whole : (b : Bound) → b ≡ boundOf s t → end ≡ endOf b → (c at : Cursor) → nextTo s t end c ≡ nextTo s t end at
+  pub next-whole : end ≡ endOf (boundOf s t) → (c at : Cursor) → nextTo s t end c ≡ nextTo s t end at
       → (x : Step) → x ≡ nextTo s t end at → x ≡ nextOf s t c
   unfolding nextOf
-  next-whole b is-b is-end c at inv x is-x = is-x ∙ sym inv ∙ ap (λ (e : ElementId). nextTo s t e c) (is-end ∙ ap endOf is-b)
+  next-whole is-end c at inv x is-x = is-x ∙ sym inv ∙ ap (λ (e : ElementId). nextTo s t e c) is-end

@@ -6,7 +6,7 @@ use mathlib.Core.List.{List, [], _∷_, _++_}
 use lib.Dec.{eqb}
 use Rattle.layout.specs.declared.Descriptor.{Descriptor}
 use Rattle.paper.specs.declared.ElementId.{ElementId}
-use Rattle.compare.specs.Pages.{countOf, elementAt, boundOf, endOf}
+use Rattle.reach.specs.Pages.{countOf, elementAt, boundOf, endOf}
 use Rattle.compare.specs.declared.Line.the-variants.{OnlyOlder, OnlyNewer, Changed}
 use Rattle.compare.specs.declared.Line.{Line}
 

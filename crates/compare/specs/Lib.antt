@@ -1,8 +1,6 @@
 -- Two pages compared: request 2026-01.
 
 pub mod Differences
-pub mod Opening
-pub mod Pages
 pub mod Parts
 pub mod Promises
 pub mod Walk

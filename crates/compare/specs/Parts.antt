@@ -4,8 +4,8 @@ use mathlib.Core.Bool.{cond}
 use mathlib.Core.List.{List, []}
 use lib.Dec.{ltb}
 use lib.ListN.{length, take, drop}
-use Rattle.reader.specs.Checks.{baseOf}
-use Rattle.compare.specs.Pages.{countOf}
+use Rattle.offences.specs.Checks.{baseOf}
+use Rattle.reach.specs.Pages.{countOf}
 use Rattle.compare.specs.declared.Line.the-variants.{OnlyOlder, OnlyNewer, Changed}
 use Rattle.compare.specs.declared.Line.{Line}
 

@@ -7,21 +7,16 @@ use lib.ListN.{length}
 use Rattle.layout.specs.Bytes.{descriptorIn}
 use Rattle.layout.specs.declared.Request.{Request}
 use Rattle.paper.specs.declared.ElementId.{ElementId}
+use Rattle.reach.specs.Opening.{accepted}
+use Rattle.reach.specs.Pages.{countOf, elementAt}
 use Rattle.words.specs.Lists.{Every}
 use Rattle.words.specs.declared.Order.the-variants.{Little}
 use Rattle.compare.specs.Differences.{absent, stands, standing, differencesOf}
-use Rattle.compare.specs.Opening.{heard, openOf, accepted}
-use Rattle.compare.specs.Pages.{countOf, elementAt}
 use Rattle.compare.specs.Parts.{descriptorPart, partOf}
 use Rattle.compare.specs.Walk.{first, nextOf, after, walkFrom}
 use Rattle.compare.specs.declared.Cursor.{Cursor}
 use Rattle.compare.specs.declared.Line.the-variants.{OnlyOlder, OnlyNewer, Changed}
 use Rattle.compare.specs.declared.Line.{Line}
-use Rattle.compare.specs.declared.Opening.{Opening}
-
--- no second answer fits
-abbrev pub One-opening : Type 0
-One-opening = (s t : List ℕ) (q : Request) (a b : Opening) → heard a ≡ openOf s t q → heard b ≡ openOf s t q → a ≡ b
 
 -- ## The differences
 

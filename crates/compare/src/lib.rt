@@ -3,37 +3,13 @@ ghost use mathlib.Core.Path.{_≡_};
 ghost use mathlib.Core.Bool.{true};
 ghost use Prim.Native.Nat.{_+_, _^_, _≤_, _<_};
 ghost use Rattle.compare.specs.Differences.{alike};
-ghost use Rattle.compare.specs.Opening.{heard, openOf};
-ghost use Rattle.compare.specs.Pages.{reachOf, smallest, boundOf, endOf};
 ghost use Rattle.compare.specs.Parts.{firstPart, descriptorPart, partOf};
 ghost use Rattle.compare.specs.Walk as paper;
 ghost use Rattle.compare.specs.Walk.{first, keyAt, agreeAt, foundBy, stepAt, nextOf};
-ghost use Rattle.reader.specs.Checks.{lastBefore};
-ghost use Rattle.words.specs.declared.Order.the-variants.{Little};
 use layout::Descriptor;
 use layout::Header;
-use layout::Request;
 use paper::ElementId;
-use reader::Judgement;
 use words::Order;
-
-// Which of the two pages is meant.
-pub enum Turn {
-    Older,
-    Newer,
-}
-
-// How far two pages are compared: whole, or up to an identifier, itself included.
-pub enum Bound {
-    Whole,
-    UpTo(ElementId),
-}
-
-// How far they are compared, or the first page that the reader refuses.
-pub enum Opening {
-    Accepted(Bound),
-    Refused(Turn),
-}
 
 // A place in each page: how many of its descriptors lie before.
 pub struct Cursor {
@@ -60,61 +36,6 @@ pub enum Step {
     Found(Hit),
 }
 
-// ---- Both pages
-
-// The identifier before descriptor k, 0 before the first.
-fn id_before(page: &[u8], k: u32) -> ElementId
-    ensures { λ r. ⌜ r .0 ≡ lastBefore Little (now (page .entry)) k ⌝ }
-{
-    if k == 0 {
-        return ElementId(0);
-    }
-    let last = reader::descriptor_at(page, k - 1, Order::Little);
-    last.id
-}
-
-// How far one page reaches: to its last identifier if it was cut short.
-fn reach(page: &[u8]) -> Bound
-    ensures { λ r. ⌜ r ≡ reachOf (now (page .entry)) ⌝ }
-{
-    let h = Header::read(page, Order::Little);
-    if h.number <= h.returned {
-        return Bound::Whole;
-    }
-    Bound::UpTo(id_before(page, h.returned))
-}
-
-fn smallest_of(a: Bound, b: Bound) -> Bound
-    ensures { λ r. ⌜ r ≡ smallest a b ⌝ }
-{
-    let Bound::UpTo(x) = a else {
-        return b;
-    };
-    let Bound::UpTo(y) = b else {
-        return a;
-    };
-    if x.0 < y.0 { a } else { b }
-}
-
-fn bound_of(older: &[u8], newer: &[u8]) -> Bound
-    ensures { λ r. ⌜ r ≡ boundOf (now (older .entry)) (now (newer .entry)) ⌝ }
-{
-    smallest_of(reach(older), reach(newer))
-}
-
-// Whether two pages can be compared as answers to one request, and how far.
-pub fn open(older: &[u8], newer: &[u8], request: Request) -> Opening
-    ensures { λ r. ⌜ heard r ≡ openOf (now (older .entry)) (now (newer .entry)) request ⌝ }
-{
-    if let Judgement::Refused(_) = reader::read(older, request) {
-        return Opening::Refused(Turn::Older);
-    }
-    if let Judgement::Refused(_) = reader::read(newer, request) {
-        return Opening::Refused(Turn::Newer);
-    }
-    Opening::Accepted(bound_of(older, newer))
-}
-
 // ---- The walk
 
 impl Cursor {
@@ -122,15 +43,6 @@ impl Cursor {
         ensures { λ r. ⌜ r ≡ first ⌝ }
     {
         Cursor { older: 0, newer: 0 }
-    }
-}
-
-fn end_of(b: Bound) -> ElementId
-    ensures { λ r. ⌜ r ≡ endOf b ⌝ }
-{
-    match b {
-        Bound::Whole => ElementId(0xFFFF_FFFF),
-        Bound::UpTo(id) => id,
     }
 }
 
@@ -142,7 +54,7 @@ fn key_at(page: &[u8], k: u32, end: ElementId) -> usize
     if h.returned <= k {
         return end.0 as usize + 1;
     }
-    let d = reader::descriptor_at(page, k, Order::Little);
+    let d = offences::descriptor_at(page, k, Order::Little);
     let id = d.id;
     id.0 as usize
 }
@@ -174,8 +86,8 @@ fn do_agree(older: &[u8], newer: &[u8], end: ElementId, at: Cursor) -> bool
     if (end.0 as usize) < a {
         return false;
     }
-    let d = reader::descriptor_at(older, at.older, Order::Little);
-    is_alike(d, reader::descriptor_at(newer, at.newer, Order::Little))
+    let d = offences::descriptor_at(older, at.older, Order::Little);
+    is_alike(d, offences::descriptor_at(newer, at.newer, Order::Little))
 }
 
 fn found(line: Line, older: u32, newer: u32) -> Step
@@ -219,7 +131,7 @@ fn step_at(older: &[u8], newer: &[u8], end: ElementId, at: Cursor) -> Step
 pub fn next(older: &[u8], newer: &[u8], from: Cursor) -> Step
     ensures { λ r. ⌜ r ≡ nextOf (now (older .entry)) (now (newer .entry)) from ⌝ }
 {
-    let end = end_of(bound_of(older, newer));
+    let end = reach::last_compared(older, newer);
     let mut at = from;
     while do_agree(older, newer, end, at) {
         at = Cursor {

@@ -7,19 +7,20 @@ use native.Mathlib.Omega.{arith}
 use lib.Dec.{ltb}
 use lib.ListN.{length}
 use borrow.Author.Tests.{ltb-false}
+use Rattle.changes.specs.Changes.{lastLine}
 use Rattle.compare.proofs.Ascending.{count-room}
 use Rattle.compare.proofs.Merging.{walk-gives}
 use Rattle.compare.specs.Differences.{differencesOf}
-use Rattle.compare.specs.Opening.{Values, bound, turn, openOf, accepted}
-use Rattle.compare.specs.Pages.{countOf, boundOf}
 use Rattle.compare.specs.Walk.{first, walkFrom}
-use Rattle.compare.specs.declared.Bound.{Bound}
 use Rattle.compare.specs.declared.Cursor.{Cursor}
-use Rattle.compare.specs.declared.Turn.the-variants.{Older, Newer}
-use Rattle.compare.specs.declared.Turn.{Turn}
 use Rattle.listing.specs.Listing.{requestOf}
 use Rattle.paper.specs.Told.{tells}
-use Rattle.comparison.specs.Comparison.{linesOf, lastLine, judged, differencesFor, comparisonOf, isAccepted, linesFrom}
+use Rattle.reach.specs.Opening.{Values, bound, turn, openOf, accepted}
+use Rattle.reach.specs.Pages.{countOf, boundOf}
+use Rattle.reach.specs.declared.Bound.{Bound}
+use Rattle.reach.specs.declared.Turn.the-variants.{Older, Newer}
+use Rattle.reach.specs.declared.Turn.{Turn}
+use Rattle.comparison.specs.Comparison.{linesOf, judged, differencesFor, comparisonOf, isAccepted, linesFrom}
 
 -- ## Both were accepted
 

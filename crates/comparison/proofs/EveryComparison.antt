@@ -5,19 +5,21 @@ use mathlib.Core.Path.{_≡_, refl, ap, _∙_}
 use native.Mathlib.Omega.{arith}
 use lib.ListN.{length, length-append}
 use borrow.Author.Tests.{le-ltb}
+use Rattle.changes.proofs.Lengths.{length-last}
+use Rattle.changes.specs.Changes.{lineOf, refusedLine, lastLine}
 use Rattle.compare.specs.Differences.{differencesOf}
-use Rattle.compare.specs.Opening.{Values, bound, turn}
 use Rattle.compare.specs.Walk.{first}
-use Rattle.compare.specs.declared.Bound.the-variants.{Whole, UpTo}
-use Rattle.compare.specs.declared.Bound.{Bound}
 use Rattle.compare.specs.declared.Line.the-variants.{OnlyOlder, OnlyNewer, Changed}
 use Rattle.compare.specs.declared.Line.{Line}
-use Rattle.compare.specs.declared.Turn.the-variants.{Older, Newer}
-use Rattle.compare.specs.declared.Turn.{Turn}
-use Rattle.comparison.specs.Comparison.{lineOf, linesOf, refusedLine, lastLine, judged, differencesFor, comparisonOf, statusFor, statusOf, isAccepted, linesFrom}
+use Rattle.reach.specs.Opening.{Values, bound, turn}
+use Rattle.reach.specs.declared.Bound.the-variants.{Whole, UpTo}
+use Rattle.reach.specs.declared.Bound.{Bound}
+use Rattle.reach.specs.declared.Turn.the-variants.{Older, Newer}
+use Rattle.reach.specs.declared.Turn.{Turn}
+use Rattle.comparison.specs.Comparison.{linesOf, judged, differencesFor, comparisonOf, statusFor, statusOf, isAccepted, linesFrom}
 use Rattle.comparison.specs.Promises.{Enough, Tells-status}
 use Rattle.comparison.proofs.Accepted.{by-walk}
-use Rattle.comparison.proofs.Lengths.{length-lines, length-last}
+use Rattle.comparison.proofs.Lengths.{length-lines}
 
 length-comparison : (s t : List ℕ) → length (comparisonOf s t) ≤ 160000
 length-comparison s t =

@@ -4,16 +4,17 @@ use mathlib.Core.Bool.{true, false}
 use mathlib.Core.List.{List, [], _++_}
 use mathlib.Core.Path.{_≡_, refl, ap, _∙_}
 use lib.ListN.{length, replicate}
+use Rattle.changes.specs.Changes.{handed, olderOf, lineOf, lastLine}
 use Rattle.compare.proofs.Examples.{older, newer}
-use Rattle.compare.specs.Opening.{Values, bound, accepted}
-use Rattle.compare.specs.Pages.{countOf, elementAt, reachOf, boundOf}
 use Rattle.compare.specs.Parts.{descriptorPart}
 use Rattle.compare.specs.Walk.{first, keyAt, agreeAt, stepAt, past, nextTo, nextOf, walk, walkFrom}
-use Rattle.compare.specs.declared.Bound.the-variants.{Whole, UpTo}
 use Rattle.layout.specs.Requests.{refused, takesHealth}
 use Rattle.listing.specs.Listing.{requestFor}
+use Rattle.reach.specs.Opening.{Values, bound, accepted}
+use Rattle.reach.specs.Pages.{countOf, elementAt, reachOf, boundOf}
+use Rattle.reach.specs.declared.Bound.the-variants.{Whole, UpTo}
 use Rattle.text.specs.Text.{ascii}
-use Rattle.comparison.specs.Comparison.{handed, olderOf, lineOf, lastLine, judged, comparisonOf, isAccepted, linesFrom}
+use Rattle.comparison.specs.Comparison.{judged, comparisonOf, isAccepted, linesFrom}
 use Rattle.comparison.proofs.Accepted.{by-walk}
 
 -- a page of 512 bytes

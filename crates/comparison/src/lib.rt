@@ -2,110 +2,20 @@
 ghost use mathlib.Core.Path.{_≡_};
 ghost use Prim.Native.Nat.{_^_, _≤_, _<_};
 ghost use lib.ListN.{length};
-ghost use Rattle.compare.specs.Opening.{heard};
 ghost use Rattle.compare.specs.Walk.{first};
 ghost use Rattle.comparison.specs.Comparison as paper;
 ghost use Rattle.io.specs.Counts.{Counts};
 ghost use Rattle.listing.specs.Listing.{output, printed};
 ghost use Rattle.paper.specs.Told.{said};
-ghost use Rattle.text.specs.Text.{nothing, written};
+ghost use Rattle.reach.specs.Opening.{heard};
 ghost use Rattle.words.specs.Lists.{stored};
-use compare::Bound;
 use compare::Cursor;
-use compare::Line;
-use compare::Opening;
 use compare::Step;
-use compare::Turn;
-use layout::Descriptor;
 use listing::Printed;
 use paper::Answer;
-use paper::ElementId;
 use paper::PageCount;
-use text::Text;
-use words::Order;
-
-// ---- A difference's line
-
-// The descriptor that a line hands out.
-fn handed<'a>(older: &'a [u8], newer: &'a [u8], line: Line) -> Descriptor
-    ensures { λ r. ⌜ r ≡ paper.handed (now (older .entry)) (now (newer .entry)) line ⌝ }
-{
-    Descriptor::read(compare::part(older, newer, line), Order::Little)
-}
-
-// A sign, then the element as the listing has it.
-fn signed(sign: &[u8], d: Descriptor) -> Text
-    ensures { λ r. ⌜ r ≡ written nothing (paper.signed (now (sign .entry)) d) ⌝ }
-{
-    let t = Text::nothing().word(sign).hex8(d.id.0).word(b" ");
-    listing::write_values(t, d)
-}
-
-// The newer values, then the older after an arrow.
-fn changed(d: Descriptor, old: Descriptor) -> Text
-    ensures { λ r. ⌜ r ≡ written nothing (paper.changed d old) ⌝ }
-{
-    let t = signed(b"~ ", d).word(b" <- ");
-    listing::write_values(t, old)
-}
-
-// What a line says, without its end.
-fn body_of<'a>(older: &'a [u8], newer: &'a [u8], line: Line) -> Text
-    ensures { λ r. ⌜ r ≡ written nothing (paper.bodyOf (now (older .entry)) (now (newer .entry)) line) ⌝ }
-{
-    let d = handed(older, newer, line);
-    match line {
-        Line::OnlyOlder(_) => signed(b"- ", d),
-        Line::OnlyNewer(_) => signed(b"+ ", d),
-        Line::Changed(at) => changed(d, handed(older, newer, Line::OnlyOlder(at.older))),
-    }
-}
-
-fn line_of<'a>(older: &'a [u8], newer: &'a [u8], line: Line) -> Text
-    ensures { λ r. ⌜ r ≡ written nothing (paper.lineOf (now (older .entry)) (now (newer .entry)) line) ⌝ }
-{
-    body_of(older, newer, line).word(b"\n")
-}
-
-// ---- The last line
-
-fn bound_line(id: ElementId) -> Text
-    ensures { λ r. ⌜ r ≡ written nothing (paper.boundLine (id .0)) ⌝ }
-{
-    Text::nothing()
-        .word(b"compared up to ")
-        .hex8(id.0)
-        .word(b"\n")
-}
-
-fn refused_line(turn: Turn) -> Text
-    ensures { λ r. ⌜ r ≡ written nothing (paper.refusedLine turn) ⌝ }
-{
-    match turn {
-        Turn::Older => Text::nothing().word(b"refused 9 older\n"),
-        Turn::Newer => Text::nothing().word(b"refused 9 newer\n"),
-    }
-}
-
-fn reach_line(bound: Bound) -> Text
-    ensures { λ r. ⌜ r ≡ written nothing (paper.reachLine bound) ⌝ }
-{
-    match bound {
-        Bound::Whole => Text::nothing(),
-        Bound::UpTo(id) => bound_line(id),
-    }
-}
-
-fn last_line(opening: Opening) -> Text
-    ensures { λ r. ⌜ r ≡ written nothing (paper.lastLine (heard opening .state)) ⌝ }
-{
-    match opening {
-        Opening::Accepted(bound) => reach_line(bound),
-        Opening::Refused(turn) => refused_line(turn),
-    }
-}
-
-// ---- The whole text
+use reach::Opening;
+use reach::Turn;
 
 // Both pages as answers to the listing's request, with as many pages as the older has.
 fn judge(older: &[u8], newer: &[u8]) -> Opening
@@ -115,7 +25,7 @@ fn judge(older: &[u8], newer: &[u8]) -> Opening
         return Opening::Refused(Turn::Older);
     }
     let pages = PageCount((older.len() / 512) as u16);
-    compare::open(older, newer, listing::request_for(pages))
+    reach::open(older, newer, listing::request_for(pages))
 }
 
 fn is_accepted(opening: Opening) -> bool
@@ -151,7 +61,7 @@ fn measure<'a>(older: &'a [u8], newer: &'a [u8], accepted: bool) -> usize
             return size;
         };
         let difference = hit.line;
-        let line = line_of(older, newer, difference);
+        let line = changes::line_of(older, newer, difference);
         size += line.len;
         at = hit.next;
     }
@@ -170,7 +80,7 @@ fn put_lines<'a>(older: &'a [u8], newer: &'a [u8], accepted: bool, out: &mut [u8
             return;
         };
         let difference = hit.line;
-        let line = line_of(older, newer, difference);
+        let line = changes::line_of(older, newer, difference);
         line.put(out, size);
         size += line.len;
         at = hit.next;
@@ -184,7 +94,7 @@ pub fn write<'a>(older: &'a [u8], newer: &'a [u8], out: &mut [u8]) -> Printed
 {
     let opening = judge(older, newer);
     let accepted = is_accepted(opening);
-    let last = last_line(opening);
+    let last = changes::last_line(opening);
     let lines = measure(older, newer, accepted);
     let size = lines + last.len;
     if out.len() < size {

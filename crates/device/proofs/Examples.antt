@@ -6,10 +6,11 @@ use Rattle.cells.specs.Sights.{seeIn}
 use Rattle.layout.specs.Requests.{refused}
 use Rattle.offer.specs.Check.{good}
 use Rattle.offer.specs.Examples.{offerA}
+use Rattle.open.specs.Open.{isOpen}
 use Rattle.paper.specs.Told.{tells}
 use Rattle.table.specs.Search.{sightIn}
 use Rattle.words.specs.Lists.{all}
-use Rattle.device.specs.Commands.{isOpen, mediaNumber, otherNumber}
+use Rattle.device.specs.Commands.{mediaNumber, otherNumber}
 use Rattle.device.specs.Examples.{deviceA, holds, rows, removals, others}
 use Rattle.device.specs.Making.{fresh, madeOf}
 use Rattle.removal.specs.Remove.{judgeRoom, judgeFound}

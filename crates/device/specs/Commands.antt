@@ -1,11 +1,12 @@
 -- Document 01, "The other commands" and the checks of "GET PHYSICAL ELEMENT STATUS (12h)": the numbers; no store is made.
-use Prim.Native.Nat.{ℕ, _+_, _*_, _%_, _^_}
+use Prim.Native.Nat.{ℕ, _+_, _*_}
 use mathlib.Core.Bool.{Bool, cond, not, _&&_, _||_}
 use mathlib.Core.List.{[], _∷_}
 use lib.Dec.{ltb, eqb}
 use Rattle.cells.specs.Cells.{isSet, busyNumber, failedNumber}
 use Rattle.layout.specs.Requests.{refused, pagesOf}
 use Rattle.layout.specs.declared.Request.{Request}
+use Rattle.open.specs.Open.{isOpen}
 use Rattle.paper.specs.Registers.{Registers, low48}
 use Rattle.paper.specs.Table12.{aborts}
 use Rattle.paper.specs.declared.Lba.{Lba}
@@ -33,24 +34,6 @@ isMedia code = oneOf code (0x24 ∷ 0x25 ∷ 0x34 ∷ 0x35 ∷ 0x42 ∷ [])
 -- "ECh; E1h; 2Fh and 47h (log address LBA 7:0); 0Bh; F2h; EFh and B0h (subcommand FEATURE 7:0)"
 abbrev pub isNamed : ℕ → Bool
 isNamed code = isMedia code || oneOf code (0xEC ∷ 0xE1 ∷ 0x2F ∷ 0x47 ∷ 0x0B ∷ 0xF2 ∷ 0xEF ∷ 0xB0 ∷ [])
-
-abbrev pub logOf : ℕ → ℕ
-logOf lba = lba % 2 ^ 8
-
-abbrev pub subcommandOf : ℕ → ℕ
-subcommandOf feature = feature % 2 ^ 8
-
--- "Open during a removal (002): ECh; E1h in any form; 2Fh and 47h for logs 04h, 10h, 30h, E0h; 0Bh; F2h; EFh with 07h; B0h with D5h for
--- logs 30h, E0h (LBA 7:0), or with DAh"
-unfoldable pub isOpen : ℕ → ℕ → ℕ → Bool
-isOpen code feature lba =
-    eqb code 0xEC
-    || eqb code 0xE1
-    || (oneOf code (0x2F ∷ 0x47 ∷ []) && oneOf (logOf lba) (0x04 ∷ 0x10 ∷ 0x30 ∷ 0xE0 ∷ []))
-    || eqb code 0x0B
-    || eqb code 0xF2
-    || (eqb code 0xEF && eqb (subcommandOf feature) 0x07)
-    || (eqb code 0xB0 && ((eqb (subcommandOf feature) 0xD5 && oneOf (logOf lba) (0x30 ∷ 0xE0 ∷ [])) || eqb (subcommandOf feature) 0xDA))
 
 -- "COUNT 0 means 65,536 sectors"
 abbrev pub sectorsOf : ℕ → ℕ

@@ -1,11 +1,11 @@
 -- The device that the front call leaves is the one that its event tells.
 use Prim.Native.Nat.{ℕ, min}
 use mathlib.Core.Path.{_≡_, ap, _∙_}
+use Rattle.arguments.specs.declared.Command.{Command}
 use Rattle.device.specs.Machine.{told}
 use Rattle.device.specs.declared.Device.{Device}
 use Rattle.paper.specs.Told.{Told, said}
 use Rattle.paper.specs.declared.Answer.{Answer}
-use Rattle.script.specs.declared.Command.{Command}
 use Rattle.front.specs.Front.{eventOf, deviceAfter}
 
 pub device-told : (d : Device) (c : Command) (room : ℕ) (a : Answer) (e : Device) → said a e ≡ told d (eventOf c room) → e ≡ deviceAfter d c room

@@ -1,8 +1,8 @@
 -- docs/BENCH.md, "`command STATE CODE FEATURE COUNT LBA LENGTH`: the front call".
 use Prim.Native.Nat.{ℕ}
+use Rattle.arguments.specs.declared.Command.{Command}
 use Rattle.device.specs.Machine.{Event, command, told}
 use Rattle.device.specs.declared.Device.{Device}
-use Rattle.script.specs.declared.Command.{Command}
 
 -- the event that a line of the language is, over a lent buffer of `room` bytes
 abbrev pub eventOf : Command → ℕ → Event

@@ -5,13 +5,13 @@ ghost use lib.ListN.{length};
 ghost use Rattle.device.specs.Machine.{told};
 ghost use Rattle.paper.specs.Told.{said};
 ghost use Rattle.front.specs.Front.{eventOf, deviceAfter};
+use arguments::Command;
 use device::Device;
 use device::Stepped;
 use paper::Answer;
 use print::print_answer;
 use print::print_page;
 use print::print_touched;
-use script::Command;
 
 // What the call leaves: the device, and how many bytes of the page are kept.
 pub struct Left {

@@ -3,8 +3,8 @@ use Prim.Native.Nat.{ℕ, _≤_, _<_}
 use mathlib.Core.List.{List, [], _∷_}
 use mathlib.Core.Path.{_≡_, sym, _∙_}
 use borrow.Author.Tests.{le-leb, lt-leb}
-use Rattle.script.specs.declared.PageCall.{PageCall}
-use Rattle.script.specs.declared.Poke.{Poke}
+use Rattle.arguments.specs.declared.PageCall.{PageCall}
+use Rattle.arguments.specs.declared.Poke.{Poke}
 use Rattle.words.specs.Lists.{stored}
 use Rattle.kept.specs.Kept.{lengthened, poked, keptAfter, pageAfter}
 

@@ -4,9 +4,9 @@ use mathlib.Core.Bool.{cond}
 use mathlib.Core.List.{List, [], _∷_}
 use lib.Dec.{leb}
 use lib.ListN.{length, replicate}
-use Rattle.script.specs.declared.PageCall.the-variants as calls
-use Rattle.script.specs.declared.PageCall.{PageCall}
-use Rattle.script.specs.declared.Poke.{Poke}
+use Rattle.arguments.specs.declared.PageCall.the-variants as calls
+use Rattle.arguments.specs.declared.PageCall.{PageCall}
+use Rattle.arguments.specs.declared.Poke.{Poke}
 use Rattle.words.specs.Lists.{stored}
 
 -- "`length LENGTH` cuts it or lengthens it with zeros"

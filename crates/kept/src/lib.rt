@@ -3,6 +3,8 @@ ghost use mathlib.Core.Path.{_≡_};
 ghost use Prim.Native.Nat.{_≤_, min};
 ghost use lib.ListN.{length};
 ghost use Rattle.kept.specs.Kept.{lengthened, poked, keptAfter, pageAfter};
+use arguments::PageCall;
+use arguments::Poke;
 use layout::Descriptor;
 use layout::Header;
 use layout::Request;
@@ -11,8 +13,6 @@ use print::print_number;
 use print::print_words;
 use reader::Judgement;
 use reader::Slot;
-use script::PageCall;
-use script::Poke;
 use text::Text;
 
 fn clear(page: &mut [u8], from: usize, to: usize)
@@ -52,7 +52,7 @@ fn print_descriptor(d: Descriptor) {
         .hex8(d.id.0)
         .field(b" ", words::bit(d.restorable) as u64)
         .word(b" ");
-    print_line(listing::write_values(text, d));
+    print_line(rows::write_values(text, d));
 }
 
 fn print_slot(slot: Slot) {
@@ -63,7 +63,7 @@ fn print_slot(slot: Slot) {
 
 fn print_contents(page: &[u8], h: Header) {
     print_words(b"0");
-    print_line(listing::write_header(Text::nothing(), h));
+    print_line(rows::write_header(Text::nothing(), h));
     for k in 0..h.returned {
         print_slot(reader::descriptor(page, k));
     }

@@ -1,5 +1,3 @@
--- A script's lines: their words and numbers, and lines put together from pieces of input.
+-- A line of a script: its words and numbers.
 pub mod Numbers
 pub mod Parts
-pub mod Pieces
-pub mod Promises

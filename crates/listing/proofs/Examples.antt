@@ -8,11 +8,12 @@ use Rattle.layout.specs.Bytes.{allOnes}
 use Rattle.layout.specs.Requests.{refused, takesHealth}
 use Rattle.layout.specs.declared.Descriptor.{Descriptor}
 use Rattle.layout.specs.declared.Header.{Header}
-use Rattle.reader.specs.Checks.{descriptorAt}
+use Rattle.offences.specs.Checks.{descriptorAt}
 use Rattle.reader.specs.Judgement.{Values, header}
+use Rattle.rows.specs.Rows.{descriptorLine, headerLine}
 use Rattle.text.specs.Text.{ascii}
 use Rattle.words.specs.declared.Order.the-variants.{Little}
-use Rattle.listing.specs.Listing.{descriptorLine, headerLine, linesBelow, judged, firstLine, lineCount, listingOf}
+use Rattle.listing.specs.Listing.{linesBelow, judged, firstLine, lineCount, listingOf}
 
 abbrev zeros : ℕ → List ℕ
 zeros n = replicate n 0

@@ -1,43 +1,34 @@
 -- Laws of the listing: one for each way out of a function, and one for each turn of a loop.
 use Prim.Native.Nat.{ℕ, zero, suc, _+_, _*_, _^_, _≤_, _<_}
-use mathlib.Core.Bool.{Bool, true, false, cond}
+use mathlib.Core.Bool.{Bool, true, false}
 use mathlib.Core.List.{List, _++_}
 use mathlib.Core.Path.{_≡_, refl, sym, ap, _∙_}
 use native.Mathlib.Numerals.{add-one}
 use native.Mathlib.Omega.{arith}
-use lib.Dec.{eqb, leb}
+use lib.Dec.{leb}
 use lib.ListN.{length, drop, length-append}
-use borrow.Author.Tests.{leb-true, leb-false, lt-ltb, le-ltb, eq-eqb, ne-eqb}
+use borrow.Author.Tests.{leb-true, leb-false, lt-ltb, le-ltb}
 use Rattle.io.specs.Counts.{Counts}
-use Rattle.layout.specs.Bytes.{allOnes}
-use Rattle.layout.specs.declared.Descriptor.{Descriptor}
 use Rattle.layout.specs.declared.Header.{Header}
 use Rattle.layout.specs.declared.Request.{Request}
+use Rattle.offences.specs.Checks.{descriptorAt}
 use Rattle.paper.specs.Told.{tells, said}
 use Rattle.paper.specs.declared.Answer.the-variants.{Done, SmallBuffer}
-use Rattle.reader.specs.Checks.{descriptorAt}
 use Rattle.reader.specs.Judgement.{Values, header, place, heard, readOf}
 use Rattle.reader.specs.declared.Judgement.the-variants.{Accepted, Refused}
 use Rattle.reader.specs.declared.Judgement.{Judgement}
-use Rattle.text.proofs.Digits.{length-decimal}
+use Rattle.rows.proofs.Rows.{length-line, length-header, length-refused}
+use Rattle.rows.specs.Rows.{descriptorLine, headerLine, refusedLine}
 use Rattle.text.proofs.Written.{len-written, held-written}
-use Rattle.text.specs.Digits.{decimalOf}
-use Rattle.text.specs.Text.{ascii, nothing, written, held}
+use Rattle.text.specs.Text.{nothing, written, held}
 use Rattle.text.specs.declared.Text.{Text}
 use Rattle.words.proofs.Lists.{stored-more, stored-two}
 use Rattle.words.specs.Lists.{stored}
 use Rattle.words.specs.declared.Order.the-variants.{Little}
-use Rattle.listing.specs.Listing.{capacityOf, valuesOf, descriptorLine, headerLine, refusedLine, linesBelow, requestOf, judged, firstLine, lineCount, listingOf, output, listed}
+use Rattle.listing.specs.Listing.{linesBelow, requestOf, judged, firstLine, lineCount, listingOf, output, listed}
 use Rattle.listing.proofs.Printing.{printed-small, printed-done, printed-counts}
 
--- ## The lines
-
-module _ (t r : Text) (n : ℕ) where
-  pub capacity-unreported : n ≡ allOnes → r ≡ written t (ascii "-") → r ≡ written t (capacityOf n)
-  capacity-unreported e h = h ∙ sym (rw (eq-eqb n allOnes e))
-
-  pub capacity-known : (n ≡ allOnes → ⊥) → r ≡ written t (decimalOf n) → r ≡ written t (capacityOf n)
-  capacity-known e h = h ∙ sym (rw (ne-eqb n allOnes e))
+-- ## The first line
 
 module _ (answer : Judgement) (t : Text) where
   pub first-accepted : (h : Header) → answer ≡ Accepted h → t ≡ written nothing (headerLine h) → t ≡ written nothing (firstLine (heard answer .state))
@@ -56,27 +47,6 @@ module _ (s : List ℕ) where
   input-read h q is-q r e = e ∙ rw is-q (sym (rw (le-ltb _ _ h)))
 
 -- ## How long
-
-length-capacity : (n : ℕ) → length (capacityOf n) ≤ 20
-length-capacity n = by-test (eqb n allOnes)
-  where
-    by-test : (t : Bool) → length (cond t (ascii "-") (decimalOf n)) ≤ 20
-    by-test true = omega arith
-    by-test false = length-decimal n
-
-pub length-values : (d : Descriptor) → length (valuesOf d) ≤ 26
-length-values d = simp length-append (omega (arith, length-capacity (d .capacity)))
-
-pub length-line : (d : Descriptor) → length (descriptorLine d) ≤ 36
-length-line d = simp length-append (omega (arith, length-capacity (d .capacity)))
-
-length-header : (h : Header) → length (headerLine h) ≤ 128
-length-header h =
-    simp length-append
-    (omega (arith, length-decimal (h .number), length-decimal (h .returned), length-decimal (h .limit), length-decimal (h .removed)))
-
-length-refused : (p : ℕ) → length (refusedLine p) ≤ 128
-length-refused p = simp length-append (omega (arith, length-decimal p))
 
 pub length-first : (v : Values) → length (firstLine v) ≤ 128
 length-first (header h) = length-header h

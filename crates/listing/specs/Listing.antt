@@ -2,48 +2,16 @@
 use Prim.Native.Nat.{ℕ, zero, suc, _/_}
 use mathlib.Core.Bool.{cond}
 use mathlib.Core.List.{List, [], _++_}
-use lib.Dec.{eqb, ltb}
+use lib.Dec.{ltb}
 use lib.ListN.{length, drop}
-use Rattle.layout.specs.Bytes.{allOnes}
-use Rattle.layout.specs.declared.Descriptor.{Descriptor}
-use Rattle.layout.specs.declared.Header.{Header}
 use Rattle.layout.specs.declared.Request.{Request}
+use Rattle.offences.specs.Checks.{descriptorAt}
 use Rattle.paper.specs.Told.{Told, tells}
-use Rattle.reader.specs.Checks.{descriptorAt}
 use Rattle.reader.specs.Judgement.{Values, header, place, readOf}
-use Rattle.text.specs.Digits.{digits, decimalOf}
-use Rattle.text.specs.Text.{ascii}
+use Rattle.rows.specs.Rows.{descriptorLine, headerLine, refusedLine}
 use Rattle.words.specs.declared.Order.the-variants.{Little}
 
 -- ## The lines
-
--- "then capacity, `-` for all ones"
-abbrev pub capacityOf : ℕ → List ℕ
-capacityOf n = cond (eqb n allOnes) (ascii "-") (decimalOf n)
-
--- type and health in upper hexadecimal, and the capacity
-abbrev pub valuesOf : Descriptor → List ℕ
-valuesOf d = digits 16 2 (d .kind) ++ ascii " " ++ digits 16 2 (d .health) ++ ascii " " ++ capacityOf (d .capacity)
-
--- "a line for each descriptor (identifier, type, health in upper hex, then capacity ..)"
-abbrev pub descriptorLine : Descriptor → List ℕ
-descriptorLine d = digits 16 8 (d .id .0) ++ ascii " " ++ valuesOf d ++ ascii "\n"
-
--- "number 1 returned 1 busy 00000000 limit 2 removed 0"
-abbrev pub headerOf : Header → List ℕ
-headerOf h =
-    (ascii "number " ++ decimalOf (h .number))
-    ++ (ascii " returned " ++ decimalOf (h .returned))
-    ++ ascii " busy " ++ digits 16 8 (h .busy .0)
-    ++ (ascii " limit " ++ decimalOf (h .limit))
-    ++ (ascii " removed " ++ decimalOf (h .removed))
-
-abbrev pub headerLine : Header → List ℕ
-headerLine h = headerOf h ++ ascii "\n"
-
--- "or `refused 9 at ` and the place"
-abbrev pub refusedLine : ℕ → List ℕ
-refusedLine p = ascii "refused 9 at " ++ decimalOf p ++ ascii "\n"
 
 -- the lines of the first n descriptors
 abbrev pub linesBelow : List ℕ → ℕ → List ℕ

@@ -3,15 +3,14 @@ ghost use mathlib.Core.Path.{_≡_};
 ghost use Prim.Native.Nat.{_+_, _≤_};
 ghost use lib.ListN.{length};
 ghost use Rattle.io.specs.Counts.{Counts};
+ghost use Rattle.offences.specs.Checks.{descriptorAt};
 ghost use Rattle.paper.specs.Told.{said};
-ghost use Rattle.reader.specs.Checks.{descriptorAt};
 ghost use Rattle.reader.specs.Judgement.{heard};
+ghost use Rattle.rows.specs.Rows.{descriptorLine};
 ghost use Rattle.text.specs.Text.{nothing, written};
 ghost use Rattle.words.specs.Lists.{stored};
 ghost use Rattle.words.specs.declared.Order.the-variants.{Little};
-ghost use Rattle.listing.specs.Listing.{capacityOf, valuesOf, descriptorLine, headerOf, headerLine, refusedLine, linesBelow, requestFor, judged, firstLine, lineCount, output, listed};
-use layout::Descriptor;
-use layout::Header;
+ghost use Rattle.listing.specs.Listing.{linesBelow, requestFor, judged, firstLine, lineCount, output, listed};
 use layout::Request;
 use paper::Answer;
 use paper::Lba;
@@ -24,57 +23,6 @@ use words::Order;
 pub struct Printed {
     pub answer: Answer,
     pub count: usize,
-}
-
-// A capacity after a text.
-fn write_capacity(t: Text, capacity: u64) -> Text
-    ensures { λ r. ⌜ r ≡ written t (capacityOf capacity) ⌝ }
-{
-    if capacity == 0xFFFF_FFFF_FFFF_FFFF {
-        return t.word(b"-");
-    }
-    t.decimal(capacity)
-}
-
-// An element's type, health and capacity after a text.
-pub fn write_values(t: Text, d: Descriptor) -> Text
-    ensures { λ r. ⌜ r ≡ written t (valuesOf d) ⌝ }
-{
-    let begun = t.hex2(d.kind).word(b" ").hex2(d.health).word(b" ");
-    write_capacity(begun, d.capacity)
-}
-
-fn descriptor_line(d: Descriptor) -> Text
-    ensures { λ r. ⌜ r ≡ written nothing (descriptorLine d) ⌝ }
-{
-    let t = Text::nothing().hex8(d.id.0).word(b" ");
-    write_values(t, d).word(b"\n")
-}
-
-// The header's numbers after a text.
-pub fn write_header(t: Text, h: Header) -> Text
-    ensures { λ r. ⌜ r ≡ written t (headerOf h) ⌝ }
-{
-    t.field(b"number ", h.number as u64)
-        .field(b" returned ", h.returned as u64)
-        .word(b" busy ")
-        .hex8(h.busy.0)
-        .field(b" limit ", h.limit as u64)
-        .field(b" removed ", h.removed as u64)
-}
-
-fn header_line(h: Header) -> Text
-    ensures { λ r. ⌜ r ≡ written nothing (headerLine h) ⌝ }
-{
-    write_header(Text::nothing(), h).word(b"\n")
-}
-
-fn refused_line(place: usize) -> Text
-    ensures { λ r. ⌜ r ≡ written nothing (refusedLine place) ⌝ }
-{
-    Text::nothing()
-        .field(b"refused 9 at ", place as u64)
-        .word(b"\n")
 }
 
 // What an input of so many pages is read as an answer to.
@@ -104,8 +52,8 @@ fn first_line(answer: Judgement) -> Text
     ensures { λ r. ⌜ r ≡ written nothing (firstLine (heard answer .state)) ⌝ }
 {
     match answer {
-        Judgement::Accepted(h) => header_line(h),
-        Judgement::Refused(place) => refused_line(place),
+        Judgement::Accepted(h) => rows::header_line(h),
+        Judgement::Refused(place) => rows::refused_line(place),
     }
 }
 
@@ -121,7 +69,7 @@ fn line_count(answer: Judgement) -> u32
 fn line_at(input: &[u8], k: u32) -> Text
     ensures { λ r. ⌜ r ≡ written nothing (descriptorLine (descriptorAt Little (now (input .entry)) k)) ⌝ }
 {
-    descriptor_line(reader::descriptor_at(input, k, Order::Little))
+    rows::descriptor_line(offences::descriptor_at(input, k, Order::Little))
 }
 
 // How long the lines of the first `count` descriptors are.

@@ -4,15 +4,16 @@ use mathlib.Core.Bool.{false}
 use mathlib.Core.List.{_++_}
 use mathlib.Core.Path.{_≡_, refl}
 use lib.ListN.{replicate}
+use Rattle.arguments.specs.Calls.{stateOf, askedAt, elementOf, makeOf, commandOf, gradeOf, lengthOf}
+use Rattle.arguments.specs.declared.Bare.the-variants.{Step}
+use Rattle.arguments.specs.declared.Line.the-variants.{Passed, NotACall, Element, Make, Command, Bare, Grade, Page}
+use Rattle.arguments.specs.declared.Line.{Line}
+use Rattle.arguments.specs.declared.PageCall.the-variants.{Length}
 use Rattle.lines.specs.Numbers.{fieldOf, fieldAt}
 use Rattle.lines.specs.Parts.{wordAt, same, named}
 use Rattle.paper.specs.declared.Security.the-variants.{Unlocked}
 use Rattle.text.specs.Text.{ascii}
-use Rattle.script.specs.Calls.{stateOf, askedAt, elementOf, makeOf, commandOf, gradeOf, lengthOf, pageCall, resetCall, eventCall, deviceCall, lineOf}
-use Rattle.script.specs.declared.Bare.the-variants.{Step}
-use Rattle.script.specs.declared.Line.the-variants.{Passed, NotACall, Element, Make, Command, Bare, Grade, Page}
-use Rattle.script.specs.declared.Line.{Line}
-use Rattle.script.specs.declared.PageCall.the-variants.{Length}
+use Rattle.script.specs.Names.{pageCall, resetCall, eventCall, deviceCall, lineOf}
 
 abbrev Says : String → Line → Type 0
 Says line call = lineOf (ascii line) ≡ call

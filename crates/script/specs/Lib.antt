@@ -1,3 +1,3 @@
--- The bench language: the calls that lines are.
-pub mod Calls
+-- The bench language: what a line says.
+pub mod Names
 pub mod Promises

@@ -2,8 +2,8 @@
 use Prim.Native.Nat.{ℕ}
 use mathlib.Core.List.{List}
 use mathlib.Core.Path.{_≡_}
-use Rattle.lines.specs.Pieces.{nothing, gathered}
-use Rattle.script.specs.Calls.{lineOf, meaningOf}
+use Rattle.pieces.specs.Pieces.{nothing, gathered}
+use Rattle.script.specs.Names.{lineOf, meaningOf}
 
 -- what was gathered of a line says what the line says, however long it is
 abbrev pub Says-its-bytes : Type 0

@@ -1,72 +1,116 @@
 // The bench language: what a line of a script says.
-mod calls;
+ghost use mathlib.Core.Path.{_≡_};
+ghost use Rattle.script.specs.Names as spec;
+use arguments::Bare;
+use arguments::Line;
+use arguments::calls::command;
+use arguments::calls::element;
+use arguments::calls::grade;
+use arguments::calls::length;
+use arguments::calls::make;
+use arguments::calls::poke;
+use arguments::calls::read;
+use lines::is_named;
+use pieces::Gathered;
+use pieces::is_long;
 
-pub use calls::meaning;
-pub use calls::meaning_of;
-use layout::Request;
-use offer::Element;
-use paper::ElementId;
-use paper::Lba;
-use paper::Security;
-
-// A security state that a word names, and whether it names one.
-struct State {
-    fits: bool,
-    security: Security,
+fn page_call(line: &[u8]) -> Line
+    ensures { λ r. ⌜ r ≡ spec.pageCall (now (line .entry)) ⌝ }
+{
+    if is_named(line, b"length", 2) {
+        return length(line);
+    }
+    if is_named(line, b"poke", 3) {
+        return poke(line);
+    }
+    if is_named(line, b"read", 4) {
+        return read(line);
+    }
+    Line::NotACall
 }
 
-// FEATURE, COUNT and LBA, and whether each fits its field.
-struct Asked {
-    fits: bool,
-    request: Request,
+fn reset_call(line: &[u8]) -> Line
+    ensures { λ r. ⌜ r ≡ spec.resetCall (now (line .entry)) ⌝ }
+{
+    if is_named(line, b"comreset", 1) {
+        return Line::Bare(Bare::Comreset);
+    }
+    if is_named(line, b"hardreset", 1) {
+        return Line::Bare(Bare::Hardreset);
+    }
+    if is_named(line, b"softreset", 1) {
+        return Line::Bare(Bare::Softreset);
+    }
+    page_call(line)
 }
 
-// The front call, with the length of the buffer that is lent.
-pub struct Command {
-    pub security: Security,
-    pub code: u8,
-    pub feature: u16,
-    pub count: u16,
-    pub lba: Lba,
-    pub length: usize,
+fn event_call(line: &[u8]) -> Line
+    ensures { λ r. ⌜ r ≡ spec.eventCall (now (line .entry)) ⌝ }
+{
+    if is_named(line, b"step", 1) {
+        return Line::Bare(Bare::Step);
+    }
+    if is_named(line, b"error", 1) {
+        return Line::Bare(Bare::Error);
+    }
+    if is_named(line, b"cut", 1) {
+        return Line::Bare(Bare::Cut);
+    }
+    if is_named(line, b"grade", 3) {
+        return grade(line);
+    }
+    reset_call(line)
 }
 
-pub struct Grade {
-    pub id: ElementId,
-    pub health: u8,
+fn device_call(line: &[u8]) -> Line
+    ensures { λ r. ⌜ r ≡ spec.deviceCall (now (line .entry)) ⌝ }
+{
+    if is_named(line, b"element", 6) {
+        return element(line);
+    }
+    if is_named(line, b"make", 2) {
+        return make(line);
+    }
+    if is_named(line, b"command", 7) {
+        return command(line);
+    }
+    if is_named(line, b"cells", 1) {
+        return Line::Cells;
+    }
+    event_call(line)
 }
 
-pub struct Poke {
-    pub place: usize,
-    pub byte: u8,
+fn is_passed(line: &[u8]) -> bool
+    ensures { λ r. ⌜ r ≡ spec.isPassed (now (line .entry)) ⌝ }
+{
+    let first = lines::word_at(line, 0);
+    if first.len() == 0 {
+        return true;
+    }
+    first[0] == b'#'
 }
 
-// An event of the device that carries no value.
-pub enum Bare {
-    Step,
-    Error,
-    Cut,
-    Comreset,
-    Hardreset,
-    Softreset,
+// Of a line without its newline.
+pub fn meaning(line: &[u8]) -> Line
+    ensures { λ r. ⌜ r ≡ spec.lineOf (now (line .entry)) ⌝ }
+{
+    if is_long(line) {
+        return Line::NotACall;
+    }
+    if is_passed(line) {
+        return Line::Passed;
+    }
+    device_call(line)
 }
 
-// A call on the kept page.
-pub enum PageCall {
-    Length(usize),
-    Poke(Poke),
-    Read(Request),
-}
-
-// What a line says.
-pub enum Line {
-    Passed,
-    NotACall,
-    Element(Element),
-    Make(u16),
-    Command(Command),
-    Bare(Bare),
-    Grade(Grade),
-    Cells,
-    Page(PageCall),
+// Of a line as it was gathered.
+pub fn meaning_of(line: Gathered) -> Line
+    ensures { λ r. ⌜ r ≡ spec.meaningOf line ⌝ }
+{
+    let len = line.len;
+    if 200 < len {
+        return Line::NotACall;
+    }
+    let bytes = line.bytes;
+    meaning(&bytes[..len])
 }

@@ -1,6 +1,11 @@
 // What a script has on its bench, and its calls. No contract can say what they print.
 ghost use mathlib.Core.Path.{_≡_};
 ghost use Rattle.workbench.specs.Empty as spec;
+use arguments::Bare;
+use arguments::Command;
+use arguments::Grade;
+use arguments::Line;
+use arguments::PageCall;
 use cells::Cells;
 use cells::Mark;
 use cells::Note;
@@ -12,11 +17,6 @@ use offer::Offer;
 use paper::Lba;
 use print::print_answer;
 use print::print_cells;
-use script::Bare;
-use script::Command;
-use script::Grade;
-use script::Line;
-use script::PageCall;
 use table::Table;
 
 // The offered list, the device and whether one was made, and how many bytes the kept page has, which is lent to each call.

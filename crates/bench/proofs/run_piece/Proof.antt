@@ -3,7 +3,7 @@ use Prim.Native.Nat.{_-_}
 use mathlib.Core.Path.{_≡_}
 use lib.ListN.{length}
 use borrow.Author.Needs.{needs}
-use Rattle.lines.proofs.EveryLine.{taken-further}
+use Rattle.pieces.proofs.EveryLine.{taken-further}
 use Rattle.bench.proofs.run_piece.Statement.{statement}
 use Rattle.bench.proofs.run_piece.Tie as tie
 

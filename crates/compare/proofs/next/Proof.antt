@@ -3,7 +3,7 @@ use Prim.Native.Nat.{_-_}
 use mathlib.Core.Path.{_≡_, refl}
 use native.Mathlib.Omega.{arith}
 use borrow.Author.Needs.{needs}
-use Rattle.compare.specs.Pages.{countOf}
+use Rattle.reach.specs.Pages.{countOf}
 use Rattle.compare.specs.Walk.{nextTo}
 use Rattle.compare.proofs.Steps.{turn-less, turn-again, next-here, next-whole}
 use Rattle.compare.proofs.next.Statement.{statement}
@@ -21,7 +21,6 @@ next-spec =
     (tie.spec
     Inv-loop
     μ-loop
-    (λ c κs. search needs)
     (λ c κs. search needs)
     (λ c. refl)
     (λ c κs. search needs)

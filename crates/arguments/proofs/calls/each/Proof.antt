@@ -1,0 +1,12 @@
+-- `arguments::calls::each`.
+use borrow.Author.Needs.{needs}
+use Rattle.arguments.proofs.calls.each.Statement.{statement}
+use Rattle.arguments.proofs.calls.each.Tie as tie
+
+pub each-spec : {M : Type 1} → statement M
+each-spec =
+    tie.close
+    (tie.spec
+    (λ c κs. search needs)
+    (λ c κs. search needs)
+    (λ c. simp (c .both2 .ensures, c .before .both .ensures)))

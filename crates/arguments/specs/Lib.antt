@@ -1,0 +1,2 @@
+-- The bench language: the calls, each from the words of its line.
+pub mod Calls

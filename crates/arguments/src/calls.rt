@@ -1,0 +1,175 @@
+// The calls, each from the words of its line.
+ghost use mathlib.Core.Bool.{_&&_, cond};
+ghost use mathlib.Core.Path.{_≡_};
+ghost use Prim.Native.Nat.{_≤_};
+ghost use Rattle.arguments.specs.Calls as spec;
+ghost use Rattle.arguments.specs.declared.Line.the-variants.{NotACall};
+use crate::Asked;
+use crate::Command;
+use crate::Grade;
+use crate::Line;
+use crate::PageCall;
+use crate::Poke;
+use crate::State;
+use layout::Request;
+use lines::field_at;
+use lines::is_same;
+use offer::Element;
+use paper::ElementId;
+use paper::Lba;
+use paper::PageCount;
+use paper::Security;
+
+fn both(a: bool, b: bool) -> bool
+    ensures { λ r. ⌜ r ≡ (a && b) ⌝ }
+{
+    if a { b } else { false }
+}
+
+fn each(a: bool, b: bool, c: bool) -> bool
+    ensures { λ r. ⌜ r ≡ (a && (b && c)) ⌝ }
+{
+    both(a, both(b, c))
+}
+
+// A call if its words fit.
+fn fitting(fits: bool, call: Line) -> Line
+    ensures { λ r. ⌜ r ≡ cond fits call NotACall ⌝ }
+{
+    if fits { call } else { Line::NotACall }
+}
+
+// ---- The calls on the device
+
+pub fn element(line: &[u8]) -> Line
+    ensures { λ r. ⌜ r ≡ spec.elementOf (now (line .entry)) ⌝ }
+{
+    let id = field_at(line, 1, 0xFFFF_FFFF);
+    let kind = field_at(line, 2, 0xFF);
+    let health = field_at(line, 3, 0xFF);
+    let blocks = field_at(line, 4, 0xFFFF_FFFF_FFFF_FFFF);
+    let flag = field_at(line, 5, 1);
+    let figures = each(health.fits, blocks.fits, flag.fits);
+    let offered = offer::element_of(
+        ElementId(id.value as u32),
+        kind.value as u8,
+        health.value as u8,
+        flag.value == 1,
+        blocks.value,
+    );
+    fitting(each(id.fits, kind.fits, figures), Line::Element(offered))
+}
+
+pub fn make(line: &[u8]) -> Line
+    ensures { λ r. ⌜ r ≡ spec.makeOf (now (line .entry)) ⌝ }
+{
+    let limit = field_at(line, 1, 0xFFFF);
+    fitting(limit.fits, Line::Make(limit.value as u16))
+}
+
+fn state(w: &[u8]) -> State
+    ensures { λ r. ⌜ r ≡ spec.stateOf (now (w .entry)) ⌝ }
+{
+    if is_same(w, b"locked") {
+        return State {
+            fits: true,
+            security: Security::Locked,
+        };
+    }
+    if is_same(w, b"unlocked") {
+        return State {
+            fits: true,
+            security: Security::Unlocked,
+        };
+    }
+    State {
+        fits: is_same(w, b"frozen"),
+        security: Security::Frozen,
+    }
+}
+
+// FEATURE, COUNT and LBA from word k on.
+fn asked(line: &[u8], k: usize) -> Asked
+    requires { ⌜ k ≤ 3 ⌝ }
+    ensures { λ r. ⌜ r ≡ spec.askedAt (now (line .entry)) k ⌝ }
+{
+    let feature = field_at(line, k, 0xFFFF);
+    let count = field_at(line, k + 1, 0xFFFF);
+    let lba = field_at(line, k + 2, 0xFFFF_FFFF_FFFF_FFFF);
+    Asked {
+        fits: each(feature.fits, count.fits, lba.fits),
+        request: Request {
+            feature: feature.value as u16,
+            count: PageCount(count.value as u16),
+            lba: Lba(lba.value),
+        },
+    }
+}
+
+pub fn command(line: &[u8]) -> Line
+    ensures { λ r. ⌜ r ≡ spec.commandOf (now (line .entry)) ⌝ }
+{
+    let state = state(lines::word_at(line, 1));
+    let code = field_at(line, 2, 0xFF);
+    let asked = asked(line, 3);
+    let length = field_at(line, 6, 0x1_0000);
+    let registers = both(code.fits, asked.fits);
+    let security = state.security;
+    let given = Command {
+        security,
+        code: code.value as u8,
+        feature: asked.request.feature,
+        count: asked.request.count.0,
+        lba: Lba(asked.request.lba.0),
+        length: length.value as usize,
+    };
+    fitting(
+        each(state.fits, registers, length.fits),
+        Line::Command(given),
+    )
+}
+
+pub fn grade(line: &[u8]) -> Line
+    ensures { λ r. ⌜ r ≡ spec.gradeOf (now (line .entry)) ⌝ }
+{
+    let id = field_at(line, 1, 0xFFFF_FFFF);
+    let health = field_at(line, 2, 0xFF);
+    let given = Grade {
+        id: ElementId(id.value as u32),
+        health: health.value as u8,
+    };
+    fitting(both(id.fits, health.fits), Line::Grade(given))
+}
+
+// ---- The calls on the kept page
+
+pub fn length(line: &[u8]) -> Line
+    ensures { λ r. ⌜ r ≡ spec.lengthOf (now (line .entry)) ⌝ }
+{
+    let given = field_at(line, 1, 0x1_0000);
+    let size = given.value as usize;
+    fitting(given.fits, Line::Page(PageCall::Length(size)))
+}
+
+pub fn poke(line: &[u8]) -> Line
+    ensures { λ r. ⌜ r ≡ spec.pokeOf (now (line .entry)) ⌝ }
+{
+    let place = field_at(line, 1, 0x1_0000);
+    let byte = field_at(line, 2, 0xFF);
+    let given = Poke {
+        place: place.value as usize,
+        byte: byte.value as u8,
+    };
+    fitting(
+        both(place.fits, byte.fits),
+        Line::Page(PageCall::Poke(given)),
+    )
+}
+
+pub fn read(line: &[u8]) -> Line
+    ensures { λ r. ⌜ r ≡ spec.readOf (now (line .entry)) ⌝ }
+{
+    let asked = asked(line, 1);
+    let request = asked.request;
+    fitting(asked.fits, Line::Page(PageCall::Read(request)))
+}

@@ -1,0 +1,3 @@
+-- What is proved of `changes`'s definitions, and of its functions.
+pub mod Changes
+pub mod Lengths

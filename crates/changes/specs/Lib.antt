@@ -1,0 +1,3 @@
+-- The lines of a comparison.
+
+pub mod Changes

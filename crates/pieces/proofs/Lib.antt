@@ -1,0 +1,3 @@
+-- What is proved of `pieces`' definitions, and of its functions.
+pub mod EveryLine
+pub mod Gathering

@@ -1,0 +1,3 @@
+-- What is proved of `reach`'s definitions, and of its functions.
+pub mod Bounds
+pub mod Once

@@ -1,0 +1,11 @@
+-- What holds of every opening. It is a statement; proofs/ has the proof under the same name in lower case.
+use Prim.Native.Nat.{ℕ}
+use mathlib.Core.List.{List}
+use mathlib.Core.Path.{_≡_}
+use Rattle.layout.specs.declared.Request.{Request}
+use Rattle.reach.specs.Opening.{heard, openOf}
+use Rattle.reach.specs.declared.Opening.{Opening}
+
+-- no second answer fits
+abbrev pub One-opening : Type 0
+One-opening = (s t : List ℕ) (q : Request) (a b : Opening) → heard a ≡ openOf s t q → heard b ≡ openOf s t q → a ≡ b

@@ -1,0 +1,98 @@
+// How far two status pages are compared, or which of them is refused.
+ghost use mathlib.Core.Path.{_≡_};
+ghost use Rattle.reach.specs.Opening.{heard, openOf};
+ghost use Rattle.reach.specs.Pages.{reachOf, smallest, boundOf, endOf};
+ghost use Rattle.offences.specs.Checks.{lastBefore};
+ghost use Rattle.words.specs.declared.Order.the-variants.{Little};
+use layout::Header;
+use layout::Request;
+use paper::ElementId;
+use reader::Judgement;
+use words::Order;
+
+// Which of the two pages is meant.
+pub enum Turn {
+    Older,
+    Newer,
+}
+
+// How far two pages are compared: whole, or up to an identifier, itself included.
+pub enum Bound {
+    Whole,
+    UpTo(ElementId),
+}
+
+// How far they are compared, or the first page that the reader refuses.
+pub enum Opening {
+    Accepted(Bound),
+    Refused(Turn),
+}
+
+// The identifier before descriptor k, 0 before the first.
+fn id_before(page: &[u8], k: u32) -> ElementId
+    ensures { λ r. ⌜ r .0 ≡ lastBefore Little (now (page .entry)) k ⌝ }
+{
+    if k == 0 {
+        return ElementId(0);
+    }
+    let last = offences::descriptor_at(page, k - 1, Order::Little);
+    last.id
+}
+
+// How far one page reaches: to its last identifier if it was cut short.
+fn reach(page: &[u8]) -> Bound
+    ensures { λ r. ⌜ r ≡ reachOf (now (page .entry)) ⌝ }
+{
+    let h = Header::read(page, Order::Little);
+    if h.number <= h.returned {
+        return Bound::Whole;
+    }
+    Bound::UpTo(id_before(page, h.returned))
+}
+
+fn smallest_of(a: Bound, b: Bound) -> Bound
+    ensures { λ r. ⌜ r ≡ smallest a b ⌝ }
+{
+    let Bound::UpTo(x) = a else {
+        return b;
+    };
+    let Bound::UpTo(y) = b else {
+        return a;
+    };
+    if x.0 < y.0 { a } else { b }
+}
+
+fn bound_of(older: &[u8], newer: &[u8]) -> Bound
+    ensures { λ r. ⌜ r ≡ boundOf (now (older .entry)) (now (newer .entry)) ⌝ }
+{
+    smallest_of(reach(older), reach(newer))
+}
+
+// Whether two pages can be compared as answers to one request, and how far.
+pub fn open(older: &[u8], newer: &[u8], request: Request) -> Opening
+    ensures { λ r. ⌜ heard r ≡ openOf (now (older .entry)) (now (newer .entry)) request ⌝ }
+{
+    if let Judgement::Refused(_) = reader::read(older, request) {
+        return Opening::Refused(Turn::Older);
+    }
+    if let Judgement::Refused(_) = reader::read(newer, request) {
+        return Opening::Refused(Turn::Newer);
+    }
+    Opening::Accepted(bound_of(older, newer))
+}
+
+fn end_of(b: Bound) -> ElementId
+    ensures { λ r. ⌜ r ≡ endOf b ⌝ }
+{
+    match b {
+        Bound::Whole => ElementId(0xFFFF_FFFF),
+        Bound::UpTo(id) => id,
+    }
+}
+
+// The last identifier that is compared.
+pub fn last_compared(older: &[u8], newer: &[u8]) -> ElementId
+    ensures { λ r. ⌜ r ≡ endOf (boundOf (now (older .entry)) (now (newer .entry))) ⌝ }
+{
+    end_of(bound_of(older, newer))
+}

@@ -1,0 +1,2 @@
+-- What is proved of `rows`'s definitions, and of its functions.
+pub mod Rows

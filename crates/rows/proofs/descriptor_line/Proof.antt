@@ -1,0 +1,18 @@
+-- `rows::descriptor_line`.
+use borrow.Author.Needs.{needs}
+use Rattle.text.proofs.Written.{after, begun}
+use Rattle.rows.proofs.descriptor_line.Statement.{statement}
+use Rattle.rows.proofs.descriptor_line.Tie as tie
+
+pub descriptor-line-spec : {M : Type 1} → statement M
+descriptor-line-spec =
+    tie.close
+    (tie.spec
+    (λ c κs. search needs)
+    (λ c κs. search needs)
+    (λ c. search needs)
+    (λ c κs. search needs)
+    (λ c κs. search needs)
+    (λ c. search needs)
+    (λ c κs. search needs)
+    (λ c. search (after, begun)))

@@ -1,0 +1,23 @@
+-- `script::reset_call`.
+use borrow.Author.Needs.{needs}
+use Rattle.script.specs.Names.{resetCall}
+use Rattle.script.proofs.Says.{this-call, other-call}
+use Rattle.script.proofs.reset_call.Statement.{statement}
+use Rattle.script.proofs.reset_call.Tie as tie
+
+pub reset-call-spec : {M : Type 1} → statement M
+unfolding resetCall
+reset-call-spec =
+    tie.close
+    (tie.spec
+    (λ c. search needs)
+    (λ c κs. search needs)
+    (λ c. search (this-call, other-call))
+    (λ c. search needs)
+    (λ c κs. search needs)
+    (λ c. search (this-call, other-call))
+    (λ c. search needs)
+    (λ c κs. search needs)
+    (λ c. search (this-call, other-call))
+    (λ c κs. search needs)
+    (λ c. search (this-call, other-call)))
