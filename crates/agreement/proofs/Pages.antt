@@ -8,8 +8,8 @@ use Rattle.cells.specs.Sights.{seeIn}
 use Rattle.device.specs.declared.Device.{Device}
 use Rattle.layout.specs.Requests.{refused, takesHealth}
 use Rattle.layout.specs.declared.Request.{Request}
-use Rattle.device.specs.Examples.{deviceA, run, remove, steps}
-use Rattle.device.specs.Making.{fresh}
+use Rattle.making.specs.Examples.{deviceA, run, remove, steps}
+use Rattle.making.specs.Making.{fresh}
 use Rattle.offer.specs.Elements.{blank}
 use Rattle.offer.specs.Examples.{element}
 use Rattle.offer.specs.declared.Element.{Element}

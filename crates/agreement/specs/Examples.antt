@@ -6,9 +6,9 @@ use mathlib.Core.List.{List, [], _∷_, _++_, map}
 use lib.Dec.{eqb}
 use lib.ListN.{replicate}
 use Rattle.commands.specs.Lent.{lent}
-use Rattle.device.specs.Examples.{registers, Row, row, rows, holds, run, deviceA, asBuilt}
 use Rattle.device.specs.Machine.{Event, command, step, mediaError, powerCut, comreset, hardwareReset, softwareReset, grade}
 use Rattle.device.specs.declared.Device.{Device}
+use Rattle.making.specs.Examples.{registers, Row, row, rows, holds, run, deviceA, asBuilt}
 use Rattle.paper.specs.declared.Security.the-variants.{Unlocked}
 
 pub record Example : Type 0 where

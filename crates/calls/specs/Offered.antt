@@ -5,8 +5,8 @@ use mathlib.Core.Bool.{cond}
 use mathlib.Core.List.{List, [], _∷_, _++_}
 use lib.Dec.{leb}
 use lib.ListN.{length, take, replicate}
-use Rattle.device.specs.Making.{fresh}
 use Rattle.device.specs.declared.Device.{Device}
+use Rattle.making.specs.Making.{fresh}
 use Rattle.offer.specs.Check.{good}
 use Rattle.offer.specs.Elements.{blank, blockSum}
 use Rattle.offer.specs.Search.{find}

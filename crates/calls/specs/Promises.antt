@@ -7,9 +7,9 @@ use lib.ListN.{length, take}
 use Rattle.commands.specs.Lent.{lent}
 use Rattle.device.specs.Commands.{otherNumber}
 use Rattle.device.specs.Machine.{command, told}
-use Rattle.device.specs.Making.{madeOf}
 use Rattle.device.specs.Promises.{One-answer, Leaves}
 use Rattle.device.specs.declared.Device.{Device}
+use Rattle.making.specs.Making.{madeOf}
 use Rattle.offer.specs.Check.{verdict, good}
 use Rattle.offer.specs.Elements.{partOf, healthOf}
 use Rattle.offer.specs.declared.Checked.{Checked}

@@ -8,7 +8,7 @@ ghost use Rattle.commands.specs.Lent.{lent};
 ghost use Rattle.device.specs.Commands.{otherNumber};
 ghost use Rattle.device.specs.Machine as machine;
 ghost use Rattle.device.specs.Machine.{told};
-ghost use Rattle.device.specs.Making.{madeOf};
+ghost use Rattle.making.specs.Making.{madeOf};
 ghost use Rattle.offer.specs.Check.{checkOf, verdict};
 ghost use Rattle.offer.specs.Elements.{blank};
 ghost use Rattle.offer.specs.Search as search;
@@ -186,7 +186,7 @@ fn make_in(there: Device, elements: [Element; 128], count: usize, limit: u16) ->
         count,
         limit,
     };
-    device::make_device(there, o)
+    making::make_device(there, o)
 }
 
 // Whether document 01 accepts a list as a table, and then its blocks in all.

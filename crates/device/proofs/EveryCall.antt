@@ -2,44 +2,34 @@
 use Prim.Native.Nat.{ℕ, _-_, _≤_, _<_}
 use mathlib.Core.Bool.{Bool, true, false, cond}
 use mathlib.Core.List.{List}
-use mathlib.Core.Path.{_≡_, refl, sym, ap, _∙_}
+use mathlib.Core.Path.{_≡_, refl, sym, _∙_}
 use native.Mathlib.Omega.{arith}
 use lib.ListN.{length, drop, set, replicate, length-take, length-map}
 use lib.Seq.{drop-set-lt}
 use Rattle.cells.specs.Cells.{make}
 use Rattle.cells.specs.Rulings.{Ruled}
 use Rattle.cells.specs.Sights.{seeIn}
-use Rattle.offer.proofs.Laws.{good-ascending, good-count}
-use Rattle.offer.proofs.Splits.{split-past, built-ids}
-use Rattle.offer.specs.Check.{good}
-use Rattle.offer.specs.Elements.{offered, partOf, healthOf}
-use Rattle.offer.specs.declared.Offer.{Offer}
-use Rattle.paper.proofs.Once.{told-once}
-use Rattle.paper.specs.Told.{tells}
-use Rattle.paper.specs.declared.ElementId.{ElementId}
-use Rattle.table.proofs.Search.{hits-there}
-use Rattle.table.specs.Elements.{identifiers, blankPart, ascending}
-use Rattle.table.specs.Search.{sightIn}
-use Rattle.device.specs.Making.{fresh, madeOf}
-use Rattle.device.specs.Promises.{One-answer, One-device, Leaves, Refusal-leaves, Refusal-makes-none, Keeps-table, Tidy, Keeps-tidy, Made-tidy, Made-in-order}
-use Rattle.steps.specs.Steps.{marking, nextOf}
-use Rattle.device.specs.Record.{carriedOut, tell, see, storeAt}
-use Rattle.device.specs.declared.Device.{Device}
 use Rattle.cells.specs.declared.Note.the-variants.{Empty, Full}
 use Rattle.cells.specs.declared.Position.the-variants.{Work1, Work2, Work3, Work4, Work5, Wind1, Wind2, Wind3, Wind4}
 use Rattle.cells.specs.declared.Position.{Position}
 use Rattle.cells.specs.declared.Removal.{Removal}
 use Rattle.cells.specs.declared.Seen.{Seen}
 use Rattle.cells.specs.declared.Store.the-variants.{Nothing, Marked}
+use Rattle.paper.proofs.Once.{told-once}
+use Rattle.paper.specs.declared.ElementId.{ElementId}
+use Rattle.steps.specs.Steps.{marking, nextOf}
+use Rattle.table.proofs.Search.{hits-there}
+use Rattle.table.specs.Elements.{identifiers}
+use Rattle.table.specs.Search.{sightIn}
+use Rattle.device.specs.Promises.{One-answer, Leaves, Refusal-leaves, Keeps-table, Tidy, Keeps-tidy}
+use Rattle.device.specs.Record.{carriedOut, tell, see, storeAt}
+use Rattle.device.specs.declared.Device.{Device}
 use Rattle.device.proofs.Shapes.{Kind, Shape, quiet, clears, notes, advances, winds, Grading, refuses, grades, every, marking-note}
 
 -- ## No second answer
 
 pub one-answer : One-answer
 one-answer d r = told-once (tell d r)
-
-pub one-device : One-device
-one-device d o = told-once (madeOf d o)
 
 -- ## A refusal leaves the device
 
@@ -56,14 +46,6 @@ refusal-leaves d e = every d (λ (r : Ruled). Leaves d (tell d r)) shape grading
     grading : (id : ElementId) (h : ℕ) (r : Ruled) → Grading d id h r → Leaves d (tell d r)
     grading id h r refuses z = refl
     grading id h r (grades s g) z = absurd (z refl)
-
-pub refusal-makes-none : Refusal-makes-none
-unfolding madeOf
-refusal-makes-none d o = go (good (o .count) (offered o) (o .limit))
-  where
-    go : (b : Bool) → Leaves d (cond b (tells 0 (fresh o)) (tells 8 d))
-    go true z = absurd (z refl)
-    go false z = refl
 
 -- ## The table stays
 
@@ -132,31 +114,3 @@ module _ (d : Device) (tidy : Tidy d) where
 
 pub keeps-tidy : Keeps-tidy
 keeps-tidy d e tidy = every d (λ (r : Ruled). Tidy (carriedOut d r)) (tidied-shape d tidy) (tidied-grading d tidy) e
-
--- ## A new device
-
-module _ (o : Offer) (full : length (o .elements) ≡ 128) (g : good (o .count) (offered o) (o .limit) ≡ true) where
-  fresh-tidy : Tidy (fresh o)
-  fresh-tidy =
-      let few : o .count ≤ 128 = good-count (o .count) (offered o) (o .limit) g in
-      record { slots = split-past o full few partOf blankPart; healths = split-past o full few healthOf 0; rests = λ _. refl }
-
-  pub fresh-order : ascending 0 (identifiers (fresh o .table)) ≡ true
-  fresh-order =
-      let few : o .count ≤ 128 = good-count (o .count) (offered o) (o .limit) g in
-      ap (ascending 0) (built-ids o full few) ∙ good-ascending (o .count) (offered o) (o .limit) g
-
--- what holds of a new device and of the one that was there holds after the making
-made : (d : Device) (o : Offer) (P : Device → Type 0) → (good (o .count) (offered o) (o .limit) ≡ true → P (fresh o)) → P d → P (madeOf d o .state)
-unfolding madeOf
-made d o P new there = go (good (o .count) (offered o) (o .limit)) refl
-  where
-    go : (b : Bool) → good (o .count) (offered o) (o .limit) ≡ b → P (cond b (tells 0 (fresh o)) (tells 8 d) .state)
-    go true g = new g
-    go false g = there
-
-pub made-tidy : Made-tidy
-made-tidy d o full tidy = made d o Tidy (fresh-tidy o full) tidy
-
-pub made-in-order : Made-in-order
-made-in-order d o full order = made d o (λ (x : Device). ascending 0 (identifiers (x .table)) ≡ true) (fresh-order o full) order

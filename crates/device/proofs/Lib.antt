@@ -1,7 +1,5 @@
 -- What is proved of the machine, and of the calls.
 pub mod EveryCall
-pub mod Examples
-pub mod Making
 pub mod OneCell
 pub mod PowerCut
 pub mod Rules

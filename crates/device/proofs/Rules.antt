@@ -1,5 +1,5 @@
 -- The calls: which ruling a command has, that a ruling is carried out, and that what is carried out is what was ruled.
-use Prim.Native.Nat.{ℕ, _-_}
+use Prim.Native.Nat.{ℕ}
 use mathlib.Core.Path.{_≡_, sym, ap, _∙_}
 use borrow.Author.Tests.{eq-eqb, ne-eqb}
 use Rattle.device.specs.Record.{says, tell}

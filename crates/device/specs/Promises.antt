@@ -1,30 +1,24 @@
 -- What holds of every call at once. Each is a statement; proofs/ has the proof under the same name in lower case.
 use Prim.Native.Nat.{ℕ, _-_}
-use mathlib.Core.Bool.{true}
 use mathlib.Core.Path.{_≡_}
-use lib.ListN.{length, take, drop, replicate}
+use lib.ListN.{take, drop, replicate}
 use Rattle.cells.specs.Rulings.{Ruled}
-use Rattle.offer.specs.declared.Offer.{Offer}
-use Rattle.paper.specs.Told.{Told, tells, said}
-use Rattle.paper.specs.declared.Answer.{Answer}
-use Rattle.paper.specs.declared.Lba.{Lba}
-use Rattle.table.specs.Elements.{live, identifiers, blankPart, ascending}
-use Rattle.device.specs.Machine.{Event, mediaError, powerCut, comreset, hardwareReset, softwareReset, told}
-use Rattle.device.specs.Making.{madeOf}
-use Rattle.device.specs.Record.{healthAt, tell}
-use Rattle.device.specs.declared.Device.{Device}
 use Rattle.cells.specs.declared.Mark.{Mark}
 use Rattle.cells.specs.declared.Note.the-variants.{Empty}
 use Rattle.cells.specs.declared.Note.{Note}
 use Rattle.cells.specs.declared.Position.the-variants.{Work1}
+use Rattle.paper.specs.Told.{Told, tells, said}
+use Rattle.paper.specs.declared.Answer.{Answer}
+use Rattle.paper.specs.declared.Lba.{Lba}
+use Rattle.table.specs.Elements.{live, blankPart}
+use Rattle.device.specs.Machine.{Event, mediaError, powerCut, comreset, hardwareReset, softwareReset, told}
+use Rattle.device.specs.Record.{healthAt, tell}
+use Rattle.device.specs.declared.Device.{Device}
 
 -- ## No second answer fits, and no second device: whatever is ruled, and so of every event
 
 abbrev pub One-answer : Type 0
 One-answer = (d : Device) (r : Ruled) (a b : Answer) (x y : Device) → said a x ≡ tell d r → said b y ≡ tell d r → (a ≡ b) × (x ≡ y)
-
-abbrev pub One-device : Type 0
-One-device = (d : Device) (o : Offer) (a b : Answer) (x y : Device) → said a x ≡ madeOf d o → said b y ≡ madeOf d o → (a ≡ b) × (x ≡ y)
 
 -- ## "Every number but 0 leaves the device .. untouched."
 
@@ -33,9 +27,6 @@ Leaves d t = (t .number ≡ 0 → ⊥) → t .state ≡ d
 
 abbrev pub Refusal-leaves : Type 0
 Refusal-leaves = (d : Device) (e : Event) → Leaves d (told d e)
-
-abbrev pub Refusal-makes-none : Type 0
-Refusal-makes-none = (d : Device) (o : Offer) → Leaves d (madeOf d o)
 
 -- ## The table stays as built: what changes of an element is the cell of its health
 
@@ -51,15 +42,6 @@ pub record Tidy (d : Device) : Type 0 where
 
 abbrev pub Keeps-tidy : Type 0
 Keeps-tidy = (d : Device) (e : Event) → Tidy d → Tidy (told d e .state)
-
--- the making of a device too: a new one is tidy and its identifiers ascend, and a refusal leaves the one that was there
-abbrev pub Made-tidy : Type 0
-Made-tidy = (d : Device) (o : Offer) → length (o .elements) ≡ 128 → Tidy d → Tidy (madeOf d o .state)
-
-abbrev pub Made-in-order : Type 0
-Made-in-order =
-    (d : Device) (o : Offer) → length (o .elements) ≡ 128
-    → ascending 0 (identifiers (d .table)) ≡ true → ascending 0 (identifiers (madeOf d o .state .table)) ≡ true
 
 -- ## At most one cell differs after a call, and nothing that is no cell but the position (the making of a device writes them all)
 

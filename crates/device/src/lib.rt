@@ -1,5 +1,5 @@
 // The device by value: the table as built, the cells, the position. Each call rules on an answer, one store and the next position; carrying the
-// ruling out changes cells and position alone, and nothing else changes a device. `make_device` makes a new one.
+// ruling out changes cells and position alone, and nothing else changes a device.
 ghost use mathlib.Core.Path.{_≡_};
 ghost use Rattle.cells.specs.Cells.{isSet};
 ghost use Rattle.cells.specs.Rulings.{ruled};
@@ -7,16 +7,11 @@ ghost use Rattle.paper.specs.Answers.{numberOf};
 ghost use Rattle.paper.specs.Told.{said};
 ghost use Rattle.device.specs.Machine as machine;
 ghost use Rattle.device.specs.Machine.{told};
-ghost use Rattle.device.specs.Making.{madeOf};
 ghost use Rattle.device.specs.Record.{underWay, tell};
 use cells::Cells;
-use cells::Mark;
-use cells::Note;
 use cells::Position;
 use cells::Ruling;
 use cells::quiet;
-use offer::Checked;
-use offer::Offer;
 use paper::Answer;
 use paper::ElementId;
 use paper::Lba;
@@ -181,33 +176,5 @@ impl Device {
         let at = self.position;
         let r = steps::rule_grade(table, cells, at, id, health);
         self.carry_out(r)
-    }
-}
-
-// A device of an offered table, or 8 and the device that was there.
-pub fn make_device(there: Device, offer: Offer) -> Stepped
-    ensures { λ r. ⌜ said (r .answer) (r .device) ≡ madeOf there offer ⌝ }
-{
-    let checked = offer.check();
-    let Checked::Blocks(n) = checked else {
-        return Stepped {
-            device: there,
-            answer: Answer::TableRefused,
-        };
-    };
-    let start = Lba(n - 1);
-    Stepped {
-        device: Device {
-            table: offer.table(),
-            cells: Cells {
-                native: start,
-                accessible: start,
-                healths: offer.healths(),
-                failed: Mark::Clear,
-                note: Note::Empty,
-            },
-            position: Position::Work1,
-        },
-        answer: Answer::Done,
     }
 }

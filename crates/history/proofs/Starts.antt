@@ -7,10 +7,10 @@ use native.Mathlib.Omega.{arith}
 use lib.ListN.{length, getD, replicate, length-map, length-append, List·getD-append}
 use borrow.Author.Tests.{leb-true, ne-eqb}
 use Rattle.cells.specs.Cells.{isSet}
-use Rattle.device.proofs.EveryCall.{fresh-order}
-use Rattle.device.specs.Making.{fresh, madeOf}
 use Rattle.device.specs.Record.{healthAt}
 use Rattle.device.specs.declared.Device.{Device}
+use Rattle.making.proofs.EveryMaking.{fresh-order}
+use Rattle.making.specs.Making.{fresh, madeOf}
 use Rattle.offer.proofs.Laws.{good-healthy, good-count}
 use Rattle.offer.proofs.Splits.{split-front, built-ids}
 use Rattle.offer.specs.Check.{healthy, good}

@@ -4,13 +4,13 @@ use mathlib.Core.Bool.{Bool, true, false, _||_}
 use mathlib.Core.List.{map}
 use mathlib.Core.Path.{_≡_}
 use lib.ListN.{length, take}
-use Rattle.device.specs.Machine.{powerCut}
-use Rattle.device.specs.Making.{madeOf}
-use Rattle.device.specs.Record.{healthAt}
-use Rattle.device.specs.declared.Device.{Device}
 use Rattle.cells.specs.declared.Note.the-variants.{Empty, Full}
 use Rattle.cells.specs.declared.Note.{Note}
 use Rattle.cells.specs.declared.Position.the-variants.{Wind1}
+use Rattle.device.specs.Machine.{powerCut}
+use Rattle.device.specs.Record.{healthAt}
+use Rattle.device.specs.declared.Device.{Device}
+use Rattle.making.specs.Making.{madeOf}
 use Rattle.offer.specs.Check.{good}
 use Rattle.offer.specs.Elements.{offered, partOf, healthOf, blockSum}
 use Rattle.offer.specs.declared.Offer.{Offer}

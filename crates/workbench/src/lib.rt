@@ -146,7 +146,7 @@ impl Bench {
         let there = self.device;
         let mut list = self.offered;
         list.limit = limit;
-        let s = device::make_device(there, list);
+        let s = making::make_device(there, list);
         let answer = s.answer;
         let mut next = self.after(s);
         if paper::number_of(answer) == 0 {

@@ -4,7 +4,7 @@ use mathlib.Core.Path.{_≡_, sym, _∙_}
 use mir.Syntax.{w16}
 use Rattle.datum.proofs.Datum.{number}
 use Rattle.datum.proofs.Made.{made}
-use Rattle.device.specs.Making.{madeOf}
+use Rattle.making.specs.Making.{madeOf}
 use Rattle.paper.specs.Told.{said}
 use Rattle.calls.proofs.Data.{device, element, answer, stepped}
 use Rattle.calls.proofs.Lists.{made-alike}

@@ -1,8 +1,8 @@
--- `device::make_device`: what the check's answer tells.
+-- `making::make_device`: what the check's answer tells.
 use borrow.Author.Needs.{needs}
-use Rattle.device.proofs.Making.{made-refused, made-fits, made-done}
-use Rattle.device.proofs.make_device.Statement.{statement}
-use Rattle.device.proofs.make_device.Tie as tie
+use Rattle.making.proofs.Making.{made-refused, made-fits, made-done}
+use Rattle.making.proofs.make_device.Statement.{statement}
+use Rattle.making.proofs.make_device.Tie as tie
 
 pub make-device-spec : {M : Type 1} → statement M
 make-device-spec =

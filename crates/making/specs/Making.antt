@@ -1,15 +1,15 @@
 -- The making of a device from an offered table. "Any other table is refused (8)", and the device that was there stays.
 use Prim.Native.Nat.{_-_}
 use mathlib.Core.Bool.{cond}
+use Rattle.cells.specs.declared.Mark.the-variants.{Clear}
+use Rattle.cells.specs.declared.Note.the-variants.{Empty}
+use Rattle.cells.specs.declared.Position.the-variants.{Work1}
+use Rattle.device.specs.declared.Device.{Device}
 use Rattle.offer.specs.Check.{good}
 use Rattle.offer.specs.Elements.{offered, tableOf, healthsOf, blockSum}
 use Rattle.offer.specs.declared.Offer.{Offer}
 use Rattle.paper.specs.Told.{Told, tells}
 use Rattle.paper.specs.declared.Lba.{Lba}
-use Rattle.device.specs.declared.Device.{Device}
-use Rattle.cells.specs.declared.Mark.the-variants.{Clear}
-use Rattle.cells.specs.declared.Note.the-variants.{Empty}
-use Rattle.cells.specs.declared.Position.the-variants.{Work1}
 
 -- "the starting maximum address is the sum minus 1"
 abbrev pub startingMax : Offer → Lba

@@ -3,19 +3,19 @@ use mathlib.Core.Bool.{true}
 use mathlib.Core.Path.{_≡_, refl}
 use Rattle.cells.specs.Cells.{isSet}
 use Rattle.cells.specs.Sights.{seeIn}
+use Rattle.device.specs.Commands.{mediaNumber, otherNumber}
+use Rattle.device.specs.declared.Device.{Device}
 use Rattle.layout.specs.Requests.{refused}
 use Rattle.offer.specs.Check.{good}
 use Rattle.offer.specs.Examples.{offerA}
 use Rattle.open.specs.Open.{isOpen}
 use Rattle.paper.specs.Told.{tells}
-use Rattle.table.specs.Search.{sightIn}
-use Rattle.words.specs.Lists.{all}
-use Rattle.device.specs.Commands.{mediaNumber, otherNumber}
-use Rattle.device.specs.Examples.{deviceA, holds, rows, removals, others}
-use Rattle.device.specs.Making.{fresh, madeOf}
 use Rattle.removal.specs.Remove.{judgeRoom, judgeFound}
 use Rattle.steps.specs.Steps.{gradeSeen}
-use Rattle.device.specs.declared.Device.{Device}
+use Rattle.table.specs.Search.{sightIn}
+use Rattle.words.specs.Lists.{all}
+use Rattle.making.specs.Examples.{deviceA, holds, rows, removals, others}
+use Rattle.making.specs.Making.{fresh, madeOf}
 
 pub examples : all holds rows ≡ true
 unfolding sightIn seeIn isSet judgeRoom judgeFound

@@ -5,13 +5,13 @@ use mathlib.Core.List.{List, [], _∷_, _++_}
 use lib.Dec.{eqb}
 use lib.ListN.{take, replicate}
 use Rattle.cells.specs.Cells.{isSet}
+use Rattle.device.specs.Machine.{Event, command, step, mediaError, powerCut, comreset, hardwareReset, softwareReset, grade, told}
+use Rattle.device.specs.Record.{underWay}
+use Rattle.device.specs.declared.Device.{Device}
 use Rattle.offer.specs.Examples.{offerA}
 use Rattle.paper.specs.Registers.{Registers}
 use Rattle.paper.specs.declared.Security.the-variants.{Locked, Unlocked, Frozen}
-use Rattle.device.specs.Machine.{Event, command, step, mediaError, powerCut, comreset, hardwareReset, softwareReset, grade, told}
-use Rattle.device.specs.Making.{fresh}
-use Rattle.device.specs.Record.{underWay}
-use Rattle.device.specs.declared.Device.{Device}
+use Rattle.making.specs.Making.{fresh}
 
 -- "Device A, limit 2"
 abbrev pub deviceA : Device

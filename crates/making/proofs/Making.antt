@@ -3,6 +3,10 @@ use Prim.Native.Nat.{ℕ, _-_, _≤_}
 use mathlib.Core.List.{List}
 use mathlib.Core.Path.{_≡_, sym, ap, _∙_}
 use native.Mathlib.Omega.{arith}
+use Rattle.cells.specs.declared.Mark.the-variants.{Clear}
+use Rattle.cells.specs.declared.Note.the-variants.{Empty}
+use Rattle.cells.specs.declared.Position.the-variants.{Work1}
+use Rattle.device.specs.declared.Device.{Device}
 use Rattle.offer.proofs.Laws.{check-refused, check-blocks, good-blocks}
 use Rattle.offer.specs.Check.{checkOf, verdict}
 use Rattle.offer.specs.Elements.{offered, tableOf, healthsOf}
@@ -12,11 +16,7 @@ use Rattle.offer.specs.declared.Offer.{Offer}
 use Rattle.paper.specs.Told.{said}
 use Rattle.paper.specs.declared.Answer.the-variants.{Done, TableRefused}
 use Rattle.table.specs.declared.Table.{Table}
-use Rattle.device.specs.Making.{madeOf}
-use Rattle.device.specs.declared.Device.{Device}
-use Rattle.cells.specs.declared.Mark.the-variants.{Clear}
-use Rattle.cells.specs.declared.Note.the-variants.{Empty}
-use Rattle.cells.specs.declared.Position.the-variants.{Work1}
+use Rattle.making.specs.Making.{madeOf}
 
 module _ (there : Device) (o : Offer) (c : Checked) (is-c : verdict c ≡ checkOf o) where
   pub made-refused : c ≡ Refused → said TableRefused there ≡ madeOf there o
