@@ -4,9 +4,10 @@ use mathlib.Core.Path.{_≡_, ap, _∙_}
 use Rattle.arguments.specs.declared.Command.{Command}
 use Rattle.device.specs.Machine.{told}
 use Rattle.device.specs.declared.Device.{Device}
+use Rattle.events.specs.Events.{eventOf}
 use Rattle.paper.specs.Told.{Told, said}
 use Rattle.paper.specs.declared.Answer.{Answer}
-use Rattle.front.specs.Front.{eventOf, deviceAfter}
+use Rattle.front.specs.Front.{deviceAfter}
 
 pub device-told : (d : Device) (c : Command) (room : ℕ) (a : Answer) (e : Device) → said a e ≡ told d (eventOf c room) → e ≡ deviceAfter d c room
 unfolding deviceAfter

@@ -2,12 +2,9 @@
 ghost use mathlib.Core.Path.{_≡_};
 ghost use Prim.Native.Nat.{min};
 ghost use lib.ListN.{length};
-ghost use Rattle.device.specs.Machine.{told};
-ghost use Rattle.paper.specs.Told.{said};
-ghost use Rattle.front.specs.Front.{eventOf, deviceAfter};
+ghost use Rattle.front.specs.Front.{deviceAfter};
 use arguments::Command;
 use device::Device;
-use device::Stepped;
 use paper::Answer;
 use print::print_answer;
 use print::print_page;
@@ -35,15 +32,6 @@ fn answer_size(c: Command, answer: Answer) -> usize {
         return 0;
     }
     512 * (c.count as usize)
-}
-
-// The front call by value.
-fn commanded(d: Device, c: Command, room: usize) -> Stepped
-    ensures { λ r. ⌜ said (r .answer) (r .device) ≡ told d (eventOf c room) ⌝ }
-{
-    let security = c.security;
-    let lba = c.lba;
-    commands::command(d, security, c.code, c.feature, c.count, lba, room)
 }
 
 // The page of 12h.
@@ -75,7 +63,7 @@ fn print_lent(answer: Answer, lent: &[u8], n: usize) {
 fn command_over(d: Device, c: Command, kept: usize, lent: &mut [u8], page: &mut [u8]) -> Left
     ensures { λ r. ⌜ r .device ≡ deviceAfter d c (length (now (lent .entry))) ⌝ }
 {
-    let s = commanded(d, c, lent.len());
+    let s = events::commanded(d, c, lent.len());
     show(d, c, lent);
     let answer = s.answer;
     let device = s.device;

@@ -1,2 +1,3 @@
--- What a script starts from.
+-- What a script starts from, and what a call changes on its bench.
+pub mod Changes
 pub mod Empty

@@ -1,11 +1,7 @@
-// What a script has on its bench, and its calls. No contract can say what they print.
+// What a script has on its bench, and how a call changes it.
 ghost use mathlib.Core.Path.{_≡_};
+ghost use Rattle.workbench.specs.Changes as changes;
 ghost use Rattle.workbench.specs.Empty as spec;
-use arguments::Bare;
-use arguments::Command;
-use arguments::Grade;
-use arguments::Line;
-use arguments::PageCall;
 use cells::Cells;
 use cells::Mark;
 use cells::Note;
@@ -14,9 +10,8 @@ use device::Device;
 use device::Stepped;
 use offer::Element;
 use offer::Offer;
+use paper::Answer;
 use paper::Lba;
-use print::print_answer;
-use print::print_cells;
 use table::Table;
 
 // The offered list, the device and whether one was made, and how many bytes the kept page has, which is lent to each call.
@@ -72,33 +67,38 @@ fn no_device() -> Device
     }
 }
 
-// The list with a record more. Of its first 129 the last is only counted: 129 are refused, whatever they hold.
-fn lengthened(list: Offer, e: Element) -> Offer {
-    let at = list.count;
-    let mut longer = list;
-    if at < 128 {
-        longer.elements[at] = e;
+// The records with one more; those past the 128th have no place.
+fn with_element(elements: [Element; 128], place: usize, e: Element) -> [Element; 128]
+    ensures { λ r. ⌜ r ≡ changes.withElement elements place e ⌝ }
+{
+    if 128 <= place {
+        return elements;
     }
-    if at < 129 {
-        longer.count = at + 1;
-    }
+    let mut longer = elements;
+    longer[place] = e;
     longer
 }
 
-fn bare(d: Device, b: Bare) -> Stepped {
-    match b {
-        Bare::Step => d.step(),
-        Bare::Error => d.media_error(),
-        Bare::Cut => d.power_cut(),
-        Bare::Comreset => d.comreset(),
-        Bare::Hardreset => d.hardware_reset(),
-        Bare::Softreset => d.software_reset(),
+// The list with a record more. Of its first 129 the last is only counted: 129 are refused, whatever they hold.
+fn lengthened(list: Offer, e: Element) -> Offer
+    ensures { λ r. ⌜ r ≡ changes.lengthened list e ⌝ }
+{
+    let elements = list.elements;
+    Offer {
+        elements: with_element(elements, list.count, e),
+        count: table::bounded(list.count) + 1,
+        limit: list.limit,
     }
 }
 
-fn graded(d: Device, g: Grade) -> Stepped {
-    let id = g.id;
-    d.grade(id, g.health)
+// Whether a device is there after one was to be made.
+fn is_made(made: bool, answer: Answer) -> bool
+    ensures { λ r. ⌜ r ≡ changes.isMade made answer ⌝ }
+{
+    if made {
+        return true;
+    }
+    paper::number_of(answer) == 0
 }
 
 impl Bench {
@@ -113,27 +113,25 @@ impl Bench {
         }
     }
 
-    fn with_device(self, device: Device) -> Bench {
+    pub fn with_device(self, device: Device) -> Bench
+        ensures { λ r. ⌜ r ≡ changes.withDevice self device ⌝ }
+    {
         let mut next = self;
         next.device = device;
         next
     }
 
-    fn with_kept(self, kept: usize) -> Bench {
+    pub fn with_kept(self, kept: usize) -> Bench
+        ensures { λ r. ⌜ r ≡ changes.withKept self kept ⌝ }
+    {
         let mut next = self;
         next.kept = kept;
         next
     }
 
-    // Prints an answer, and goes on with the device after it.
-    fn after(self, s: Stepped) -> Bench {
-        let answer = s.answer;
-        let device = s.device;
-        print_answer(answer);
-        self.with_device(device)
-    }
-
-    fn offer(self, e: Element) -> Bench {
+    pub fn offer(self, e: Element) -> Bench
+        ensures { λ r. ⌜ r ≡ changes.withElementMore self e ⌝ }
+    {
         let list = self.offered;
         let longer = lengthened(list, e);
         let mut next = self;
@@ -141,56 +139,26 @@ impl Bench {
         next
     }
 
-    // Offers the list and empties it.
-    fn make(self, limit: u16) -> Bench {
-        let there = self.device;
+    // The list, as it is offered with a limit.
+    pub fn offering(self, limit: u16) -> Offer
+        ensures { λ r. ⌜ r ≡ changes.offering self limit ⌝ }
+    {
         let mut list = self.offered;
         list.limit = limit;
-        let s = making::make_device(there, list);
+        list
+    }
+
+    // The list is emptied once it was offered; the device is a new one, or the one that was there.
+    pub fn after_making(self, s: Stepped) -> Bench
+        ensures { λ r. ⌜ r ≡ changes.afterMaking self s ⌝ }
+    {
         let answer = s.answer;
-        let mut next = self.after(s);
-        if paper::number_of(answer) == 0 {
-            next.made = true;
-        }
-        let none = no_offer();
-        next.offered = none;
-        next
-    }
-
-    fn command(self, c: Command, page: &mut [u8]) -> Bench {
-        let d = self.device;
-        let left = front::command(d, c, self.kept, page);
-        let device = left.device;
-        self.with_device(device).with_kept(left.kept)
-    }
-
-    fn on_page(self, c: PageCall, page: &mut [u8]) -> Bench {
-        let kept = kept::call(page, self.kept, c);
-        self.with_kept(kept)
-    }
-
-    // Makes a call that needs no page; any other line leaves the bench as it is.
-    fn on_device(self, line: Line) -> Bench {
-        let d = self.device;
-        match line {
-            Line::Element(e) => self.offer(e),
-            Line::Make(limit) => self.make(limit),
-            Line::Bare(b) => self.after(bare(d, b)),
-            Line::Grade(g) => self.after(graded(d, g)),
-            Line::Cells => {
-                print_cells(d);
-                self
-            }
-            _ => self,
-        }
-    }
-
-    // Makes the call of a line; one that says none leaves the bench as it is.
-    pub fn call(self, line: Line, page: &mut [u8]) -> Bench {
-        match line {
-            Line::Command(c) => self.command(c, page),
-            Line::Page(c) => self.on_page(c, page),
-            _ => self.on_device(line),
+        let device = s.device;
+        Bench {
+            offered: no_offer(),
+            made: is_made(self.made, answer),
+            device,
+            kept: self.kept,
         }
     }
 }

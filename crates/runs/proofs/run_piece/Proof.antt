@@ -1,11 +1,11 @@
--- `bench::run_piece`. The invariant: the page keeps its length.
+-- `runs::run_piece`. The invariant: the page keeps its length.
 use Prim.Native.Nat.{_-_}
 use mathlib.Core.Path.{_≡_}
 use lib.ListN.{length}
 use borrow.Author.Needs.{needs}
 use Rattle.pieces.proofs.EveryLine.{taken-further}
-use Rattle.bench.proofs.run_piece.Statement.{statement}
-use Rattle.bench.proofs.run_piece.Tie as tie
+use Rattle.runs.proofs.run_piece.Statement.{statement}
+use Rattle.runs.proofs.run_piece.Tie as tie
 
 abbrev Inv-loop : tie.InvT-loop
 Inv-loop piece page₀ run₀ at₀ page run at = length page ≡ length page₀

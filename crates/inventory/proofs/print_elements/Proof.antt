@@ -1,8 +1,8 @@
--- `print::print_elements`.
+-- `inventory::print_elements`.
 use Prim.Native.Nat.{_-_, _≤_}
 use borrow.Author.Needs.{needs}
-use Rattle.print.proofs.print_elements.Statement.{statement}
-use Rattle.print.proofs.print_elements.Tie as tie
+use Rattle.inventory.proofs.print_elements.Statement.{statement}
+use Rattle.inventory.proofs.print_elements.Tie as tie
 
 abbrev Inv-loop : tie.InvT-loop
 Inv-loop count ps healths n i₀ i = (i ≤ n) × (n ≤ 128)

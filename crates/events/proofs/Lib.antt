@@ -1,0 +1,2 @@
+-- What is proved of the bench's events.
+pub mod Found

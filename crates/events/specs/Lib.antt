@@ -1,0 +1,2 @@
+-- The events that the bench's lines say.
+pub mod Events

@@ -1,0 +1,2 @@
+-- What a script starts from.
+pub mod Begin

@@ -1,0 +1,99 @@
+// A script as far as it was run: its lines are put together from pieces of input, and each is obeyed. No contract can say what is printed.
+ghost use mathlib.Core.Path.{_≡_};
+ghost use Rattle.runs.specs.Begin.{newRun};
+use arguments::Line;
+use pieces::Gathered;
+use pieces::Taken;
+use print::print_words;
+use workbench::Bench;
+
+// A script as far as it was run: the line as far as it was read, and the bench.
+pub struct Run {
+    pub line: Gathered,
+    pub bench: Bench,
+}
+
+pub fn new_run() -> Run
+    ensures { λ r. ⌜ r ≡ newRun ⌝ }
+{
+    Run {
+        line: Gathered::nothing(),
+        bench: Bench::empty(),
+    }
+}
+
+fn needs_device(line: Line) -> bool {
+    match line {
+        Line::Command(_) | Line::Bare(_) | Line::Grade(_) | Line::Cells => true,
+        _ => false,
+    }
+}
+
+fn lacks_device(made: bool, line: Line) -> bool {
+    if made {
+        return false;
+    }
+    needs_device(line)
+}
+
+fn is_no_call(line: Line) -> bool {
+    match line {
+        Line::NotACall => true,
+        _ => false,
+    }
+}
+
+// Whether a line makes no call, which is then printed.
+fn is_refused(made: bool, line: Line) -> bool {
+    if is_no_call(line) {
+        print_words(b"not a call");
+        return true;
+    }
+    if lacks_device(made, line) {
+        print_words(b"no device");
+        return true;
+    }
+    false
+}
+
+// Makes the call of a line that has ended.
+fn obey(bench: Bench, line: Gathered, page: &mut [u8]) -> Bench {
+    let meaning = script::meaning_of(line);
+    if is_refused(bench.made, meaning) {
+        return bench;
+    }
+    acts::call(bench, meaning, page)
+}
+
+// Obeys a line if it is whole.
+fn go_on(bench: Bench, taken: Taken, page: &mut [u8]) -> Run {
+    let line = taken.line;
+    if taken.whole {
+        return Run {
+            line: Gathered::nothing(),
+            bench: obey(bench, line, page),
+        };
+    }
+    Run { line, bench }
+}
+
+// Obeys the lines that a piece of input ends.
+pub fn run_piece(begun: Run, piece: &[u8], page: &mut [u8]) -> Run {
+    let mut run = begun;
+    let mut at: usize = 0;
+    while at < piece.len() {
+        let line = run.line;
+        let bench = run.bench;
+        let taken = line.take(piece, at);
+        at = taken.at;
+        run = go_on(bench, taken, page);
+    }
+    run
+}
+
+// Obeys the last line, which the end of input ends.
+pub fn end_run(run: Run, page: &mut [u8]) {
+    let last = run.line;
+    let bench = run.bench;
+    obey(bench, last, page);
+}

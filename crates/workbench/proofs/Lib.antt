@@ -1,0 +1,2 @@
+-- What is proved of the bench's changes.
+pub mod Changes
