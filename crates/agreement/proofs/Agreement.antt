@@ -11,13 +11,10 @@ use lib.Seq.{drop-append-add, getD-append-add, getD-take}
 use borrow.Author.Tests.{lt-ltb, leb-true}
 use Rattle.device.specs.declared.Device.{Device}
 use Rattle.layout.proofs.Bytes.{header-back, descriptor-back}
-use Rattle.layout.proofs.Requests.{accepted}
 use Rattle.layout.specs.Bytes.{headerBytes, headerIn, descriptorIn, roomOf, returnedOf}
 use Rattle.layout.specs.Promises.{HeaderFits, DescriptorFits}
-use Rattle.layout.specs.Requests.{filterOf, reportTypeOf, pagesOf, refused, takesId, takesType}
 use Rattle.layout.specs.declared.Descriptor.{Descriptor}
 use Rattle.layout.specs.declared.Header.{Header}
-use Rattle.layout.specs.declared.Request.{Request}
 use Rattle.offences.specs.Checks as checks
 use Rattle.offences.specs.Checks.{baseOf, lastBefore}
 use Rattle.paper.specs.Elements.{removedHealth}
@@ -26,6 +23,9 @@ use Rattle.reader.proofs.LayoutTheorem.{and-both, type-exactly, health-exactly}
 use Rattle.reader.proofs.Taken.{Listed, Taken, takes}
 use Rattle.reader.specs.Judgement.{header, slotOf}
 use Rattle.reader.specs.declared.Slot.the-variants.{Holds}
+use Rattle.request.proofs.Requests.{accepted}
+use Rattle.request.specs.Requests.{filterOf, reportTypeOf, pagesOf, refused, takesId, takesType}
+use Rattle.request.specs.declared.Request.{Request}
 use Rattle.status.proofs.EveryPage.{whole-pages}
 use Rattle.status.proofs.Page.{bytesOf, wide, shown-ids}
 use Rattle.status.specs.Page.{shownOf, shownAt, shownAll, asks, listOf, headerOf, pageOf}

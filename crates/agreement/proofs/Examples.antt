@@ -4,7 +4,7 @@ use mathlib.Core.Path.{_≡_, refl}
 use Rattle.cells.specs.Cells.{isSet}
 use Rattle.cells.specs.Sights.{seeIn}
 use Rattle.removal.specs.Remove.{judgeRoom, judgeFound}
-use Rattle.layout.specs.Requests.{refused, takesHealth}
+use Rattle.request.specs.Requests.{refused, takesHealth}
 use Rattle.status.specs.Page.{shownOf, asks, listOf, pageOf}
 use Rattle.table.specs.Search.{sightIn}
 use Rattle.words.specs.Lists.{all}

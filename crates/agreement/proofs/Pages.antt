@@ -6,8 +6,6 @@ use lib.ListN.{replicate, take, drop}
 use Rattle.cells.specs.Cells.{isSet}
 use Rattle.cells.specs.Sights.{seeIn}
 use Rattle.device.specs.declared.Device.{Device}
-use Rattle.layout.specs.Requests.{refused, takesHealth}
-use Rattle.layout.specs.declared.Request.{Request}
 use Rattle.making.specs.Examples.{deviceA, run, remove, steps}
 use Rattle.making.specs.Making.{fresh}
 use Rattle.offer.specs.Elements.{blank}
@@ -16,6 +14,8 @@ use Rattle.offer.specs.declared.Element.{Element}
 use Rattle.paper.specs.Told.{tells}
 use Rattle.paper.specs.declared.Security.the-variants.{Locked, Unlocked}
 use Rattle.removal.specs.Remove.{judgeRoom, judgeFound}
+use Rattle.request.specs.Requests.{refused, takesHealth}
+use Rattle.request.specs.declared.Request.{Request}
 use Rattle.status.specs.Page.{shownOf, asks, listOf, pageOf, shown}
 use Rattle.table.specs.Search.{sightIn}
 

@@ -4,11 +4,11 @@ use mathlib.Core.Bool.{true, false}
 use mathlib.Core.Path.{_≡_}
 use lib.ListN.{length, getD}
 use Rattle.device.specs.declared.Device.{Device}
-use Rattle.layout.specs.Requests.{refused}
-use Rattle.layout.specs.declared.Request.{Request}
 use Rattle.paper.specs.Told.{tells}
 use Rattle.reader.specs.Judgement.{header, readOf, slotOf}
 use Rattle.reader.specs.declared.Slot.the-variants.{Holds}
+use Rattle.request.specs.Requests.{refused}
+use Rattle.request.specs.declared.Request.{Request}
 use Rattle.status.specs.Page.{shownOf, listOf, busyOf, headerOf, pageOf}
 use Rattle.table.specs.Elements.{identifiers, blankPart, ascending}
 use Rattle.table.specs.declared.Part.{Part}

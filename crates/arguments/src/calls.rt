@@ -11,7 +11,6 @@ use crate::Line;
 use crate::PageCall;
 use crate::Poke;
 use crate::State;
-use layout::Request;
 use lines::field_at;
 use lines::is_same;
 use offer::Element;
@@ -19,6 +18,7 @@ use paper::ElementId;
 use paper::Lba;
 use paper::PageCount;
 use paper::Security;
+use request::Request;
 
 fn both(a: bool, b: bool) -> bool
     ensures { λ r. ⌜ r ≡ (a && b) ⌝ }

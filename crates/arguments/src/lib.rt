@@ -1,11 +1,11 @@
 // The bench language: each call from the words of its line.
 pub mod calls;
 
-use layout::Request;
 use offer::Element;
 use paper::ElementId;
 use paper::Lba;
 use paper::Security;
+use request::Request;
 
 // A security state that a word names, and whether it names one.
 struct State {

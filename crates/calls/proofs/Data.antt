@@ -7,8 +7,6 @@ use Rattle.device.proofs.Device as Device
 use Rattle.device.proofs.Device.Laws as Device′
 use Rattle.device.proofs.Stepped as Stepped
 use Rattle.device.proofs.Stepped.Laws as Stepped′
-use Rattle.layout.proofs.Request as Request
-use Rattle.layout.proofs.Request.Laws as Request′
 use Rattle.offer.proofs.Checked as Checked
 use Rattle.offer.proofs.Checked.Laws as Checked′
 use Rattle.offer.proofs.Element as Element
@@ -23,6 +21,8 @@ use Rattle.paper.proofs.Lba as Lba
 use Rattle.paper.proofs.Lba.Laws as Lba′
 use Rattle.paper.proofs.Security as Security
 use Rattle.paper.proofs.Security.Laws as Security′
+use Rattle.request.proofs.Request as Request
+use Rattle.request.proofs.Request.Laws as Request′
 
 abbrev pub identifier : Datum
 identifier = struct ElementId.the-type ElementId′.the-laws ElementId′.the-plain ElementId′.the-copy

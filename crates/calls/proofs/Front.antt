@@ -5,15 +5,15 @@ use mathlib.Core.Path.{_≡_, sym, ap, _∙_}
 use lib.ListN.{length}
 use borrow.Author.Tests.{eq-eqb, ne-eqb}
 use Rattle.commands.specs.Lent.{lent}
-use Rattle.device.specs.Commands.{asked}
 use Rattle.device.specs.Machine.{command, told}
 use Rattle.device.specs.declared.Device.{Device}
-use Rattle.layout.specs.declared.Request.{Request}
 use Rattle.paper.specs.Registers.{Registers}
 use Rattle.paper.specs.Told.{Told, said}
 use Rattle.paper.specs.declared.Answer.{Answer}
 use Rattle.paper.specs.declared.Lba.{Lba}
 use Rattle.paper.specs.declared.Security.{Security}
+use Rattle.request.specs.Requests.{asked}
+use Rattle.request.specs.declared.Request.{Request}
 use Rattle.status.specs.Page.{shown}
 
 abbrev pub registers : ℕ → ℕ → ℕ → Lba → Registers

@@ -18,7 +18,6 @@ ghost use Rattle.status.specs.Page.{shown};
 ghost use Rattle.calls.specs.Offered.{arrayOf, checkList, findList, madeFrom};
 use device::Device;
 use device::Stepped;
-use layout::Request;
 use offer::Checked;
 use offer::Element;
 use offer::Found;
@@ -27,6 +26,7 @@ use paper::Answer;
 use paper::ElementId;
 use paper::Lba;
 use paper::Security;
+use request::Request;
 
 // ---- The device, changed in place
 

@@ -8,16 +8,17 @@ use native.Mathlib.Omega.{arith}
 use lib.Dec.{ltb, lit<}
 use borrow.Author.Tests.{eq-eqb, ne-eqb, lt-ltb, le-ltb, ltb-true, ltb-false}
 use Rattle.cells.specs.Cells.{isSet}
-use Rattle.device.specs.Commands.{asked, statusNumber, otherNumber, isMedia, isNamed, sectorsOf, isBeyond, mediaNumber}
+use Rattle.device.specs.Commands.{otherNumber, isMedia, isNamed, sectorsOf, isBeyond, mediaNumber}
 use Rattle.device.specs.Machine.{command, ruleCommand, quietNumber, told}
 use Rattle.device.specs.Record.{underWay, tell}
 use Rattle.device.specs.declared.Device.{Device}
-use Rattle.layout.specs.declared.Request.{Request}
 use Rattle.open.specs.Open.{isOpen}
 use Rattle.paper.specs.Registers.{Registers, low48}
 use Rattle.paper.specs.Told.{Told}
 use Rattle.paper.specs.declared.Lba.{Lba}
 use Rattle.paper.specs.declared.Security.{Security}
+use Rattle.request.specs.Requests.{asked, statusNumber}
+use Rattle.request.specs.declared.Request.{Request}
 use Rattle.words.specs.Lists.{oneOf}
 
 -- ## Sectors

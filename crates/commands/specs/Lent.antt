@@ -3,10 +3,10 @@ use Prim.Native.Nat.{ℕ}
 use mathlib.Core.Bool.{cond}
 use mathlib.Core.List.{List}
 use lib.Dec.{eqb}
-use Rattle.device.specs.Commands.{asked}
 use Rattle.device.specs.declared.Device.{Device}
 use Rattle.paper.specs.Registers.{Registers}
 use Rattle.paper.specs.declared.Security.{Security}
+use Rattle.request.specs.Requests.{asked}
 use Rattle.status.specs.Page.{shown}
 
 abbrev pub lent : Device → Security → Registers → List ℕ → List ℕ

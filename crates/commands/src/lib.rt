@@ -13,11 +13,11 @@ ghost use Rattle.device.specs.Machine.{told};
 ghost use Rattle.open.specs.Open.{isOpen};
 use device::Device;
 use device::Stepped;
-use layout::Request;
 use paper::Answer;
 use paper::Lba;
 use paper::PageCount;
 use paper::Security;
+use request::Request;
 
 fn is_one_of(code: u8, codes: &[u8]) -> bool
     ensures { λ r. ⌜ r ≡ oneOf code (now (codes .entry)) ⌝ }
@@ -151,7 +151,7 @@ fn quiet_answer(
     ensures { λ r. ⌜ numberOf r ≡ machine.quietNumber d security (record { code = code; feature = feature; count = count; lba = lba }) room ⌝ }
 {
     if code == 0x12 {
-        return status::judge(security, asked(feature, count, lba), room);
+        return request::judge(security, asked(feature, count, lba), room);
     }
     let busy = d.is_under_way();
     let failed = d.is_failed();

@@ -6,12 +6,12 @@ use mathlib.Core.Path.{_≡_, refl, sym, subst}
 use native.Mathlib.Omega.{arith}
 use lib.Dec.{eqb}
 use borrow.Author.Tests.{eqb-true, eqb-false}
-use Rattle.layout.specs.Requests.{pagesOf}
-use Rattle.layout.specs.declared.Request.{Request}
 use Rattle.reach.specs.Opening.{accepted}
 use Rattle.reach.specs.Pages.{countOf, elementAt}
 use Rattle.reader.proofs.Taken.{Taken, taken, room}
 use Rattle.reader.specs.Judgement.{readOf}
+use Rattle.request.specs.Requests.{pagesOf}
+use Rattle.request.specs.declared.Request.{Request}
 use Rattle.words.specs.declared.Order.the-variants.{Little}
 
 abbrev pub idAt : List ℕ → ℕ → ℕ

@@ -9,13 +9,13 @@ use lib.ListN.{length, take, drop, getD, length-drop}
 use lib.Seq.{length-take-le, getD-take, getD-drop, drop-drop}
 use borrow.Author.Tests.{eqb-true, eqb-false, lt-ltb, le-ltb}
 use Rattle.layout.specs.Bytes.{descriptorIn}
-use Rattle.layout.specs.Requests.{pagesOf}
 use Rattle.layout.specs.declared.Descriptor.{Descriptor}
-use Rattle.layout.specs.declared.Request.{Request}
 use Rattle.offences.specs.Checks.{baseOf}
 use Rattle.paper.specs.declared.ElementId.{ElementId}
 use Rattle.reach.specs.Opening.{accepted}
 use Rattle.reach.specs.Pages.{countOf, elementAt, boundOf, endOf}
+use Rattle.request.specs.Requests.{pagesOf}
+use Rattle.request.specs.declared.Request.{Request}
 use Rattle.words.specs.Bytes.{number, front, numberAt}
 use Rattle.words.specs.Lists.{Every}
 use Rattle.words.specs.declared.Order.the-variants.{Little}

@@ -5,10 +5,10 @@ use mathlib.Core.List.{List, [], _∷_, map}
 use mathlib.Core.Path.{_≡_}
 use lib.ListN.{length}
 use Rattle.layout.specs.Bytes.{descriptorIn}
-use Rattle.layout.specs.declared.Request.{Request}
 use Rattle.paper.specs.declared.ElementId.{ElementId}
 use Rattle.reach.specs.Opening.{accepted}
 use Rattle.reach.specs.Pages.{countOf, elementAt}
+use Rattle.request.specs.declared.Request.{Request}
 use Rattle.words.specs.Lists.{Every}
 use Rattle.words.specs.declared.Order.the-variants.{Little}
 use Rattle.compare.specs.Differences.{absent, stands, standing, differencesOf}

@@ -16,7 +16,6 @@ use Rattle.compare.specs.declared.Hit.{Hit}
 use Rattle.compare.specs.declared.Step.the-variants.{Done, Found}
 use Rattle.compare.specs.declared.Step.{Step}
 use Rattle.io.specs.Counts.{Counts}
-use Rattle.layout.specs.declared.Request.{Request}
 use Rattle.listing.proofs.Printing.{printed-small, printed-done, printed-counts}
 use Rattle.listing.specs.Listing.{requestOf, output, printed}
 use Rattle.paper.specs.Told.{tells, said}
@@ -24,6 +23,7 @@ use Rattle.paper.specs.declared.Answer.the-variants as answer
 use Rattle.reach.specs.Opening.{turn, heard, openOf}
 use Rattle.reach.specs.declared.Opening.{Opening}
 use Rattle.reach.specs.declared.Turn.the-variants.{Older}
+use Rattle.request.specs.declared.Request.{Request}
 use Rattle.text.proofs.Written.{len-written, held-written}
 use Rattle.text.specs.Text.{nothing, written, held}
 use Rattle.text.specs.declared.Text.{Text}

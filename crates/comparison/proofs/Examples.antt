@@ -8,11 +8,11 @@ use Rattle.changes.specs.Changes.{handed, olderOf, lineOf, lastLine}
 use Rattle.compare.proofs.Examples.{older, newer}
 use Rattle.compare.specs.Parts.{descriptorPart}
 use Rattle.compare.specs.Walk.{first, keyAt, agreeAt, stepAt, past, nextTo, nextOf, walk, walkFrom}
-use Rattle.layout.specs.Requests.{refused, takesHealth}
 use Rattle.listing.specs.Listing.{requestFor}
 use Rattle.reach.specs.Opening.{Values, bound, accepted}
 use Rattle.reach.specs.Pages.{countOf, elementAt, reachOf, boundOf}
 use Rattle.reach.specs.declared.Bound.the-variants.{Whole, UpTo}
+use Rattle.request.specs.Requests.{refused, takesHealth}
 use Rattle.text.specs.Text.{ascii}
 use Rattle.comparison.specs.Comparison.{judged, comparisonOf, isAccepted, linesFrom}
 use Rattle.comparison.proofs.Accepted.{by-walk}

@@ -1,31 +1,15 @@
--- Document 01, "The other commands" and the checks of "GET PHYSICAL ELEMENT STATUS (12h)": the numbers; no store is made.
-use Prim.Native.Nat.{ℕ, _+_, _*_}
+-- Document 01, "The other commands": the numbers; no store is made.
+use Prim.Native.Nat.{ℕ, _+_}
 use mathlib.Core.Bool.{Bool, cond, not, _&&_, _||_}
 use mathlib.Core.List.{[], _∷_}
 use lib.Dec.{ltb, eqb}
 use Rattle.cells.specs.Cells.{isSet, busyNumber, failedNumber}
-use Rattle.layout.specs.Requests.{refused, pagesOf}
-use Rattle.layout.specs.declared.Request.{Request}
 use Rattle.open.specs.Open.{isOpen}
 use Rattle.paper.specs.Registers.{Registers, low48}
-use Rattle.paper.specs.Table12.{aborts}
 use Rattle.paper.specs.declared.Lba.{Lba}
-use Rattle.paper.specs.declared.Security.{Security}
 use Rattle.words.specs.Lists.{oneOf}
-use Rattle.paper.specs.declared.Command.the-variants.{Status}
 use Rattle.device.specs.Record.{underWay}
 use Rattle.device.specs.declared.Device.{Device}
-
--- ## 12h: "all 4; then the buffer below 512p bytes: 7. Allowed during a removal."; 1 by 000, table 12, where no state aborts it
-
--- what the registers ask for
-abbrev pub asked : Registers → Request
-asked r = record { feature = r .feature; count = record { 0 = r .count }; lba = r .lba }
-
-abbrev pub statusNumber : Security → Request → ℕ → ℕ
-statusNumber security q room = cond (aborts Status security) 1 (cond (refused q) 4 (cond (ltb room (512 * pagesOf q)) 7 0))
-
--- ## The other commands
 
 -- "24h, 25h, 34h, 35h, 42h (EXT reads, writes, verify: media access)"
 abbrev pub isMedia : ℕ → Bool

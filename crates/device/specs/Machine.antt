@@ -7,9 +7,10 @@ use Rattle.paper.specs.Registers.{Registers}
 use Rattle.paper.specs.Told.{Told}
 use Rattle.paper.specs.declared.ElementId.{ElementId}
 use Rattle.paper.specs.declared.Security.{Security}
-use Rattle.device.specs.Commands.{asked, statusNumber, otherNumber}
 use Rattle.removal.specs.Remove.{ruleRemove}
+use Rattle.request.specs.Requests.{asked, statusNumber}
 use Rattle.steps.specs.Steps.{ruleStep, ruleStop, ruleGrade}
+use Rattle.device.specs.Commands.{otherNumber}
 use Rattle.device.specs.Record.{says, tell}
 use Rattle.device.specs.declared.Device.{Device}
 

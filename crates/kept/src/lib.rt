@@ -7,12 +7,12 @@ use arguments::PageCall;
 use arguments::Poke;
 use layout::Descriptor;
 use layout::Header;
-use layout::Request;
 use print::print_line;
 use print::print_number;
 use print::print_words;
 use reader::Judgement;
 use reader::Slot;
+use request::Request;
 use text::Text;
 
 fn clear(page: &mut [u8], from: usize, to: usize)

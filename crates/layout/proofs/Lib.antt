@@ -1,4 +1,3 @@
 -- What is proved of `layout`'s definitions, and of its functions.
 pub mod Bytes
 pub mod Examples
-pub mod Requests

@@ -1,4 +1,3 @@
--- The status page as device and reader share it: what a request asks, and what stands at which byte.
+-- The status page as device and reader share it: what stands at which byte, and that it is read back.
 pub mod Bytes
 pub mod Promises
-pub mod Requests

@@ -1,19 +1,8 @@
-// What device and reader share of a status page: the request, the header, the descriptor; in either byte order.
+// What device and reader share of a status page: the header and the descriptor, in either byte order.
 ghost use mathlib.Core.Path.{_≡_};
-ghost use Rattle.layout.specs.Requests.{filterOf, reportTypeOf, startOf, refused, takesId, takesType, takesHealth};
 ghost use Rattle.layout.specs.Bytes.{headerBytes, headerIn, descriptorBytes, descriptorIn};
-ghost use Rattle.paper.specs.Elements.{slow};
 use paper::ElementId;
-use paper::Lba;
-use paper::PageCount;
 use words::Order;
-
-// A request for status pages (12h), as the registers have it.
-pub struct Request {
-    pub feature: u16,
-    pub count: PageCount,
-    pub lba: Lba,
-}
 
 // The numbers of a page's first 32 bytes.
 pub struct Header {
@@ -31,78 +20,6 @@ pub struct Descriptor {
     pub kind: u8,
     pub health: u8,
     pub capacity: u64,
-}
-
-impl Request {
-    fn filter(self) -> u16
-        ensures { λ r. ⌜ r ≡ filterOf self ⌝ }
-    {
-        self.feature / 16384 % 4
-    }
-
-    fn report_type(self) -> u16
-        ensures { λ r. ⌜ r ≡ reportTypeOf self ⌝ }
-    {
-        self.feature / 256 % 16
-    }
-
-    fn start(self) -> u64
-        ensures { λ r. ⌜ r ≡ startOf self ⌝ }
-    {
-        let start = self.lba.low48();
-        start.0
-    }
-
-    // Whether the request is due 4.
-    pub fn is_refused(self) -> bool
-        ensures { λ r. ⌜ r ≡ refused self ⌝ }
-    {
-        if 1 < self.filter() {
-            return true;
-        }
-        if 1 < self.report_type() {
-            return true;
-        }
-        self.count.0 == 0
-    }
-
-    // Whether an identifier is at or above the start.
-    pub fn takes_id(self, id: ElementId) -> bool
-        ensures { λ r. ⌜ r ≡ takesId self (id .0) ⌝ }
-    {
-        self.start() <= id.0 as u64
-    }
-
-    pub fn takes_type(self, kind: u8) -> bool
-        ensures { λ r. ⌜ r ≡ takesType (reportTypeOf self) kind ⌝ }
-    {
-        if self.report_type() == 1 {
-            kind == 1
-        } else {
-            true
-        }
-    }
-
-    pub fn takes_health(self, health: u8) -> bool
-        ensures { λ r. ⌜ r ≡ takesHealth (filterOf self) health ⌝ }
-    {
-        if self.filter() != 1 {
-            return true;
-        }
-        if is_slow(health) {
-            return true;
-        }
-        health == 0xFF
-    }
-}
-
-fn is_slow(health: u8) -> bool
-    ensures { λ r. ⌜ r ≡ slow health ⌝ }
-{
-    if health < 0x65 {
-        return false;
-    }
-    health <= 0xCF
 }
 
 impl Header {

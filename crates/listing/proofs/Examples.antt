@@ -5,11 +5,11 @@ use mathlib.Core.List.{List, [], _∷_, _++_}
 use mathlib.Core.Path.{_≡_, refl, ap, _∙_}
 use lib.ListN.{replicate}
 use Rattle.layout.specs.Bytes.{allOnes}
-use Rattle.layout.specs.Requests.{refused, takesHealth}
 use Rattle.layout.specs.declared.Descriptor.{Descriptor}
 use Rattle.layout.specs.declared.Header.{Header}
 use Rattle.offences.specs.Checks.{descriptorAt}
 use Rattle.reader.specs.Judgement.{Values, header}
+use Rattle.request.specs.Requests.{refused, takesHealth}
 use Rattle.rows.specs.Rows.{descriptorLine, headerLine}
 use Rattle.text.specs.Text.{ascii}
 use Rattle.words.specs.declared.Order.the-variants.{Little}

@@ -10,13 +10,13 @@ use lib.ListN.{length, drop, length-append}
 use borrow.Author.Tests.{leb-true, leb-false, lt-ltb, le-ltb}
 use Rattle.io.specs.Counts.{Counts}
 use Rattle.layout.specs.declared.Header.{Header}
-use Rattle.layout.specs.declared.Request.{Request}
 use Rattle.offences.specs.Checks.{descriptorAt}
 use Rattle.paper.specs.Told.{tells, said}
 use Rattle.paper.specs.declared.Answer.the-variants.{Done, SmallBuffer}
 use Rattle.reader.specs.Judgement.{Values, header, place, heard, readOf}
 use Rattle.reader.specs.declared.Judgement.the-variants.{Accepted, Refused}
 use Rattle.reader.specs.declared.Judgement.{Judgement}
+use Rattle.request.specs.declared.Request.{Request}
 use Rattle.rows.proofs.Rows.{length-line, length-header, length-refused}
 use Rattle.rows.specs.Rows.{descriptorLine, headerLine, refusedLine}
 use Rattle.text.proofs.Written.{len-written, held-written}

@@ -4,10 +4,10 @@ use mathlib.Core.Bool.{cond}
 use mathlib.Core.List.{List, [], _++_}
 use lib.Dec.{ltb}
 use lib.ListN.{length, drop}
-use Rattle.layout.specs.declared.Request.{Request}
 use Rattle.offences.specs.Checks.{descriptorAt}
 use Rattle.paper.specs.Told.{Told, tells}
 use Rattle.reader.specs.Judgement.{Values, header, place, readOf}
+use Rattle.request.specs.declared.Request.{Request}
 use Rattle.rows.specs.Rows.{descriptorLine, headerLine, refusedLine}
 use Rattle.words.specs.declared.Order.the-variants.{Little}
 

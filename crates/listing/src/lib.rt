@@ -11,11 +11,11 @@ ghost use Rattle.text.specs.Text.{nothing, written};
 ghost use Rattle.words.specs.Lists.{stored};
 ghost use Rattle.words.specs.declared.Order.the-variants.{Little};
 ghost use Rattle.listing.specs.Listing.{linesBelow, requestFor, judged, firstLine, lineCount, output, listed};
-use layout::Request;
 use paper::Answer;
 use paper::Lba;
 use paper::PageCount;
 use reader::Judgement;
+use request::Request;
 use text::Text;
 use words::Order;
 

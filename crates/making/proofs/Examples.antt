@@ -5,12 +5,12 @@ use Rattle.cells.specs.Cells.{isSet}
 use Rattle.cells.specs.Sights.{seeIn}
 use Rattle.device.specs.Commands.{mediaNumber, otherNumber}
 use Rattle.device.specs.declared.Device.{Device}
-use Rattle.layout.specs.Requests.{refused}
 use Rattle.offer.specs.Check.{good}
 use Rattle.offer.specs.Examples.{offerA}
 use Rattle.open.specs.Open.{isOpen}
 use Rattle.paper.specs.Told.{tells}
 use Rattle.removal.specs.Remove.{judgeRoom, judgeFound}
+use Rattle.request.specs.Requests.{refused}
 use Rattle.steps.specs.Steps.{gradeSeen}
 use Rattle.table.specs.Search.{sightIn}
 use Rattle.words.specs.Lists.{all}

@@ -8,9 +8,9 @@ use lib.Dec.{eqb, ltb}
 use lib.ListN.{drop}
 use borrow.Author.Tests.{eq-eqb, ne-eqb}
 use Rattle.layout.specs.Bytes.{descriptorIn}
-use Rattle.layout.specs.Requests.{filterOf, reportTypeOf, takesId, takesType, takesHealth}
 use Rattle.layout.specs.declared.Descriptor.{Descriptor}
-use Rattle.layout.specs.declared.Request.{Request}
+use Rattle.request.specs.Requests.{filterOf, reportTypeOf, takesId, takesType, takesHealth}
+use Rattle.request.specs.declared.Request.{Request}
 use Rattle.words.specs.declared.Order.{Order}
 use Rattle.offences.specs.Checks.{baseOf, descriptorAt, lastBefore, inTurn, earned, checkOf, offenceAt}
 use Rattle.offences.specs.declared.Offence.the-variants.{Clean, At}

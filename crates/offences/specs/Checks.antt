@@ -5,10 +5,10 @@ use mathlib.Core.List.{List}
 use lib.Dec.{eqb, ltb}
 use lib.ListN.{drop}
 use Rattle.layout.specs.Bytes.{descriptorIn}
-use Rattle.layout.specs.Requests.{filterOf, reportTypeOf, takesId, takesType, takesHealth}
 use Rattle.layout.specs.declared.Descriptor.{Descriptor}
-use Rattle.layout.specs.declared.Request.{Request}
 use Rattle.paper.specs.Elements.{removedHealth}
+use Rattle.request.specs.Requests.{filterOf, reportTypeOf, takesId, takesType, takesHealth}
+use Rattle.request.specs.declared.Request.{Request}
 use Rattle.words.specs.declared.Order.{Order}
 use Rattle.offences.specs.First.{unless, _orElse_}
 use Rattle.offences.specs.declared.Offence.{Offence}

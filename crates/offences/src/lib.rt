@@ -4,8 +4,8 @@ ghost use Prim.Native.Nat.{_+_, _^_, _<_};
 ghost use Rattle.offences.specs.Checks.{descriptorAt, inTurn, earned, checkOf, offenceAt};
 ghost use Rattle.offences.specs.First.{firstBelow};
 use layout::Descriptor;
-use layout::Request;
 use paper::ElementId;
+use request::Request;
 use words::Order;
 
 // What a check finds: nothing, or the place of an offence.

@@ -9,13 +9,13 @@ use borrow.Author.Tests.{lt-ltb, le-ltb}
 use Rattle.layout.specs.Bytes.{headerIn}
 use Rattle.layout.specs.declared.Descriptor.{Descriptor}
 use Rattle.layout.specs.declared.Header.{Header}
-use Rattle.layout.specs.declared.Request.{Request}
 use Rattle.offences.specs.Checks.{descriptorAt, lastBefore}
 use Rattle.paper.specs.Told.{tells}
 use Rattle.paper.specs.declared.ElementId.{ElementId}
 use Rattle.reader.specs.Judgement as judgement
 use Rattle.reader.specs.declared.Judgement.the-variants as says
 use Rattle.reader.specs.declared.Judgement.{Judgement}
+use Rattle.request.specs.declared.Request.{Request}
 use Rattle.words.specs.declared.Order.the-variants.{Little}
 use Rattle.reach.specs.Opening.{openOf, accepted, bound, turn}
 use Rattle.reach.specs.Pages.{countOf, reachOf, smallest, boundOf, endOf}

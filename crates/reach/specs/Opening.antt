@@ -3,9 +3,9 @@ use Prim.Native.Nat.{ℕ}
 use mathlib.Core.Bool.{Bool, cond}
 use mathlib.Core.List.{List}
 use lib.Dec.{eqb}
-use Rattle.layout.specs.declared.Request.{Request}
 use Rattle.paper.specs.Told.{Told, tells}
 use Rattle.reader.specs.Judgement.{readOf}
+use Rattle.request.specs.declared.Request.{Request}
 use Rattle.words.specs.declared.Order.the-variants.{Little}
 use Rattle.reach.specs.Pages.{boundOf}
 use Rattle.reach.specs.declared.Bound.{Bound}

@@ -5,9 +5,9 @@ ghost use Rattle.reach.specs.Pages.{reachOf, smallest, boundOf, endOf};
 ghost use Rattle.offences.specs.Checks.{lastBefore};
 ghost use Rattle.words.specs.declared.Order.the-variants.{Little};
 use layout::Header;
-use layout::Request;
 use paper::ElementId;
 use reader::Judgement;
+use request::Request;
 use words::Order;
 
 // Which of the two pages is meant.

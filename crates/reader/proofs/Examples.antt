@@ -5,9 +5,9 @@ use mathlib.Core.List.{List, [], _∷_, _++_}
 use mathlib.Core.Path.{_≡_, refl}
 use lib.Dec.{eqb}
 use lib.ListN.{replicate, set, take}
-use Rattle.layout.specs.Requests.{refused, takesHealth}
-use Rattle.layout.specs.declared.Request.{Request}
 use Rattle.paper.specs.Told.{tells}
+use Rattle.request.specs.Requests.{refused, takesHealth}
+use Rattle.request.specs.declared.Request.{Request}
 use Rattle.words.specs.Lists.{all}
 use Rattle.words.specs.declared.Order.the-variants.{Little, Big}
 use Rattle.reader.specs.Judgement.{Values, header, place, readOf, slotOf}

@@ -8,18 +8,18 @@ use native.Mathlib.Omega.{arith}
 use lib.Dec.{eqb, leb, ltb}
 use lib.ListN.{length, getD}
 use borrow.Author.Tests.{eq-eqb, ne-eqb, le-leb, lt-leb, le-ltb, lt-ltb, eqb-true, eqb-false, leb-true, ltb-true, not-true}
-use Rattle.layout.proofs.Requests.{accepted}
 use Rattle.layout.specs.Bytes.{headerIn, returnedOf}
-use Rattle.layout.specs.Requests.{filterOf, reportTypeOf, pagesOf, startOf, refused, takesId, takesType, inFilter, takesHealth}
 use Rattle.layout.specs.declared.Descriptor.{Descriptor}
 use Rattle.layout.specs.declared.Header.{Header}
-use Rattle.layout.specs.declared.Request.{Request}
 use Rattle.offences.specs.Checks.{baseOf, descriptorAt, lastBefore, inTurn, earned, checkOf, offenceAt}
 use Rattle.offences.specs.First.{unless, _orElse_, firstBelow}
 use Rattle.offences.specs.declared.Offence.the-variants.{Clean, At}
 use Rattle.offences.specs.declared.Offence.{Offence}
 use Rattle.paper.specs.Elements.{storageType, removedHealth, slow, gradedHealth}
 use Rattle.paper.specs.Told.{Told, tells}
+use Rattle.request.proofs.Requests.{accepted}
+use Rattle.request.specs.Requests.{filterOf, reportTypeOf, pagesOf, startOf, refused, takesId, takesType, inFilter, takesHealth}
+use Rattle.request.specs.declared.Request.{Request}
 use Rattle.words.specs.declared.Order.{Order}
 use Rattle.reader.specs.Judgement.{Values, header, place, answerOf, readOf}
 use Rattle.reader.specs.Layout.{Rule, rule, below, Asked, InFilter, descriptorRules, rulesAt, paddingRules, pageRules}

@@ -7,17 +7,17 @@ use native.Mathlib.Nat.{min-le-right}
 use native.Mathlib.Omega.{arith}
 use lib.ListN.{length}
 use borrow.Author.Tests.{eq-eqb, ne-eqb, lt-ltb, le-ltb}
-use Rattle.layout.proofs.Requests.{accepted}
 use Rattle.layout.specs.Bytes.{headerIn, returnedOf}
-use Rattle.layout.specs.Requests.{pagesOf, refused}
 use Rattle.layout.specs.declared.Descriptor.{Descriptor}
 use Rattle.layout.specs.declared.Header.{Header}
-use Rattle.layout.specs.declared.Request.{Request}
 use Rattle.offences.specs.Checks.{baseOf, descriptorAt, offenceAt}
 use Rattle.offences.specs.First.{firstBelow}
 use Rattle.offences.specs.declared.Offence.the-variants.{Clean, At}
 use Rattle.offences.specs.declared.Offence.{Offence}
 use Rattle.paper.specs.Told.{Told}
+use Rattle.request.proofs.Requests.{accepted}
+use Rattle.request.specs.Requests.{pagesOf, refused}
+use Rattle.request.specs.declared.Request.{Request}
 use Rattle.words.specs.declared.Order.{Order}
 use Rattle.reader.specs.Judgement.{Values, heard, answerOf, readOf, slotOf}
 use Rattle.reader.specs.Page.{paddingAt, contentsOf}

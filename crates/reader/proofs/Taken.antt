@@ -7,11 +7,11 @@ use native.Mathlib.Nat.{min-le-right}
 use native.Mathlib.Omega.{arith}
 use lib.ListN.{length, getD}
 use Rattle.layout.specs.Bytes.{headerIn, roomOf, returnedOf}
-use Rattle.layout.specs.Requests.{filterOf, reportTypeOf, pagesOf, startOf}
 use Rattle.layout.specs.declared.Descriptor.{Descriptor}
-use Rattle.layout.specs.declared.Request.{Request}
 use Rattle.offences.specs.Checks.{baseOf, descriptorAt, lastBefore}
 use Rattle.paper.specs.Told.{tells}
+use Rattle.request.specs.Requests.{filterOf, reportTypeOf, pagesOf, startOf}
+use Rattle.request.specs.declared.Request.{Request}
 use Rattle.words.specs.declared.Order.{Order}
 use Rattle.reader.specs.Judgement.{header, readOf}
 use Rattle.reader.specs.Layout.{Rule, Each, below, Asked, InFilter, descriptorRules, rulesAt, paddingRules}

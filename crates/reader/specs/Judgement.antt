@@ -5,11 +5,11 @@ use mathlib.Core.List.{List}
 use lib.Dec.{ltb}
 use Rattle.layout.specs.Bytes.{headerIn}
 use Rattle.layout.specs.declared.Header.{Header}
-use Rattle.layout.specs.declared.Request.{Request}
 use Rattle.offences.specs.Checks.{descriptorAt}
 use Rattle.offences.specs.declared.Offence.the-variants.{Clean, At}
 use Rattle.offences.specs.declared.Offence.{Offence}
 use Rattle.paper.specs.Told.{Told, tells}
+use Rattle.request.specs.declared.Request.{Request}
 use Rattle.words.specs.declared.Order.{Order}
 use Rattle.reader.specs.Page.{pageOffence}
 use Rattle.reader.specs.declared.Judgement.the-variants.{Accepted, Refused}

@@ -5,11 +5,11 @@ use mathlib.Core.List.{List}
 use lib.Dec.{eqb}
 use lib.ListN.{length, getD}
 use Rattle.layout.specs.Bytes.{headerIn, returnedOf}
-use Rattle.layout.specs.Requests.{pagesOf, refused}
-use Rattle.layout.specs.declared.Request.{Request}
 use Rattle.offences.specs.Checks.{baseOf, offenceAt}
 use Rattle.offences.specs.First.{unless, _orElse_, firstBelow}
 use Rattle.offences.specs.declared.Offence.{Offence}
+use Rattle.request.specs.Requests.{pagesOf, refused}
+use Rattle.request.specs.declared.Request.{Request}
 use Rattle.words.specs.declared.Order.{Order}
 
 -- "then the first non-zero padding byte"

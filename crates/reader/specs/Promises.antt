@@ -3,8 +3,8 @@ use Prim.Native.Nat.{ℕ}
 use mathlib.Core.List.{List}
 use mathlib.Core.Path.{_≡_}
 use Rattle.layout.specs.Bytes.{headerIn}
-use Rattle.layout.specs.declared.Request.{Request}
 use Rattle.paper.specs.Told.{tells}
+use Rattle.request.specs.declared.Request.{Request}
 use Rattle.words.specs.declared.Order.{Order}
 use Rattle.reader.specs.Judgement.{header, place, heard, readOf}
 use Rattle.reader.specs.Layout.{Each, FirstBroken, pageRules}

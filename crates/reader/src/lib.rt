@@ -9,9 +9,9 @@ ghost use Rattle.reader.specs.Page.{paddingAt, contentsOf};
 ghost use Rattle.words.specs.declared.Order.the-variants.{Little};
 use layout::Descriptor;
 use layout::Header;
-use layout::Request;
 use offences::Offence;
 use paper::PageCount;
+use request::Request;
 use words::Order;
 
 // The header's numbers, or the place of the first offence.

@@ -1,33 +1,28 @@
 -- The list, the descriptor and the page: a law for each way out, and the page put together from what its parts store.
 use Prim.Native.Nat.{ℕ, _+_, _-_, _*_, _^_, _≤_, _<_, min}
-use mathlib.Core.Bool.{Bool, true, false, cond}
+use mathlib.Core.Bool.{Bool, true, false}
 use mathlib.Core.List.{List, _++_, map}
 use mathlib.Core.Path.{_≡_, refl, sym, ap, _∙_}
 use native.Mathlib.Omega.{arith}
-use lib.Dec.{ltb}
 use lib.ListN.{length, take, drop, getD, set, replicate, length-append, length-replicate, List·getD-map}
 use lib.Seq.{length-take-le, take-all, take-length}
-use borrow.Author.Tests.{lt-ltb, le-ltb, ltb-false, eq-eqb, ne-eqb}
+use borrow.Author.Tests.{eq-eqb, ne-eqb}
 use mir.Val.{boolByte}
-use Rattle.device.specs.Commands.{statusNumber}
-use Rattle.device.specs.Record.{removedNumber}
-use Rattle.paper.specs.Table12.{aborts}
-use Rattle.paper.specs.declared.Command.the-variants.{Status}
-use Rattle.device.specs.declared.Device.{Device}
 use Rattle.cells.specs.declared.Note.the-variants.{Empty, Full}
 use Rattle.cells.specs.declared.Note.{Note}
 use Rattle.cells.specs.declared.Removal.{Removal}
-use Rattle.layout.proofs.Requests.{accepted}
+use Rattle.device.specs.Record.{removedNumber}
+use Rattle.device.specs.declared.Device.{Device}
 use Rattle.layout.specs.Bytes.{headerBytes, descriptorBytes, roomOf, returnedOf}
-use Rattle.layout.specs.Requests.{filterOf, reportTypeOf, pagesOf, takesId, takesType, takesHealth, refused}
 use Rattle.layout.specs.declared.Descriptor.{Descriptor}
 use Rattle.layout.specs.declared.Header.{Header}
-use Rattle.layout.specs.declared.Request.{Request}
 use Rattle.paper.specs.Answers.{numberOf}
 use Rattle.paper.specs.Told.{said}
 use Rattle.paper.specs.declared.Answer.{Answer}
 use Rattle.paper.specs.declared.ElementId.{ElementId}
 use Rattle.paper.specs.declared.Security.{Security}
+use Rattle.request.specs.Requests.{filterOf, reportTypeOf, pagesOf, statusNumber, takesId, takesType, takesHealth}
+use Rattle.request.specs.declared.Request.{Request}
 use Rattle.table.specs.Elements.{live, blankPart, identifiers, size, identifierAt}
 use Rattle.table.specs.declared.Part.{Part}
 use Rattle.words.proofs.Lists.{take-min, map-map, map-upTo, map-places, stored-front, stored-more, stored-each, length-flat}
@@ -193,37 +188,6 @@ module _ (ps : List Part) (hs places : List ℕ) (r : ℕ) (b : List ℕ) (long 
       is-x ∙ ap (λ (l : List Descriptor). stored b 32 (flat bytesOf l)) (take-all k (shownThere ps hs places r) (omega (arith, length-there ps hs places r (omega arith))))
 
 -- ## The answer, and the buffer
-
-module _ (s : Security) (q : Request) (room : ℕ) (a : Bool) (is-a : a ≡ aborts Status s) where
-  pub judge-locked : a ≡ true → 1 ≡ statusNumber s q room
-  judge-locked y = sym (rw (sym is-a ∙ y))
-
-  module _ (n : a ≡ false) (b : Bool) (is-b : b ≡ refused q) where
-    pub judge-refused : b ≡ true → 4 ≡ statusNumber s q room
-    judge-refused y = sym (rw (sym is-a ∙ n, sym is-b ∙ y))
-
-    pub judge-small : b ≡ false → room < 512 * pagesOf q → 7 ≡ statusNumber s q room
-    judge-small m h = sym (rw (sym is-a ∙ n, sym is-b ∙ m, lt-ltb _ _ h))
-
-    pub judge-done : b ≡ false → 512 * pagesOf q ≤ room → 0 ≡ statusNumber s q room
-    judge-done m h = sym (rw (sym is-a ∙ n, sym is-b ∙ m, le-ltb _ _ h))
-
--- a request that is answered 0 is for some pages, and they fit
-answered : (s : Security) (q : Request) (room : ℕ) → statusNumber s q room ≡ 0 → (1 ≤ pagesOf q) × (512 * pagesOf q ≤ room)
-answered s q room e = go (aborts Status s) (refused q) (ltb room (512 * pagesOf q)) refl refl e
-  where
-    go : (a b c : Bool) → refused q ≡ b → ltb room (512 * pagesOf q) ≡ c → _≡_ {A = ℕ} (cond a 1 (cond b 4 (cond c 7 0))) 0 → (1 ≤ pagesOf q) × (512 * pagesOf q ≤ room)
-    go true b c p r z = absurd (omega arith)
-    go false true c p r z = absurd (omega arith)
-    go false false true p r z = absurd (omega arith)
-    go false false false p r z = (accepted q p .2, ltb-false room (512 * pagesOf q) r)
-
-module _ (s : Security) (q : Request) (room n : ℕ) (a : Answer) (is-a : numberOf a ≡ statusNumber s q room) (is-n : n ≡ numberOf a) (z : n ≡ 0) where
-  pub some-pages : 1 ≤ pagesOf q
-  some-pages = answered s q room (sym is-a ∙ sym is-n ∙ z) .0
-
-  pub pages-fit : 512 * pagesOf q ≤ room
-  pages-fit = answered s q room (sym is-a ∙ sym is-n ∙ z) .1
 
 module _ (d : Device) (s : Security) (q : Request) (buf : List ℕ) (a : Answer) (is-a : numberOf a ≡ statusNumber s q (length buf)) (n : ℕ) (is-n : n ≡ numberOf a) where
   pub shown-done : n ≡ 0 → (out : List ℕ) → out ≡ pageOf d q ++ drop (512 * pagesOf q) buf → said a out ≡ shown d s q buf

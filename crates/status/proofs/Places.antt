@@ -12,7 +12,7 @@ use mir.Val.{boolByte}
 use Rattle.device.specs.Record.{healthAt}
 use Rattle.device.specs.declared.Device.{Device}
 use Rattle.layout.specs.declared.Descriptor.{Descriptor}
-use Rattle.layout.specs.declared.Request.{Request}
+use Rattle.request.specs.declared.Request.{Request}
 use Rattle.table.proofs.Arrays.{length-taken}
 use Rattle.table.specs.Elements.{live, blankPart, size}
 use Rattle.table.specs.declared.Part.{Part}

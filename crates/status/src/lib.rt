@@ -4,24 +4,21 @@ ghost use mathlib.Core.List.{_++_};
 ghost use Prim.Native.Nat.{_+_, _-_, _*_, _≤_};
 ghost use lib.ListN.{length, drop, replicate};
 ghost use Rattle.device.specs.Record.{removedNumber};
-ghost use Rattle.paper.specs.Answers.{numberOf};
 ghost use Rattle.paper.specs.Told.{said};
 ghost use Rattle.words.specs.Lists.{flat, stored};
-ghost use Rattle.device.specs.Commands.{statusNumber};
 ghost use Rattle.layout.specs.Bytes.{headerBytes, descriptorBytes};
-ghost use Rattle.layout.specs.Requests.{pagesOf};
+ghost use Rattle.request.specs.Requests.{pagesOf};
 ghost use Rattle.status.specs.Page.{capacityOf, shownOf, asks, busyOf, headed, pageOf, shown};
 ghost use Rattle.status.specs.Places.{Slots, shownThere};
 use cells::Note;
 use device::Device;
 use layout::Descriptor;
 use layout::Header;
-use layout::Request;
 use paper::Answer;
-use paper::Command;
 use paper::ElementId;
 use paper::PageCount;
 use paper::Security;
+use request::Request;
 use table::Part;
 use words::Order;
 
@@ -157,27 +154,11 @@ fn fill(d: Device, request: Request, buf: &mut [u8])
     put_zeros(returned, request.count, buf);
 }
 
-// What a request is answered, over the length of the lent buffer.
-pub fn judge(security: Security, request: Request, room: usize) -> Answer
-    ensures { λ r. ⌜ numberOf r ≡ statusNumber security request room ⌝ }
-{
-    if paper::is_aborted(Command::Status, security) {
-        return Answer::SecurityLocked;
-    }
-    if request.is_refused() {
-        return Answer::InvalidField;
-    }
-    if room < 512 * (request.count.0 as usize) {
-        return Answer::SmallBuffer;
-    }
-    Answer::Done
-}
-
 // The answer, and the page if it is 0.
 pub fn show(d: Device, security: Security, request: Request, buf: &mut [u8]) -> Answer
     ensures { λ r. ⌜ said r (now (buf .exit)) ≡ shown d security request (now (buf .entry)) ⌝ }
 {
-    let answer = judge(security, request, buf.len());
+    let answer = request::judge(security, request, buf.len());
     if paper::number_of(answer) == 0 {
         fill(d, request, buf);
     }

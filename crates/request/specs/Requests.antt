@@ -1,10 +1,17 @@
--- Document 01, "GET PHYSICAL ELEMENT STATUS (12h)": a request's fields, which requests are due 4, and the tests of an element.
-use Prim.Native.Nat.{ℕ, _/_, _%_, _^_}
-use mathlib.Core.Bool.{Bool, not, _||_}
+-- Document 01, "GET PHYSICAL ELEMENT STATUS (12h)": a request's fields, what it is answered, and the tests of an element.
+use Prim.Native.Nat.{ℕ, _*_, _/_, _%_, _^_}
+use mathlib.Core.Bool.{Bool, cond, not, _||_}
 use lib.Dec.{leb, ltb, eqb}
 use Rattle.paper.specs.Elements.{storageType, removedHealth, slow}
-use Rattle.paper.specs.Registers.{low48}
-use Rattle.layout.specs.declared.Request.{Request}
+use Rattle.paper.specs.Registers.{Registers, low48}
+use Rattle.paper.specs.Table12.{aborts}
+use Rattle.paper.specs.declared.Command.the-variants.{Status}
+use Rattle.paper.specs.declared.Security.{Security}
+use Rattle.request.specs.declared.Request.{Request}
+
+-- what the registers ask for
+abbrev pub asked : Registers → Request
+asked r = record { feature = r .feature; count = record { 0 = r .count }; lba = r .lba }
 
 -- "FEATURE 15:14 filter, 11:8 report type, the other bits ignored"
 abbrev pub filterOf : Request → ℕ
@@ -28,6 +35,10 @@ fieldsRefused q = leb 2 (filterOf q) || ltb 1 (reportTypeOf q)
 -- "Checks: filter 10b or 11b, report type above 1, p = 0: all 4"
 unfoldable pub refused : Request → Bool
 refused q = fieldsRefused q || eqb (pagesOf q) 0
+
+-- "all 4; then the buffer below 512p bytes: 7. Allowed during a removal."; 1 by 000, table 12, where no state aborts it
+abbrev pub statusNumber : Security → Request → ℕ → ℕ
+statusNumber security q room = cond (aborts Status security) 1 (cond (refused q) 4 (cond (ltb room (512 * pagesOf q)) 7 0))
 
 -- "elements with identifier at or above the start"
 abbrev pub takesId : Request → ℕ → Bool

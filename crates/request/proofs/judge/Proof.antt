@@ -1,8 +1,8 @@
--- `status::judge`: a law for each way out.
+-- `request::judge`: a law for each way out.
 use borrow.Author.Needs.{needs}
-use Rattle.status.proofs.Page.{judge-locked, judge-refused, judge-small, judge-done}
-use Rattle.status.proofs.judge.Statement.{statement}
-use Rattle.status.proofs.judge.Tie as tie
+use Rattle.request.proofs.Judgement.{judge-locked, judge-refused, judge-small, judge-done}
+use Rattle.request.proofs.judge.Statement.{statement}
+use Rattle.request.proofs.judge.Tie as tie
 
 pub judge-spec : {M : Type 1} → statement M
 judge-spec =

@@ -1,8 +1,8 @@
--- `layout::Request::takes_health`: a law for each way out.
+-- `request::Request::takes_health`: a law for each way out.
 use borrow.Author.Needs.{needs}
-use Rattle.layout.proofs.Requests.{filter-any, filter-slow, filter-removed}
-use Rattle.layout.proofs.Request.takes_health.Statement.{statement}
-use Rattle.layout.proofs.Request.takes_health.Tie as tie
+use Rattle.request.proofs.Request.takes_health.Statement.{statement}
+use Rattle.request.proofs.Request.takes_health.Tie as tie
+use Rattle.request.proofs.Requests.{filter-any, filter-slow, filter-removed}
 
 pub takes-health-spec : {M : Type 1} → statement M
 takes-health-spec =

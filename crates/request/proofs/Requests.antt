@@ -6,8 +6,8 @@ use native.Mathlib.Omega.{arith}
 use lib.Dec.{leb, ltb, eqb}
 use borrow.Author.Tests.{le-leb, lt-leb, lt-ltb, le-ltb, eq-eqb, ne-eqb, leb-false, ltb-false, eqb-false}
 use Rattle.paper.specs.Elements.{slow}
-use Rattle.layout.specs.Requests.{filterOf, reportTypeOf, pagesOf, refused, takesType, takesHealth}
-use Rattle.layout.specs.declared.Request.{Request}
+use Rattle.request.specs.Requests.{filterOf, reportTypeOf, pagesOf, refused, takesType, takesHealth}
+use Rattle.request.specs.declared.Request.{Request}
 
 -- ## Which requests are due 4
 

@@ -1,8 +1,8 @@
--- `layout::Request::is_refused`: a law for each way out.
+-- `request::Request::is_refused`: a law for each way out.
 use borrow.Author.Needs.{needs}
-use Rattle.layout.proofs.Requests.{refused-filter, refused-type, refused-pages}
-use Rattle.layout.proofs.Request.is_refused.Statement.{statement}
-use Rattle.layout.proofs.Request.is_refused.Tie as tie
+use Rattle.request.proofs.Request.is_refused.Statement.{statement}
+use Rattle.request.proofs.Request.is_refused.Tie as tie
+use Rattle.request.proofs.Requests.{refused-filter, refused-type, refused-pages}
 
 pub is-refused-spec : {M : Type 1} → statement M
 is-refused-spec =

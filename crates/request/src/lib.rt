@@ -1,0 +1,106 @@
+// A request for status pages (12h): which are due 4, the tests of an element, and what a request is answered.
+ghost use mathlib.Core.Path.{_≡_};
+ghost use Rattle.paper.specs.Answers.{numberOf};
+ghost use Rattle.paper.specs.Elements.{slow};
+ghost use Rattle.request.specs.Requests.{filterOf, reportTypeOf, startOf, refused, statusNumber, takesId, takesType, takesHealth};
+use paper::Answer;
+use paper::Command;
+use paper::ElementId;
+use paper::Lba;
+use paper::PageCount;
+use paper::Security;
+
+// A request for status pages (12h), as the registers have it.
+pub struct Request {
+    pub feature: u16,
+    pub count: PageCount,
+    pub lba: Lba,
+}
+
+impl Request {
+    fn filter(self) -> u16
+        ensures { λ r. ⌜ r ≡ filterOf self ⌝ }
+    {
+        self.feature / 16384 % 4
+    }
+
+    fn report_type(self) -> u16
+        ensures { λ r. ⌜ r ≡ reportTypeOf self ⌝ }
+    {
+        self.feature / 256 % 16
+    }
+
+    fn start(self) -> u64
+        ensures { λ r. ⌜ r ≡ startOf self ⌝ }
+    {
+        let start = self.lba.low48();
+        start.0
+    }
+
+    // Whether the request is due 4.
+    pub fn is_refused(self) -> bool
+        ensures { λ r. ⌜ r ≡ refused self ⌝ }
+    {
+        if 1 < self.filter() {
+            return true;
+        }
+        if 1 < self.report_type() {
+            return true;
+        }
+        self.count.0 == 0
+    }
+
+    // Whether an identifier is at or above the start.
+    pub fn takes_id(self, id: ElementId) -> bool
+        ensures { λ r. ⌜ r ≡ takesId self (id .0) ⌝ }
+    {
+        self.start() <= id.0 as u64
+    }
+
+    pub fn takes_type(self, kind: u8) -> bool
+        ensures { λ r. ⌜ r ≡ takesType (reportTypeOf self) kind ⌝ }
+    {
+        if self.report_type() == 1 {
+            kind == 1
+        } else {
+            true
+        }
+    }
+
+    pub fn takes_health(self, health: u8) -> bool
+        ensures { λ r. ⌜ r ≡ takesHealth (filterOf self) health ⌝ }
+    {
+        if self.filter() != 1 {
+            return true;
+        }
+        if is_slow(health) {
+            return true;
+        }
+        health == 0xFF
+    }
+}
+
+fn is_slow(health: u8) -> bool
+    ensures { λ r. ⌜ r ≡ slow health ⌝ }
+{
+    if health < 0x65 {
+        return false;
+    }
+    health <= 0xCF
+}
+
+// What a request is answered, over the length of the lent buffer.
+pub fn judge(security: Security, request: Request, room: usize) -> Answer
+    ensures { λ r. ⌜ numberOf r ≡ statusNumber security request room ⌝ }
+{
+    if paper::is_aborted(Command::Status, security) {
+        return Answer::SecurityLocked;
+    }
+    if request.is_refused() {
+        return Answer::InvalidField;
+    }
+    if room < 512 * (request.count.0 as usize) {
+        return Answer::SmallBuffer;
+    }
+    Answer::Done
+}
