@@ -26,13 +26,13 @@ use Rattle.reader.specs.declared.Slot.the-variants.{Holds}
 use Rattle.request.proofs.Requests.{accepted}
 use Rattle.request.specs.Requests.{filterOf, reportTypeOf, pagesOf, refused, takesId, takesType}
 use Rattle.request.specs.declared.Request.{Request}
+use Rattle.slices.proofs.Lists.{length-keep, length-upTo, length-flat, every-take, every-keep, every-at, every-below, kept-all}
+use Rattle.slices.specs.Lists.{Every, keep, upTo, flat, one}
 use Rattle.status.proofs.EveryPage.{whole-pages}
 use Rattle.status.proofs.Page.{bytesOf, wide, shown-ids}
 use Rattle.status.specs.Page.{shownOf, shownAt, shownAll, asks, listOf, headerOf, pageOf}
 use Rattle.table.specs.Elements.{live, blankPart, identifiers, size, ascending, removedCount}
 use Rattle.table.specs.declared.Part.{Part}
-use Rattle.words.proofs.Lists.{length-keep, length-upTo, length-flat, every-take, every-keep, every-at, every-below, kept-all}
-use Rattle.words.specs.Lists.{Every, keep, upTo, flat, one}
 use Rattle.words.specs.declared.Order.the-variants.{Little}
 use Rattle.agreement.specs.Agreement.{PartFits, Fits, Agrees}
 use Rattle.agreement.proofs.Lists.{ascending-keep, before, ascending-at, after, flat-at}

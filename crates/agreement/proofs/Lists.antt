@@ -9,9 +9,9 @@ use lib.Dec.{ltb}
 use lib.ListN.{length, getD, drop}
 use lib.Seq.{drop-append-add}
 use borrow.Author.Tests.{lt-ltb, ltb-true}
+use Rattle.slices.specs.Lists.{keep, flat}
 use Rattle.table.proofs.Ascending.{both, ascending-both}
 use Rattle.table.specs.Elements.{ascending}
-use Rattle.words.specs.Lists.{keep, flat}
 
 -- ## Ascending
 

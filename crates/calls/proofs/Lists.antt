@@ -19,8 +19,8 @@ use Rattle.offer.specs.declared.Element.{Element}
 use Rattle.offer.specs.declared.Found.the-variants.{Missing}
 use Rattle.offer.specs.declared.Found.{Found}
 use Rattle.paper.specs.Told.{tells}
+use Rattle.slices.proofs.Lists.{take-min}
 use Rattle.table.specs.Elements.{blankPart}
-use Rattle.words.proofs.Lists.{take-min}
 use Rattle.calls.specs.Offered.{checkList, findList, arrayOf, offerOf, madeFrom}
 use Rattle.calls.specs.Promises.{Long-list-refused, Refused-list-leaves, Made-alike, Copied-whole}
 

@@ -6,9 +6,9 @@ use mathlib.Core.List.{List, [], _∷_}
 use mathlib.Core.Path.{_≡_, refl, sym, ap, _∙_}
 use lib.ListN.{set}
 use denote.Enum.Declared
-use Rattle.paper.specs.declared.Lba.{Lba}
-use Rattle.words.specs.Lists.{keep, oneOf, upTo}
 use types.Run.{OneOf, miss}
+use Rattle.paper.specs.declared.Lba.{Lba}
+use Rattle.slices.specs.Lists.{keep, oneOf, upTo}
 use Rattle.cells.specs.Cells.{make, isSet}
 use Rattle.cells.specs.declared.Cells.{Cells}
 use Rattle.cells.specs.declared.Mark.the-variants.{Clear, Set}

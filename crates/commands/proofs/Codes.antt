@@ -7,7 +7,7 @@ use native.Mathlib.Numerals.{add-one}
 use lib.ListN.{length, getD, drop, drop-of-length-le}
 use lib.Seq.{drop-cons}
 use borrow.Author.Tests.{eq-eqb, ne-eqb}
-use Rattle.words.specs.Lists.{oneOf}
+use Rattle.slices.specs.Lists.{oneOf}
 
 module _ (code i : ℕ) (codes : List ℕ) (so : oneOf code (drop i codes) ≡ oneOf code codes) where
   pub one-hit : i < length codes → code ≡ getD codes i 0 → true ≡ oneOf code codes

@@ -19,7 +19,7 @@ use Rattle.paper.specs.declared.Lba.{Lba}
 use Rattle.paper.specs.declared.Security.{Security}
 use Rattle.request.specs.Requests.{asked, statusNumber}
 use Rattle.request.specs.declared.Request.{Request}
-use Rattle.words.specs.Lists.{oneOf}
+use Rattle.slices.specs.Lists.{oneOf}
 
 -- ## Sectors
 

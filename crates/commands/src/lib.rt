@@ -5,7 +5,7 @@ ghost use Prim.Native.Nat.{_≤_};
 ghost use Rattle.cells.specs.Cells.{isSet};
 ghost use Rattle.device.specs.Record.{underWay};
 ghost use Rattle.paper.specs.Answers.{numberOf};
-ghost use Rattle.words.specs.Lists.{oneOf};
+ghost use Rattle.slices.specs.Lists.{oneOf};
 ghost use Rattle.paper.specs.Told.{said};
 ghost use Rattle.device.specs.Commands.{otherNumber, isMedia, isNamed, sectorsOf, isBeyond, mediaNumber};
 ghost use Rattle.device.specs.Machine as machine;

@@ -16,8 +16,8 @@ use Rattle.reach.specs.Opening.{accepted}
 use Rattle.reach.specs.Pages.{countOf, elementAt, boundOf, endOf}
 use Rattle.request.specs.Requests.{pagesOf}
 use Rattle.request.specs.declared.Request.{Request}
+use Rattle.slices.specs.Lists.{Every}
 use Rattle.words.specs.Bytes.{number, front, numberAt}
-use Rattle.words.specs.Lists.{Every}
 use Rattle.words.specs.declared.Order.the-variants.{Little}
 use Rattle.words.specs.declared.Order.{Order}
 use Rattle.compare.specs.Differences.{alike, Standing, absent, stands, standingIn, standing, difference, differenceAt, differencesIn, differencesOf}

@@ -7,7 +7,7 @@ use mathlib.Core.Path.{_≡_, refl}
 use Rattle.layout.specs.Bytes.{headerBytes, descriptorBytes}
 use Rattle.layout.specs.declared.Descriptor.{Descriptor}
 use Rattle.reach.specs.Pages.{countOf, elementAt, reachOf, boundOf}
-use Rattle.words.specs.Lists.{flat}
+use Rattle.slices.specs.Lists.{flat}
 use Rattle.words.specs.declared.Order.the-variants.{Little}
 use Rattle.compare.specs.Differences.{standing, differenceAt, differencesIn, differencesOf}
 use Rattle.compare.specs.Parts.{descriptorPart, partOf}

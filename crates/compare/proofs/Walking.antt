@@ -8,7 +8,7 @@ use lib.Dec.{ltb}
 use borrow.Author.Tests.{ltb-true, ltb-false}
 use Rattle.paper.specs.declared.ElementId.{ElementId}
 use Rattle.reach.specs.Pages.{countOf, boundOf, endOf}
-use Rattle.words.specs.Lists.{sum}
+use Rattle.slices.specs.Lists.{sum}
 use Rattle.compare.specs.Promises.{Walk-ends}
 use Rattle.compare.specs.Walk.{cursor, keyAt, agreeAt, found, stepAt, past, nextTo, nextOf, ahead, after, walk, walkFrom}
 use Rattle.compare.specs.declared.Cursor.{Cursor}

@@ -9,7 +9,7 @@ use Rattle.paper.specs.declared.ElementId.{ElementId}
 use Rattle.reach.specs.Opening.{accepted}
 use Rattle.reach.specs.Pages.{countOf, elementAt}
 use Rattle.request.specs.declared.Request.{Request}
-use Rattle.words.specs.Lists.{Every}
+use Rattle.slices.specs.Lists.{Every}
 use Rattle.words.specs.declared.Order.the-variants.{Little}
 use Rattle.compare.specs.Differences.{absent, stands, standing, differencesOf}
 use Rattle.compare.specs.Parts.{descriptorPart, partOf}

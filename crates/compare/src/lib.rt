@@ -121,7 +121,7 @@ fn step_at(older: &[u8], newer: &[u8], end: ElementId, at: Cursor) -> Step
 {
     let a = key_at(older, at.older, end);
     let b = key_at(newer, at.newer, end);
-    if (end.0 as usize) < words::smaller(a, b) {
+    if (end.0 as usize) < slices::smaller(a, b) {
         return Step::Done;
     }
     found_by(a, b, at)
@@ -162,7 +162,7 @@ fn descriptor_part(page: &[u8], k: u32) -> &[u8]
     if h.returned <= k {
         return &page[..0];
     }
-    first_part(words::tail(page, 32 + 32 * (k as usize)))
+    first_part(slices::tail(page, 32 + 32 * (k as usize)))
 }
 
 // The descriptor that a line speaks of, as part of the page that it came from, the newer if it is in both.

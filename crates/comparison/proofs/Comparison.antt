@@ -24,11 +24,11 @@ use Rattle.reach.specs.Opening.{turn, heard, openOf}
 use Rattle.reach.specs.declared.Opening.{Opening}
 use Rattle.reach.specs.declared.Turn.the-variants.{Older}
 use Rattle.request.specs.declared.Request.{Request}
+use Rattle.slices.proofs.Lists.{stored-more, stored-two}
+use Rattle.slices.specs.Lists.{stored}
 use Rattle.text.proofs.Written.{len-written, held-written}
 use Rattle.text.specs.Text.{nothing, written, held}
 use Rattle.text.specs.declared.Text.{Text}
-use Rattle.words.proofs.Lists.{stored-more, stored-two}
-use Rattle.words.specs.Lists.{stored}
 use Rattle.comparison.specs.Comparison.{linesOf, judged, comparisonOf, isAccepted, stepOf, linesFrom}
 use Rattle.comparison.proofs.Accepted.{by-walk}
 use Rattle.comparison.proofs.Lengths.{length-lines}

@@ -16,7 +16,7 @@ use Rattle.listing.specs.Listing.{requestOf}
 use Rattle.paper.specs.Told.{Told, tells}
 use Rattle.reach.specs.Opening.{Values, bound, turn, openOf}
 use Rattle.reach.specs.declared.Turn.the-variants.{Older}
-use Rattle.words.specs.Lists.{flat}
+use Rattle.slices.specs.Lists.{flat}
 
 -- ## The whole text
 

@@ -8,7 +8,7 @@ ghost use Rattle.io.specs.Counts.{Counts};
 ghost use Rattle.listing.specs.Listing.{output, printed};
 ghost use Rattle.paper.specs.Told.{said};
 ghost use Rattle.reach.specs.Opening.{heard};
-ghost use Rattle.words.specs.Lists.{stored};
+ghost use Rattle.slices.specs.Lists.{stored};
 use compare::Cursor;
 use compare::Step;
 use listing::Printed;

@@ -7,7 +7,7 @@ use Rattle.cells.specs.Cells.{isSet, busyNumber, failedNumber}
 use Rattle.open.specs.Open.{isOpen}
 use Rattle.paper.specs.Registers.{Registers, low48}
 use Rattle.paper.specs.declared.Lba.{Lba}
-use Rattle.words.specs.Lists.{oneOf}
+use Rattle.slices.specs.Lists.{oneOf}
 use Rattle.device.specs.Record.{underWay}
 use Rattle.device.specs.declared.Device.{Device}
 

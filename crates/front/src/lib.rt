@@ -49,14 +49,14 @@ fn keep(page: &mut [u8], kept: usize, written: &[u8]) -> usize {
     if written.len() == 0 {
         return kept;
     }
-    words::put(page, 0, written);
+    slices::put(page, 0, written);
     written.len()
 }
 
 // Prints the answer and what it left in the lent buffer, of which it wrote the first n bytes.
 fn print_lent(answer: Answer, lent: &[u8], n: usize) {
     print_answer(answer);
-    print_page(words::head(lent, n));
+    print_page(slices::head(lent, n));
     print_touched(lent, n);
 }
 
@@ -71,7 +71,7 @@ fn command_over(d: Device, c: Command, kept: usize, lent: &mut [u8], page: &mut 
     print_lent(answer, lent, n);
     Left {
         device,
-        kept: keep(page, kept, words::head(lent, n)),
+        kept: keep(page, kept, slices::head(lent, n)),
     }
 }
 
@@ -79,6 +79,6 @@ pub fn command(d: Device, c: Command, kept: usize, page: &mut [u8]) -> Left
     ensures { λ r. ⌜ r .device ≡ deviceAfter d c (min (c .length) 65536) ⌝ }
 {
     let mut lent = unanswered();
-    let n = words::smaller(c.length, lent.len());
+    let n = slices::smaller(c.length, lent.len());
     command_over(d, c, kept, &mut lent[0..n], page)
 }

@@ -20,9 +20,9 @@ use Rattle.offer.specs.declared.Offer.{Offer}
 use Rattle.paper.specs.Answers.{numberOf}
 use Rattle.paper.specs.Elements.{gradedHealth, removedHealth}
 use Rattle.paper.specs.Told.{Told, tells, said}
+use Rattle.slices.specs.Lists.{all}
 use Rattle.table.proofs.Ascending.{both}
 use Rattle.table.specs.Elements.{blankPart, size}
-use Rattle.words.specs.Lists.{all}
 use Rattle.history.specs.Starts.{Made-of, Accepted-starts}
 use Rattle.history.proofs.Places.{gone-told}
 

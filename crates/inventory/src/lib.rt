@@ -46,7 +46,7 @@ fn print_element(p: Part, health: u8) {
     let id = Text::nothing().hex8(p.id.0).word(b" ");
     let element = id.hex2(p.kind).word(b" ").hex2(health);
     let blocks = element.field(b" ", p.blocks);
-    print_line(blocks.field(b" ", words::bit(p.unreported) as u64));
+    print_line(blocks.field(b" ", slices::bit(p.unreported) as u64));
 }
 
 fn print_elements(ps: [Part; 128], healths: [u8; 128], count: usize) {
@@ -71,7 +71,7 @@ pub fn print_cells(d: Device) {
     let c = d.cells;
     let note = c.note;
     let position = d.position;
-    let failed = words::bit(d.is_failed()) as u64;
+    let failed = slices::bit(d.is_failed()) as u64;
     let numbers = write_cells(c, t.limit).field(b" failed ", failed);
     let noted = write_note(numbers.word(b" note "), note).word(b" position ");
     print_line(write_position(noted, position));

@@ -5,7 +5,7 @@ use mathlib.Core.Path.{_≡_, sym, _∙_}
 use borrow.Author.Tests.{le-leb, lt-leb}
 use Rattle.arguments.specs.declared.PageCall.{PageCall}
 use Rattle.arguments.specs.declared.Poke.{Poke}
-use Rattle.words.specs.Lists.{stored}
+use Rattle.slices.specs.Lists.{stored}
 use Rattle.kept.specs.Kept.{lengthened, poked, keptAfter, pageAfter}
 
 pub length-as-given : (kept n m : ℕ) (page r : List ℕ) → n ≡ m → r ≡ lengthened kept n page → r ≡ lengthened kept m page

@@ -7,7 +7,7 @@ use lib.ListN.{length, replicate}
 use Rattle.arguments.specs.declared.PageCall.the-variants as calls
 use Rattle.arguments.specs.declared.PageCall.{PageCall}
 use Rattle.arguments.specs.declared.Poke.{Poke}
-use Rattle.words.specs.Lists.{stored}
+use Rattle.slices.specs.Lists.{stored}
 
 -- "`length LENGTH` cuts it or lengthens it with zeros"
 abbrev pub lengthened : ℕ → ℕ → List ℕ → List ℕ

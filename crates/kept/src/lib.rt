@@ -30,7 +30,7 @@ fn clear(page: &mut [u8], from: usize, to: usize)
 fn set_length(page: &mut [u8], kept: usize, size: usize) -> usize
     ensures { λ r. ⌜ (r ≡ min size (length (now (page .entry)))) × (now (page .exit) ≡ lengthened kept (min size (length (now (page .entry)))) (now (page .entry))) ⌝ }
 {
-    let n = words::smaller(size, page.len());
+    let n = slices::smaller(size, page.len());
     clear(page, kept, n);
     print_number(b"length ", n);
     n
@@ -44,13 +44,13 @@ fn poke(page: &mut [u8], kept: usize, p: Poke)
         return;
     }
     let byte = [p.byte];
-    words::put(page, p.place, &byte);
+    slices::put(page, p.place, &byte);
 }
 
 fn print_descriptor(d: Descriptor) {
     let text = Text::nothing()
         .hex8(d.id.0)
-        .field(b" ", words::bit(d.restorable) as u64)
+        .field(b" ", slices::bit(d.restorable) as u64)
         .word(b" ");
     print_line(rows::write_values(text, d));
 }
@@ -70,7 +70,7 @@ fn print_contents(page: &[u8], h: Header) {
 }
 
 fn read(page: &[u8], kept: usize, request: Request) {
-    let whole = words::head(page, kept);
+    let whole = slices::head(page, kept);
     match reader::read(whole, request) {
         Judgement::Accepted(h) => print_contents(whole, h),
         Judgement::Refused(place) => print_number(b"9 at ", place),

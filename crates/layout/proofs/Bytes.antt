@@ -5,9 +5,9 @@ use mathlib.Core.List.{List, [], _∷_, _++_}
 use mathlib.Core.Path.{_≡_, refl, _∙_}
 use lib.Dec.{eqb}
 use lib.ListN.{getD, replicate}
+use Rattle.slices.specs.Lists.{stored, one}
 use Rattle.words.proofs.Bytes.{number-bytesOf}
 use Rattle.words.specs.Bytes.{bytesOf, number, numberAt}
-use Rattle.words.specs.Lists.{stored, one}
 use Rattle.words.specs.declared.Order.the-variants.{Little, Big}
 use Rattle.words.specs.declared.Order.{Order}
 use Rattle.layout.specs.Bytes.{headerBytes, headerIn, descriptorBytes, descriptorIn}

@@ -3,8 +3,8 @@ use Prim.Native.Nat.{ℕ, _-_, _*_, _%_, _^_, min}
 use mathlib.Core.List.{List, [], _∷_, _++_}
 use lib.Dec.{eqb}
 use lib.ListN.{getD, replicate}
+use Rattle.slices.specs.Lists.{one}
 use Rattle.words.specs.Bytes.{bytesOf, numberAt}
-use Rattle.words.specs.Lists.{one}
 use Rattle.words.specs.declared.Order.{Order}
 use Rattle.layout.specs.declared.Descriptor.{Descriptor}
 use Rattle.layout.specs.declared.Header.{Header}

@@ -27,11 +27,11 @@ impl Header {
         ensures { λ r. ⌜ r ≡ headerBytes o self ⌝ }
     {
         let mut b = [0; 32];
-        words::put(&mut b, 0, &words::bytes4(self.number, o));
-        words::put(&mut b, 4, &words::bytes4(self.returned, o));
-        words::put(&mut b, 8, &words::bytes4(self.busy.0, o));
-        words::put(&mut b, 12, &words::bytes2(self.limit, o));
-        words::put(&mut b, 14, &words::bytes2(self.removed, o));
+        slices::put(&mut b, 0, &words::bytes4(self.number, o));
+        slices::put(&mut b, 4, &words::bytes4(self.returned, o));
+        slices::put(&mut b, 8, &words::bytes4(self.busy.0, o));
+        slices::put(&mut b, 12, &words::bytes2(self.limit, o));
+        slices::put(&mut b, 14, &words::bytes2(self.removed, o));
         b
     }
 
@@ -54,13 +54,13 @@ impl Descriptor {
         ensures { λ r. ⌜ r ≡ descriptorBytes o self ⌝ }
     {
         let mut b = [0; 32];
-        words::put(&mut b, 4, &words::bytes4(self.id.0, o));
-        words::put(
+        slices::put(&mut b, 4, &words::bytes4(self.id.0, o));
+        slices::put(
             &mut b,
             13,
-            &[words::bit(self.restorable), self.kind, self.health],
+            &[slices::bit(self.restorable), self.kind, self.health],
         );
-        words::put(&mut b, 16, &words::bytes8(self.capacity, o));
+        slices::put(&mut b, 16, &words::bytes8(self.capacity, o));
         b
     }
 
@@ -68,12 +68,12 @@ impl Descriptor {
     pub fn read(s: &[u8], o: Order) -> Descriptor
         ensures { λ r. ⌜ r ≡ descriptorIn o (now (s .entry)) ⌝ }
     {
-        let flags = words::byte_at(s, 13);
+        let flags = slices::byte_at(s, 13);
         Descriptor {
             id: ElementId(words::number4(s, 4, o)),
             restorable: flags % 2 == 1,
-            kind: words::byte_at(s, 14),
-            health: words::byte_at(s, 15),
+            kind: slices::byte_at(s, 14),
+            health: slices::byte_at(s, 15),
             capacity: words::number8(s, 16, o),
         }
     }

@@ -10,8 +10,8 @@ use lib.Dec.{leb, lit<}
 use lib.ListN.{length, drop, getD, drop-of-length-le}
 use lib.Seq.{drop-cons}
 use borrow.Author.Tests.{le-leb, lt-leb, lt-ltb, leb-true}
+use Rattle.slices.specs.Lists.{all}
 use Rattle.text.specs.Digits.{within, digitOf, valueAfter, valueOf}
-use Rattle.words.specs.Lists.{all}
 use Rattle.lines.specs.Numbers.{isDigit, isNumber, noNumber, fieldOf, fieldAt}
 use Rattle.lines.specs.Parts.{wordAt}
 use Rattle.lines.specs.declared.Field.{Field}

@@ -4,8 +4,8 @@ use mathlib.Core.Bool.{Bool, true, false, cond, _&&_}
 use mathlib.Core.List.{List}
 use lib.Dec.{leb, ltb}
 use lib.ListN.{length}
+use Rattle.slices.specs.Lists.{all}
 use Rattle.text.specs.Digits.{within, digitOf, valueOf}
-use Rattle.words.specs.Lists.{all}
 use Rattle.lines.specs.Parts.{wordAt}
 use Rattle.lines.specs.declared.Field.{Field}
 

@@ -19,11 +19,11 @@ use Rattle.reader.specs.declared.Judgement.{Judgement}
 use Rattle.request.specs.declared.Request.{Request}
 use Rattle.rows.proofs.Rows.{length-line, length-header, length-refused}
 use Rattle.rows.specs.Rows.{descriptorLine, headerLine, refusedLine}
+use Rattle.slices.proofs.Lists.{stored-more, stored-two}
+use Rattle.slices.specs.Lists.{stored}
 use Rattle.text.proofs.Written.{len-written, held-written}
 use Rattle.text.specs.Text.{nothing, written, held}
 use Rattle.text.specs.declared.Text.{Text}
-use Rattle.words.proofs.Lists.{stored-more, stored-two}
-use Rattle.words.specs.Lists.{stored}
 use Rattle.words.specs.declared.Order.the-variants.{Little}
 use Rattle.listing.specs.Listing.{linesBelow, requestOf, judged, firstLine, lineCount, listingOf, output, listed}
 use Rattle.listing.proofs.Printing.{printed-small, printed-done, printed-counts}

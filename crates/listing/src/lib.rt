@@ -8,7 +8,7 @@ ghost use Rattle.paper.specs.Told.{said};
 ghost use Rattle.reader.specs.Judgement.{heard};
 ghost use Rattle.rows.specs.Rows.{descriptorLine};
 ghost use Rattle.text.specs.Text.{nothing, written};
-ghost use Rattle.words.specs.Lists.{stored};
+ghost use Rattle.slices.specs.Lists.{stored};
 ghost use Rattle.words.specs.declared.Order.the-variants.{Little};
 ghost use Rattle.listing.specs.Listing.{linesBelow, requestFor, judged, firstLine, lineCount, output, listed};
 use paper::Answer;

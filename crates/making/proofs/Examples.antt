@@ -11,9 +11,9 @@ use Rattle.open.specs.Open.{isOpen}
 use Rattle.paper.specs.Told.{tells}
 use Rattle.removal.specs.Remove.{judgeRoom, judgeFound}
 use Rattle.request.specs.Requests.{refused}
+use Rattle.slices.specs.Lists.{all}
 use Rattle.steps.specs.Steps.{gradeSeen}
 use Rattle.table.specs.Search.{sightIn}
-use Rattle.words.specs.Lists.{all}
 use Rattle.making.specs.Examples.{deviceA, holds, rows, removals, others}
 use Rattle.making.specs.Making.{fresh, madeOf}
 

@@ -11,9 +11,9 @@ use lib.ListN.{length, take, drop, getD, length-take, drop-of-length-le}
 use lib.Seq.{drop-cons, getD-take}
 use borrow.Author.Tests.{le-leb, lt-leb, lt-ltb, le-ltb, eq-eqb, ne-eqb, leb-true, leb-false}
 use Rattle.paper.specs.Told.{Told, tells}
+use Rattle.slices.specs.Lists.{all}
 use Rattle.table.proofs.Ascending.{both}
 use Rattle.table.specs.Elements.{ascending}
-use Rattle.words.specs.Lists.{all}
 use Rattle.offer.specs.Check.{sized, shaped, healthy, summed, good, checkOf, verdict, mayFollow, walkFrom}
 use Rattle.offer.specs.Elements.{offered, blank, elementIds, blockSum}
 use Rattle.offer.specs.declared.Checked.the-variants.{Refused, Blocks}

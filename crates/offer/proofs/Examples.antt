@@ -5,7 +5,7 @@ use mathlib.Core.List.{List, [], _∷_}
 use mathlib.Core.Path.{_≡_, refl}
 use lib.Dec.{eqb}
 use Rattle.paper.specs.Told.{Told}
-use Rattle.words.specs.Lists.{all, sum}
+use Rattle.slices.specs.Lists.{all, sum}
 use Rattle.offer.specs.Check.{good, checkOf}
 use Rattle.offer.specs.Examples.{element, elementsA}
 use Rattle.offer.specs.declared.Element.{Element}

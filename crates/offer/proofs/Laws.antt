@@ -7,9 +7,9 @@ use native.Mathlib.Omega.{arith}
 use lib.Dec.{leb}
 use borrow.Author.Tests.{leb-true}
 use Rattle.paper.specs.Told.{Told, tells}
+use Rattle.slices.specs.Lists.{all}
 use Rattle.table.proofs.Ascending.{both}
 use Rattle.table.specs.Elements.{ascending}
-use Rattle.words.specs.Lists.{all}
 use Rattle.offer.specs.Check.{sized, shaped, healthy, summed, structured, good, checkOf, verdict}
 use Rattle.offer.specs.Elements.{offered, elementIds, blockSum}
 use Rattle.offer.specs.declared.Checked.the-variants.{Refused, Blocks}

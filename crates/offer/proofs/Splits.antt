@@ -6,10 +6,10 @@ use native.Mathlib.Numerals.{add-one}
 use native.Mathlib.Omega.{arith}
 use lib.ListN.{length, take, drop, getD, set, replicate, length-map}
 use lib.Seq.{take-suc, length-take-le, take-at, drop-at}
+use Rattle.slices.proofs.Lists.{map-append, map-map, padded, padded-more}
 use Rattle.table.proofs.Arrays.{taken}
 use Rattle.table.specs.Elements.{blankPart, partIds, identifiers}
 use Rattle.table.specs.declared.Part.{Part}
-use Rattle.words.proofs.Lists.{map-append, map-map, padded, padded-more}
 use Rattle.offer.specs.Elements.{offered, elementIds, partOf, blank, tableOf}
 use Rattle.offer.specs.declared.Element.{Element}
 use Rattle.offer.specs.declared.Offer.{Offer}

@@ -5,8 +5,8 @@ use mathlib.Core.List.{List, [], _∷_}
 use lib.Dec.{eqb, leb, ltb}
 use Rattle.paper.specs.Elements.{storageType, gradedHealth}
 use Rattle.paper.specs.Told.{Told, tells}
+use Rattle.slices.specs.Lists.{all}
 use Rattle.table.specs.Elements.{ascending}
-use Rattle.words.specs.Lists.{all}
 use Rattle.offer.specs.Elements.{offered, elementIds, blockSum}
 use Rattle.offer.specs.declared.Checked.the-variants.{Refused, Blocks}
 use Rattle.offer.specs.declared.Checked.{Checked}

@@ -4,10 +4,10 @@ use mathlib.Core.Bool.{Bool, false}
 use mathlib.Core.List.{List, _++_, map}
 use lib.ListN.{take, replicate}
 use Rattle.paper.specs.declared.ElementId.{ElementId}
+use Rattle.slices.specs.Lists.{sum}
 use Rattle.table.specs.Elements.{blankPart}
 use Rattle.table.specs.declared.Part.{Part}
 use Rattle.table.specs.declared.Table.{Table}
-use Rattle.words.specs.Lists.{sum}
 use Rattle.offer.specs.declared.Element.{Element}
 use Rattle.offer.specs.declared.Offer.{Offer}
 

@@ -10,7 +10,7 @@ use lib.Dec.{eqb}
 use lib.ListN.{length, getD, drop, drop-of-length-le}
 use lib.Seq.{drop-cons}
 use borrow.Author.Tests.{eq-eqb, ne-eqb}
-use Rattle.words.specs.Lists.{any}
+use Rattle.slices.specs.Lists.{any}
 use Rattle.open.specs.Open.{isOpen}
 use Rattle.open.specs.Rows.{leaves, rowFits, anyFits}
 use Rattle.open.specs.declared.Row.{Row}

@@ -3,7 +3,7 @@ use Prim.Native.Nat.{ℕ, _%_, _^_}
 use mathlib.Core.Bool.{Bool, _&&_, _||_}
 use mathlib.Core.List.{[], _∷_}
 use lib.Dec.{eqb}
-use Rattle.words.specs.Lists.{oneOf}
+use Rattle.slices.specs.Lists.{oneOf}
 
 abbrev pub logOf : ℕ → ℕ
 logOf lba = lba % 2 ^ 8

@@ -5,7 +5,7 @@ use mathlib.Core.Bool.{Bool, _&&_}
 use mathlib.Core.List.{List}
 use lib.Bits.{bitAnd}
 use lib.Dec.{eqb}
-use Rattle.words.specs.Lists.{any}
+use Rattle.slices.specs.Lists.{any}
 use Rattle.open.specs.declared.Row.{Row}
 
 unfoldable pub leaves : ℕ → ℕ → ℕ → Bool

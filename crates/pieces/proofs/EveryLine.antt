@@ -9,7 +9,7 @@ use lib.Dec.{eqb, ltb}
 use lib.ListN.{drop, length-drop, length, replicate, length-append}
 use lib.Seq.{take-append-seam, append-snoc}
 use borrow.Author.Tests.{lt-ltb, ltb-true, ltb-false}
-use Rattle.words.proofs.Lists.{padded, padded-more}
+use Rattle.slices.proofs.Lists.{padded, padded-more}
 use Rattle.pieces.specs.Pieces.{nothing, pushed, gathered, takenFrom}
 use Rattle.pieces.specs.Promises.{Cut-anywhere, noNewline, Ends-at-newline, Goes-on, Place-counts, Kept-whole, Longer-told}
 use Rattle.pieces.specs.declared.Gathered.{Gathered}

@@ -5,7 +5,7 @@ use mathlib.Core.List.{List, _∷_, _++_}
 use mathlib.Core.Path.{_≡_}
 use lib.Dec.{eqb}
 use lib.ListN.{length, take}
-use Rattle.words.specs.Lists.{all}
+use Rattle.slices.specs.Lists.{all}
 use Rattle.pieces.specs.Pieces.{nothing, gathered, takenFrom}
 use Rattle.pieces.specs.declared.Gathered.{Gathered}
 

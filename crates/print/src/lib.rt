@@ -10,7 +10,7 @@ use text::Text;
 pub fn print_line(text: Text) {
     let line = text.word(b"\n");
     let bytes = line.bytes;
-    if !io::write_all(STDOUT_FILENO, words::head(&bytes, line.len)) {
+    if !io::write_all(STDOUT_FILENO, slices::head(&bytes, line.len)) {
         os::fail(b"bench: standard output");
     }
 }
@@ -47,14 +47,14 @@ pub fn print_answer(answer: Answer) {
 fn print_row(row: &[u8]) {
     let mut digits = Text::nothing();
     for k in 0..32 {
-        digits = digits.hex2(words::byte_at(row, k));
+        digits = digits.hex2(slices::byte_at(row, k));
     }
     print_line(digits);
 }
 
 fn is_zero(row: &[u8]) -> bool {
     for k in 0..32 {
-        if words::byte_at(row, k) != 0 {
+        if slices::byte_at(row, k) != 0 {
             return false;
         }
     }
@@ -67,7 +67,7 @@ fn shown_rows(page: &[u8]) -> usize
 {
     let mut n = page.len() / 32;
     while 0 < n {
-        if !is_zero(words::tail(page, 32 * (n - 1))) {
+        if !is_zero(slices::tail(page, 32 * (n - 1))) {
             return n;
         }
         n -= 1;
@@ -80,7 +80,7 @@ pub fn print_page(page: &[u8]) {
     let rows = page.len() / 32;
     let shown = shown_rows(page);
     for i in 0..shown {
-        print_row(words::tail(page, 32 * i));
+        print_row(slices::tail(page, 32 * i));
     }
     if shown < rows {
         print_number(b"zeros ", rows - shown);

@@ -8,7 +8,7 @@ use lib.ListN.{replicate, set, take}
 use Rattle.paper.specs.Told.{tells}
 use Rattle.request.specs.Requests.{refused, takesHealth}
 use Rattle.request.specs.declared.Request.{Request}
-use Rattle.words.specs.Lists.{all}
+use Rattle.slices.specs.Lists.{all}
 use Rattle.words.specs.declared.Order.the-variants.{Little, Big}
 use Rattle.reader.specs.Judgement.{Values, header, place, readOf, slotOf}
 use Rattle.reader.specs.declared.Slot.the-variants.{Outside, Holds}

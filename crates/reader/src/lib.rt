@@ -58,7 +58,7 @@ fn returned_of(number: u32, pages: PageCount) -> usize
     requires { ⌜ 1 ≤ pages .0 ⌝ }
     ensures { λ r. ⌜ r ≡ returnedOf number (pages .0) ⌝ }
 {
-    words::smaller(number as usize, 16 * (pages.0 as usize) - 1)
+    slices::smaller(number as usize, 16 * (pages.0 as usize) - 1)
 }
 
 fn answer(found: Offence, h: Header) -> Judgement

@@ -4,7 +4,7 @@ use mathlib.Core.Bool.{Bool, true, not, _&&_}
 use mathlib.Core.List.{[], _∷_}
 use mathlib.Core.Path.{_≡_, refl}
 use lib.Dec.{eqb}
-use Rattle.words.specs.Lists.{all}
+use Rattle.slices.specs.Lists.{all}
 use Rattle.request.specs.Requests.{filterOf, reportTypeOf, startOf, refused, takesId, takesType, takesHealth}
 use Rattle.request.specs.declared.Request.{Request}
 

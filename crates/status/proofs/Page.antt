@@ -23,10 +23,10 @@ use Rattle.paper.specs.declared.ElementId.{ElementId}
 use Rattle.paper.specs.declared.Security.{Security}
 use Rattle.request.specs.Requests.{filterOf, reportTypeOf, pagesOf, statusNumber, takesId, takesType, takesHealth}
 use Rattle.request.specs.declared.Request.{Request}
+use Rattle.slices.proofs.Lists.{take-min, map-map, map-upTo, map-places, stored-front, stored-more, stored-each, length-flat}
+use Rattle.slices.specs.Lists.{upTo, flat, stored}
 use Rattle.table.specs.Elements.{live, blankPart, identifiers, size, identifierAt}
 use Rattle.table.specs.declared.Part.{Part}
-use Rattle.words.proofs.Lists.{take-min, map-map, map-upTo, map-places, stored-front, stored-more, stored-each, length-flat}
-use Rattle.words.specs.Lists.{upTo, flat, stored}
 use Rattle.words.specs.declared.Order.the-variants.{Little}
 use Rattle.status.specs.Page.{capacityOf, shownOf, shownAt, shownAll, asks, listOf, busyOf, headed, headerOf, pageOf, shown}
 use Rattle.status.specs.Places.{shownIn, shownThere}

@@ -13,11 +13,11 @@ use Rattle.device.specs.Record.{healthAt}
 use Rattle.device.specs.declared.Device.{Device}
 use Rattle.layout.specs.declared.Descriptor.{Descriptor}
 use Rattle.request.specs.declared.Request.{Request}
+use Rattle.slices.proofs.Lists.{keep-append, map-append, map-upTo, every-same, every-set}
+use Rattle.slices.specs.Lists.{keep, upTo}
 use Rattle.table.proofs.Arrays.{length-taken}
 use Rattle.table.specs.Elements.{live, blankPart, size}
 use Rattle.table.specs.declared.Part.{Part}
-use Rattle.words.proofs.Lists.{keep-append, map-append, map-upTo, every-same, every-set}
-use Rattle.words.specs.Lists.{keep, upTo}
 use Rattle.status.specs.Page.{shownOf, shownAt, asks, listOf}
 use Rattle.status.specs.Places.{Slots, shownIn, shownThere}
 

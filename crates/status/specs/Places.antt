@@ -3,9 +3,9 @@ use Prim.Native.Nat.{ℕ, _<_}
 use mathlib.Core.List.{List, map}
 use lib.ListN.{getD, take}
 use Rattle.layout.specs.declared.Descriptor.{Descriptor}
+use Rattle.slices.specs.Lists.{Every}
 use Rattle.table.specs.Elements.{blankPart}
 use Rattle.table.specs.declared.Part.{Part}
-use Rattle.words.specs.Lists.{Every}
 use Rattle.status.specs.Page.{shownOf}
 
 -- each is an index of the table's arrays

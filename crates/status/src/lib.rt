@@ -5,7 +5,7 @@ ghost use Prim.Native.Nat.{_+_, _-_, _*_, _≤_};
 ghost use lib.ListN.{length, drop, replicate};
 ghost use Rattle.device.specs.Record.{removedNumber};
 ghost use Rattle.paper.specs.Told.{said};
-ghost use Rattle.words.specs.Lists.{flat, stored};
+ghost use Rattle.slices.specs.Lists.{flat, stored};
 ghost use Rattle.layout.specs.Bytes.{headerBytes, descriptorBytes};
 ghost use Rattle.request.specs.Requests.{pagesOf};
 ghost use Rattle.status.specs.Page.{capacityOf, shownOf, asks, busyOf, headed, pageOf, shown};
@@ -77,7 +77,7 @@ fn header_of(d: Device, number: usize, count: PageCount) -> Header
     let cells = d.cells;
     let note = cells.note;
     let hs = cells.healths;
-    let returned = words::smaller(number, 16 * (count.0 as usize) - 1);
+    let returned = slices::smaller(number, 16 * (count.0 as usize) - 1);
     Header {
         number: number as u32,
         returned: returned as u32,
@@ -91,7 +91,7 @@ fn put_header(header: Header, buf: &mut [u8])
     ensures { λ _. ⌜ now (buf .exit) ≡ stored (now (buf .entry)) 0 (headerBytes Order.Little header) ⌝ }
 {
     let bytes = header.bytes(Order::Little);
-    words::put(buf, 0, &bytes);
+    slices::put(buf, 0, &bytes);
 }
 
 // Stores the descriptor of the element of this part and health, behind the header and the k before it.
@@ -101,7 +101,7 @@ fn put_descriptor(p: Part, health: u8, k: usize, buf: &mut [u8])
 {
     let x = shown_of(p, health);
     let bytes = x.bytes(Order::Little);
-    words::put(buf, 32 + 32 * k, &bytes);
+    slices::put(buf, 32 + 32 * k, &bytes);
 }
 
 // Stores zeros behind the header and the descriptors.

@@ -5,7 +5,7 @@ use mathlib.Core.Path.{_≡_, sym}
 use native.Mathlib.Omega.{arith}
 use lib.ListN.{length, take, getD, set, length-take, List·getD-eq-default}
 use lib.Seq.{set-out}
-use Rattle.words.proofs.Lists.{take-min}
+use Rattle.slices.proofs.Lists.{take-min}
 
 module _ {A : Type 0} (l : List A) (count n : ℕ) (full : length l ≡ 128) (is-n : n ≡ min count 128) where
   pub taken : take n l ≡ take count l

@@ -6,8 +6,8 @@ use native.Mathlib.Omega.{arith}
 use lib.ListN.{length, take, drop, getD}
 use borrow.Author.Tests.{eq-eqb, ne-eqb}
 use Rattle.paper.specs.Elements.{removedHealth}
-use Rattle.words.proofs.Lists.{sum-next, sum-end}
-use Rattle.words.specs.Lists.{one}
+use Rattle.slices.proofs.Lists.{sum-next, sum-end}
+use Rattle.slices.specs.Lists.{one}
 use Rattle.table.specs.Elements.{removedCount}
 use Rattle.table.proofs.Arrays.{taken}
 

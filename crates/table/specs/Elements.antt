@@ -5,7 +5,7 @@ use mathlib.Core.List.{List, [], _∷_, map}
 use lib.Dec.{ltb}
 use lib.ListN.{length, take, getD}
 use Rattle.paper.specs.Elements.{storageType, removedHealth}
-use Rattle.words.specs.Lists.{sum, one}
+use Rattle.slices.specs.Lists.{sum, one}
 use Rattle.table.specs.declared.Part.{Part}
 use Rattle.table.specs.declared.Table.{Table}
 

@@ -3,7 +3,7 @@ ghost use mathlib.Core.Path.{_≡_};
 ghost use Prim.Native.Nat.{_≤_, min};
 ghost use lib.ListN.{take, getD, set};
 ghost use Rattle.paper.specs.Elements.{removedHealth};
-ghost use Rattle.words.specs.Lists.{one};
+ghost use Rattle.slices.specs.Lists.{one};
 ghost use Rattle.table.specs.Elements.{blankPart, removedCount};
 ghost use Rattle.table.specs.Search as search;
 use paper::ElementId;
@@ -34,7 +34,7 @@ pub struct Sight {
 pub fn bounded(count: usize) -> usize
     ensures { λ r. ⌜ r ≡ min count 128 ⌝ }
 {
-    words::smaller(count, 128)
+    slices::smaller(count, 128)
 }
 
 // What fills an unused place.

@@ -7,7 +7,7 @@ use native.Mathlib.Omega.{arith}
 use lib.ListN.{length, replicate, length-append, take, drop, getD, drop-of-length-le}
 use lib.Seq.{take-append-seam, drop-cons, append-snoc}
 use borrow.Author.Tests.{lt-ltb}
-use Rattle.words.proofs.Lists.{take-min, padded, padded-more}
+use Rattle.slices.proofs.Lists.{take-min, padded, padded-more}
 use Rattle.text.specs.Digits.{glyph, digits, placesOf, decimalOf}
 use Rattle.text.specs.Text.{nothing, pushed, written, held}
 use Rattle.text.specs.declared.Text.{Text}

@@ -4,7 +4,7 @@ ghost use mathlib.Core.List.{_++_};
 ghost use Prim.Native.Nat.{_<_, _≤_};
 ghost use Rattle.text.specs.Digits.{glyph, digits, placesOf, decimalOf};
 ghost use Rattle.text.specs.Text.{nothing, pushed, written, held};
-ghost use Rattle.words.specs.Lists.{stored};
+ghost use Rattle.slices.specs.Lists.{stored};
 
 // The first `len` bytes. What does not fit is left out.
 pub struct Text {
@@ -116,7 +116,7 @@ impl Text {
         ensures { λ _. ⌜ now (out .exit) ≡ stored (now (out .entry)) at (held self) ⌝ }
     {
         let bytes = self.bytes;
-        let len = words::smaller(self.len, 160);
-        words::put(out, at, &bytes[..len]);
+        let len = slices::smaller(self.len, 160);
+        slices::put(out, at, &bytes[..len]);
     }
 }

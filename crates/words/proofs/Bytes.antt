@@ -1,14 +1,14 @@
 -- Laws of numbers as bytes, each over the width and the order.
 --     number-bytesOf   a number that fits is read back from its bytes
 --     number-halves    a number of two halves, as the code reads it
-use Prim.Native.Nat.{ℕ, zero, suc, _+_, _-_, _*_, _/_, _%_, _^_, _<_}
+use Prim.Native.Nat.{ℕ, zero, suc, _+_, _*_, _/_, _%_, _^_, _<_}
 use mathlib.Core.List.{List, [], _∷_, _++_, reverse, reverse-append, reverse-reverse}
 use mathlib.Core.Path.{_≡_, refl, sym, ap, _∙_}
 use native.Mathlib.Nat.{pow-suc, zero-add, suc-add, add-mul, mul-assoc, add-assoc, div-add-mod', div-lt-iff-lt-mul}
 use native.Mathlib.Omega.{arith}
 use lib.Dec.{lit<}
-use lib.ListN.{length, getD, take, drop, length-drop, length-reverse}
-use lib.Seq.{take-all, drop-drop, getD-drop}
+use lib.ListN.{length, getD, drop, length-reverse}
+use lib.Seq.{drop-drop, getD-drop}
 use Rattle.words.specs.Bytes.{lowBytes, value, ordered, bytesOf, number, front, numberAt, joined}
 use Rattle.words.specs.declared.Order.the-variants.{Little, Big}
 use Rattle.words.specs.declared.Order.{Order}
@@ -31,12 +31,6 @@ number-bytesOf o w x h = ap value (ordered-twice o (lowBytes w x)) ∙ value-low
 -- an order that a `match` has told
 pub in-order : (w : ℕ) {o p : Order} (x : ℕ) → o ≡ p → bytesOf p w x ≡ bytesOf o w x
 in-order w x e = sym (ap (λ (q : Order). bytesOf q w x) e)
-
--- ## Reading at a place
-
--- a part that goes on to the end
-pub part-end : (s : List ℕ) (at : ℕ) → take (length s - at) (drop at s) ≡ drop at s
-part-end s at = take-all (length s - at) (drop at s) (simp length-drop (omega arith))
 
 -- ## A number of two halves
 

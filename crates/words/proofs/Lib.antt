@@ -1,3 +1,2 @@
--- What is proved of `words`' definitions, and of its functions.
+-- What is proved of numbers as bytes.
 pub mod Bytes
-pub mod Lists

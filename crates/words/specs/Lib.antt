@@ -1,3 +1,2 @@
--- Numbers as bytes in either order, and lists kept, tested, laid end to end, or added up.
+-- Numbers as bytes, in either order.
 pub mod Bytes
-pub mod Lists

@@ -1,11 +1,8 @@
-// Numbers as bytes, in either order, at widths 2, 4 and 8, and bytes at a place. Any place will do: past the end a byte is 0, and bytes
-// that do not fit are not stored. And the smaller of two numbers, and a test's bit.
+// Numbers as bytes, in either order, at widths 2, 4 and 8. Any place will do: past the end a byte is 0.
 ghost use mathlib.Core.Path.{_≡_};
-ghost use Prim.Native.Nat.{_+_, _≤_, min};
-ghost use lib.ListN.{length, getD, take, drop};
-ghost use lib.Seq.{paste};
 ghost use Rattle.words.specs.Bytes.{bytesOf, numberAt, joined};
-ghost use Rattle.words.specs.Lists.{fits, stored, one};
+use slices::byte_at;
+use slices::tail;
 
 // Which byte of a number comes first: the lowest (ATA) or the highest (SCSI).
 pub enum Order {
@@ -54,12 +51,6 @@ pub fn bytes8(x: u64, o: Order) -> [u8; 8]
     }
 }
 
-pub fn byte_at(s: &[u8], at: usize) -> u8
-    ensures { λ r. ⌜ r ≡ getD (now (s .entry)) at 0 ⌝ }
-{
-    if at < s.len() { s[at] } else { 0 }
-}
-
 pub fn number2(s: &[u8], at: usize, o: Order) -> u16
     ensures { λ r. ⌜ r ≡ numberAt o 2 (now (s .entry)) at ⌝ }
 {
@@ -79,61 +70,6 @@ pub fn number8(s: &[u8], at: usize, o: Order) -> u64
 {
     let t = tail(s, at);
     join8(number4(t, 0, o), number4(t, 4, o), o)
-}
-
-pub fn smaller(a: usize, b: usize) -> usize
-    ensures { λ r. ⌜ r ≡ min a b ⌝ }
-{
-    if a < b { a } else { b }
-}
-
-pub fn bit(b: bool) -> u8
-    ensures { λ r. ⌜ r ≡ one b ⌝ }
-{
-    if b { 1 } else { 0 }
-}
-
-// The first n bytes, or all if these are fewer.
-pub fn head(s: &[u8], n: usize) -> &[u8]
-    ensures { λ r. ⌜ now r ≡ take n (now (s .entry)) ⌝ }
-{
-    if n < s.len() { &s[0..n] } else { s }
-}
-
-// What stands from a place on, nothing past the end.
-pub fn tail(s: &[u8], at: usize) -> &[u8]
-    ensures { λ r. ⌜ now r ≡ drop at (now (s .entry)) ⌝ }
-{
-    if at < s.len() { &s[at..] } else { &s[0..0] }
-}
-
-fn does_fit(n: usize, at: usize, room: usize) -> bool
-    ensures { λ r. ⌜ r ≡ fits n at room ⌝ }
-{
-    if room < n {
-        return false;
-    }
-    at <= room - n
-}
-
-fn copy(buf: &mut [u8], at: usize, b: &[u8])
-    requires { ⌜ at + length (now b) ≤ length (now buf) ⌝ }
-    ensures { λ _. ⌜ now (buf .exit) ≡ paste (now (buf .entry)) at (now (b .entry)) (length (now (b .entry))) ⌝ }
-{
-    let mut k = 0;
-    while k < b.len() {
-        buf[at + k] = b[k];
-        k += 1;
-    }
-}
-
-// Stores bytes from a place on, if all of them fit.
-pub fn put(buf: &mut [u8], at: usize, b: &[u8])
-    ensures { λ _. ⌜ now (buf .exit) ≡ stored (now (buf .entry)) at (now (b .entry)) ⌝ }
-{
-    if does_fit(b.len(), at, buf.len()) {
-        copy(buf, at, b);
-    }
 }
 
 fn join2(a: u8, b: u8, o: Order) -> u16

@@ -3,7 +3,7 @@ use Prim.Native.Nat.{_-_, _≤_}
 use mathlib.Core.Path.{_≡_}
 use lib.ListN.{length, drop}
 use borrow.Author.Needs.{needs}
-use Rattle.words.specs.Lists.{oneOf}
+use Rattle.slices.specs.Lists.{oneOf}
 use Rattle.commands.proofs.Codes.{one-hit, one-pass, one-none}
 use Rattle.commands.proofs.is_one_of.Statement.{statement}
 use Rattle.commands.proofs.is_one_of.Tie as tie

@@ -4,7 +4,7 @@ use mathlib.Core.Path.{_≡_}
 use native.Mathlib.Omega.{arith}
 use lib.ListN.{length, length-set}
 use borrow.Author.Needs.{needs}
-use Rattle.words.proofs.Lists.{zero-none, zero-next}
+use Rattle.slices.proofs.Lists.{zero-none, zero-next}
 use Rattle.kept.specs.Kept.{lengthened}
 use Rattle.kept.proofs.clear.Statement.{statement}
 use Rattle.kept.proofs.clear.Tie as tie

@@ -4,8 +4,8 @@ use mathlib.Core.Path.{_≡_, refl, sym, _∙_}
 use native.Mathlib.Omega.{arith}
 use lib.ListN.{length}
 use borrow.Author.Needs.{needs}
-use Rattle.words.proofs.Lists.{stored-none}
-use Rattle.words.specs.Lists.{stored}
+use Rattle.slices.proofs.Lists.{stored-none}
+use Rattle.slices.specs.Lists.{stored}
 use Rattle.listing.specs.Listing.{linesBelow}
 use Rattle.listing.proofs.Listing.{put-next, put-place, put-room}
 use Rattle.listing.proofs.put_lines.Statement.{statement}

@@ -4,8 +4,8 @@ use mathlib.Core.Path.{_≡_, sym, _∙_}
 use native.Mathlib.Omega.{arith}
 use lib.ListN.{length, take}
 use borrow.Author.Needs.{needs}
-use Rattle.words.proofs.Lists.{stored-none}
-use Rattle.words.specs.Lists.{flat, stored}
+use Rattle.slices.proofs.Lists.{stored-none}
+use Rattle.slices.specs.Lists.{flat, stored}
 use Rattle.status.specs.Places.{shownThere}
 use Rattle.status.proofs.Page.{bytesOf, put-next, put-all}
 use Rattle.status.proofs.Places.{slot-below, slot-fits, slot-times}

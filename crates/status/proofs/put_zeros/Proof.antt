@@ -4,8 +4,8 @@ use mathlib.Core.Path.{_≡_}
 use native.Mathlib.Omega.{arith}
 use lib.ListN.{length, replicate, length-set}
 use borrow.Author.Needs.{needs}
-use Rattle.words.specs.Lists.{stored}
-use Rattle.words.proofs.Lists.{zero-none, zero-next}
+use Rattle.slices.proofs.Lists.{zero-none, zero-next}
+use Rattle.slices.specs.Lists.{stored}
 use Rattle.status.proofs.put_zeros.Statement.{statement}
 use Rattle.status.proofs.put_zeros.Tie as tie
 

@@ -1,10 +1,10 @@
--- `words::head`: a part from the front, or all.
+-- `slices::head`: a part from the front, or all.
 use mathlib.Core.Path.{sym}
 use native.Mathlib.Nat.{sub-zero}
 use lib.Seq.{take-all}
 use borrow.Author.Needs.{needs}
-use Rattle.words.proofs.head.Statement.{statement}
-use Rattle.words.proofs.head.Tie as tie
+use Rattle.slices.proofs.head.Statement.{statement}
+use Rattle.slices.proofs.head.Tie as tie
 
 pub head-spec : {M : Type 1} → statement M
 head-spec =

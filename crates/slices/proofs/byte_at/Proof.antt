@@ -1,11 +1,11 @@
--- `words::byte_at`: past the end the list's default, 0.
+-- `slices::byte_at`: past the end the list's default, 0.
 use mathlib.Core.Path.{sym}
 use native.Mathlib.Omega.{arith}
 use lib.ListN.{List·getD-eq-default}
 use borrow.Author.Needs.{needs}
 use denote.Ref.{now}
-use Rattle.words.proofs.byte_at.Statement.{statement}
-use Rattle.words.proofs.byte_at.Tie as tie
+use Rattle.slices.proofs.byte_at.Statement.{statement}
+use Rattle.slices.proofs.byte_at.Tie as tie
 
 pub byte-at-spec : {M : Type 1} → statement M
 byte-at-spec =

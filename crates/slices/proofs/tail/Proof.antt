@@ -1,11 +1,11 @@
--- `words::tail`: a part that goes on to the end, or none.
+-- `slices::tail`: a part that goes on to the end, or none.
 use mathlib.Core.Path.{sym}
 use lib.ListN.{drop-of-length-le}
 use borrow.Author.Needs.{needs}
 use denote.Ref.{now}
-use Rattle.words.proofs.Bytes.{part-end}
-use Rattle.words.proofs.tail.Statement.{statement}
-use Rattle.words.proofs.tail.Tie as tie
+use Rattle.slices.proofs.Lists.{part-end}
+use Rattle.slices.proofs.tail.Statement.{statement}
+use Rattle.slices.proofs.tail.Tie as tie
 
 pub tail-spec : {M : Type 1} → statement M
 tail-spec =

@@ -1,8 +1,8 @@
--- `words::put`.
+-- `slices::put`.
 use borrow.Author.Needs.{needs}
-use Rattle.words.proofs.Lists.{room-there, stored-yes, stored-no}
-use Rattle.words.proofs.put.Statement.{statement}
-use Rattle.words.proofs.put.Tie as tie
+use Rattle.slices.proofs.Lists.{room-there, stored-yes, stored-no}
+use Rattle.slices.proofs.put.Statement.{statement}
+use Rattle.slices.proofs.put.Tie as tie
 
 pub put-spec : {M : Type 1} → statement M
 put-spec =

@@ -10,7 +10,7 @@ use lib.Dec.{leb}
 use lib.ListN.{length, getD, take, drop, set, length-append, length-take, length-drop, length-replicate, drop-of-length-le, take-append-drop, replicate, replicate-append-replicate}
 use lib.Seq.{take-suc, drop-cons, getD-take, drop-append-add, drop-drop, take-at, length-take-le, paste, take-all, set-split, set-append-seam, append-snoc}
 use borrow.Author.Tests.{le-leb, lt-leb, leb-true, leb-false}
-use Rattle.words.specs.Lists.{keep, upTo, Every, flat, fits, stored, sum}
+use Rattle.slices.specs.Lists.{keep, upTo, Every, flat, fits, stored, sum}
 
 -- ## A count above the length
 
@@ -19,6 +19,11 @@ module _ {A : Type 0} where
   take-min zero l = rw zero-min
   take-min (suc n) [] = rw min-zero
   take-min (suc n) (x ∷ xs) = rw suc-min-suc (ap (λ (t : List A). x ∷ t) (take-min n xs))
+
+-- ## A part that goes on to the end
+
+pub part-end : (s : List ℕ) (at : ℕ) → take (length s - at) (drop at s) ≡ drop at s
+part-end s at = take-all (length s - at) (drop at s) (simp length-drop (omega arith))
 
 -- ## Kept
 

@@ -1,4 +1,4 @@
--- `words::copy`. The invariant: the first k bytes of the block stand at `at`.
+-- `slices::copy`. The invariant: the first k bytes of the block stand at `at`.
 use Prim.Native.Nat.{_≤_, _-_}
 use mathlib.Core.Path.{_≡_}
 use native.Mathlib.Numerals.{add-one}
@@ -6,8 +6,8 @@ use native.Mathlib.Omega.{arith}
 use lib.ListN.{length, length-set}
 use lib.Seq.{paste, paste-zero, paste-suc}
 use borrow.Author.Needs.{needs}
-use Rattle.words.proofs.copy.Statement.{statement}
-use Rattle.words.proofs.copy.Tie as tie
+use Rattle.slices.proofs.copy.Statement.{statement}
+use Rattle.slices.proofs.copy.Tie as tie
 
 abbrev Inv-loop : tie.InvT-loop
 Inv-loop buf₀ at b k₀ buf k = (buf ≡ paste buf₀ at b k) × (k ≤ length b) × (length buf ≡ length buf₀)
