@@ -30,9 +30,10 @@ use Rattle.slices.proofs.Lists.{length-keep, length-upTo, length-flat, every-ta
 use Rattle.slices.specs.Lists.{Every, keep, upTo, flat, one}
 use Rattle.status.proofs.EveryPage.{whole-pages}
 use Rattle.status.proofs.Page.{bytesOf, wide, shown-ids}
-use Rattle.status.specs.Page.{shownOf, shownAt, shownAll, asks, listOf, headerOf, pageOf}
+use Rattle.status.specs.Page.{shownAt, shownAll, listOf, headerOf, pageOf}
 use Rattle.table.specs.Elements.{live, blankPart, identifiers, size, ascending, removedCount}
 use Rattle.table.specs.declared.Part.{Part}
+use Rattle.view.specs.Shown.{shownOf, asks}
 use Rattle.words.specs.declared.Order.the-variants.{Little}
 use Rattle.agreement.specs.Agreement.{PartFits, Fits, Agrees}
 use Rattle.agreement.proofs.Lists.{ascending-keep, before, ascending-at, after, flat-at}

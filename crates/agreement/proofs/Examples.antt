@@ -6,8 +6,9 @@ use Rattle.cells.specs.Sights.{seeIn}
 use Rattle.removal.specs.Remove.{judgeRoom, judgeFound}
 use Rattle.request.specs.Requests.{refused, takesHealth}
 use Rattle.slices.specs.Lists.{all}
-use Rattle.status.specs.Page.{shownOf, asks, listOf, pageOf}
+use Rattle.status.specs.Page.{listOf, pageOf}
 use Rattle.table.specs.Search.{sightIn}
+use Rattle.view.specs.Shown.{shownOf, asks}
 use Rattle.agreement.specs.Examples.{asSaid, examples}
 
 pub twelve : all asSaid examples ≡ true

@@ -16,8 +16,9 @@ use Rattle.paper.specs.declared.Security.the-variants.{Locked, Unlocked}
 use Rattle.removal.specs.Remove.{judgeRoom, judgeFound}
 use Rattle.request.specs.Requests.{refused, takesHealth}
 use Rattle.request.specs.declared.Request.{Request}
-use Rattle.status.specs.Page.{shownOf, asks, listOf, pageOf, shown}
+use Rattle.status.specs.Page.{listOf, pageOf, shown}
 use Rattle.table.specs.Search.{sightIn}
+use Rattle.view.specs.Shown.{shownOf, asks}
 
 abbrev request : ℕ → ℕ → ℕ → Request
 request feature count lba = record { feature = feature; count = record { 0 = count }; lba = record { 0 = lba } }

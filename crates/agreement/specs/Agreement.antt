@@ -10,9 +10,10 @@ use Rattle.reader.specs.declared.Slot.the-variants.{Holds}
 use Rattle.request.specs.Requests.{refused}
 use Rattle.request.specs.declared.Request.{Request}
 use Rattle.slices.specs.Lists.{Every}
-use Rattle.status.specs.Page.{shownOf, listOf, busyOf, headerOf, pageOf}
+use Rattle.status.specs.Page.{listOf, headerOf, pageOf}
 use Rattle.table.specs.Elements.{identifiers, blankPart, ascending}
 use Rattle.table.specs.declared.Part.{Part}
+use Rattle.view.specs.Shown.{shownOf, busyOf}
 use Rattle.words.specs.declared.Order.the-variants.{Little}
 
 -- numbers that fit their types: taken, as the types of the code's records bound them

@@ -43,25 +43,22 @@ fn is_no_call(line: Line) -> bool {
     }
 }
 
-// Whether a line makes no call, which is then printed.
-fn is_refused(made: bool, line: Line) -> bool {
+// A line that makes no call is passed over, which is printed.
+fn heard(made: bool, line: Line) -> Line {
     if is_no_call(line) {
         print_words(b"not a call");
-        return true;
+        return Line::Passed;
     }
     if lacks_device(made, line) {
         print_words(b"no device");
-        return true;
+        return Line::Passed;
     }
-    false
+    line
 }
 
 // Makes the call of a line that has ended.
 fn obey(bench: Bench, line: Gathered, page: &mut [u8]) -> Bench {
-    let meaning = script::meaning_of(line);
-    if is_refused(bench.made, meaning) {
-        return bench;
-    }
+    let meaning = heard(bench.made, script::meaning_of(line));
     acts::call(bench, meaning, page)
 }
 

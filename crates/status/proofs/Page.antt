@@ -1,6 +1,6 @@
--- The list, the descriptor and the page: a law for each way out, and the page put together from what its parts store.
+-- The list and the page: a law for each way out, and the page put together from what its parts store.
 use Prim.Native.Nat.{ℕ, _+_, _-_, _*_, _^_, _≤_, _<_, min}
-use mathlib.Core.Bool.{Bool, true, false}
+use mathlib.Core.Bool.{Bool}
 use mathlib.Core.List.{List, _++_, map}
 use mathlib.Core.Path.{_≡_, refl, sym, ap, _∙_}
 use native.Mathlib.Omega.{arith}
@@ -8,9 +8,6 @@ use lib.ListN.{length, take, drop, getD, set, replicate, length-append, length-r
 use lib.Seq.{length-take-le, take-all, take-length}
 use borrow.Author.Tests.{eq-eqb, ne-eqb}
 use mir.Val.{boolByte}
-use Rattle.cells.specs.declared.Note.the-variants.{Empty, Full}
-use Rattle.cells.specs.declared.Note.{Note}
-use Rattle.cells.specs.declared.Removal.{Removal}
 use Rattle.device.specs.Record.{removedNumber}
 use Rattle.device.specs.declared.Device.{Device}
 use Rattle.layout.specs.Bytes.{headerBytes, descriptorBytes, roomOf, returnedOf}
@@ -21,48 +18,18 @@ use Rattle.paper.specs.Told.{said}
 use Rattle.paper.specs.declared.Answer.{Answer}
 use Rattle.paper.specs.declared.ElementId.{ElementId}
 use Rattle.paper.specs.declared.Security.{Security}
-use Rattle.request.specs.Requests.{filterOf, reportTypeOf, pagesOf, statusNumber, takesId, takesType, takesHealth}
+use Rattle.request.specs.Requests.{pagesOf, statusNumber}
 use Rattle.request.specs.declared.Request.{Request}
 use Rattle.slices.proofs.Lists.{take-min, map-map, map-upTo, map-places, stored-front, stored-more, stored-each, length-flat}
 use Rattle.slices.specs.Lists.{upTo, flat, stored}
 use Rattle.table.specs.Elements.{live, blankPart, identifiers, size, identifierAt}
 use Rattle.table.specs.declared.Part.{Part}
+use Rattle.view.specs.Shown.{shownOf, asks, busyOf}
 use Rattle.words.specs.declared.Order.the-variants.{Little}
-use Rattle.status.specs.Page.{capacityOf, shownOf, shownAt, shownAll, asks, listOf, busyOf, headed, headerOf, pageOf, shown}
+use Rattle.status.specs.Page.{shownAt, shownAll, listOf, headed, headerOf, pageOf, shown}
 use Rattle.status.specs.Places.{shownIn, shownThere}
 use Rattle.status.specs.Promises.{Keeps-identifier}
 use Rattle.status.proofs.Places.{length-there, at-place, take-there, Listed, list-turn, all-listed}
-
--- ## An element
-
-pub shown-made : (p : Part) (h c : ℕ) → c ≡ capacityOf p → record { id = p .id; restorable = false; kind = p .kind; health = h; capacity = c } ≡ shownOf p h
-unfolding shownOf
-shown-made p h c is-c = λ i. record { id = p .id; restorable = false; kind = p .kind; health = h; capacity = is-c i }
-
-module _ (q : Request) (p : Part) (h : ℕ) (x : Descriptor) (is-x : x ≡ shownOf p h) (a : Bool) (is-a : a ≡ takesId q (x .id .0)) where
-  pub asks-id : a ≡ false → false ≡ asks q (shownOf p h)
-  unfolding asks
-  asks-id n = sym (rw (sym is-a ∙ n)) ∙ ap (asks q) is-x
-
-  module _ (yes-id : a ≡ true) (b : Bool) (is-b : b ≡ takesType (reportTypeOf q) (x .kind)) where
-    pub asks-type : b ≡ false → false ≡ asks q (shownOf p h)
-    unfolding asks
-    asks-type n = sym (rw (sym is-a ∙ yes-id, sym is-b ∙ n)) ∙ ap (asks q) is-x
-
-    pub asks-health : b ≡ true → (r : Bool) → r ≡ takesHealth (filterOf q) (x .health) → r ≡ asks q (shownOf p h)
-    unfolding asks
-    asks-health y r is-r = is-r ∙ sym (rw (sym is-a ∙ yes-id, sym is-b ∙ y)) ∙ ap (asks q) is-x
-
--- ## The noted element
-
-abbrev element : Note → ElementId
-element n = record { 0 = busyOf n }
-
-pub busy-none : (n : Note) → n ≡ Empty → _≡_ {A = ElementId} (record { 0 = 0 }) (record { 0 = busyOf n })
-busy-none n e = ap element (sym e)
-
-pub busy-noted : (n : Note) (w : Removal) → n ≡ Full w → w .element ≡ record { 0 = busyOf n }
-busy-noted n w e = ap element (sym e)
 
 -- ## The identifier
 
@@ -83,12 +50,6 @@ bytesOf x = descriptorBytes Little x
 
 pub wide : (x : Descriptor) → length (bytesOf x) ≡ 32
 wide x = refl
-
-pub put-there : (d out b e : List ℕ) (at : ℕ) → out ≡ stored d at b → b ≡ e → out ≡ stored d at e
-put-there d out b e at is-out is-b = is-out ∙ ap (stored d at) is-b
-
-pub put-shown : (d out b : List ℕ) (at : ℕ) (x y : Descriptor) → out ≡ stored d at b → b ≡ bytesOf x → x ≡ y → out ≡ stored d at (bytesOf y)
-put-shown d out b at x y is-out is-b is-x = is-out ∙ ap (stored d at) (is-b ∙ ap bytesOf is-x)
 
 -- ## The header
 

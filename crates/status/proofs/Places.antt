@@ -18,7 +18,8 @@ use Rattle.slices.specs.Lists.{keep, upTo}
 use Rattle.table.proofs.Arrays.{length-taken}
 use Rattle.table.specs.Elements.{live, blankPart, size}
 use Rattle.table.specs.declared.Part.{Part}
-use Rattle.status.specs.Page.{shownOf, shownAt, asks, listOf}
+use Rattle.view.specs.Shown.{shownOf, asks}
+use Rattle.status.specs.Page.{shownAt, listOf}
 use Rattle.status.specs.Places.{Slots, shownIn, shownThere}
 
 take-map : {A B : Type 0} (f : A → B) (n : ℕ) (l : List A) → take n (map f l) ≡ map f (take n l)

@@ -6,7 +6,7 @@ use Rattle.layout.specs.declared.Descriptor.{Descriptor}
 use Rattle.slices.specs.Lists.{Every}
 use Rattle.table.specs.Elements.{blankPart}
 use Rattle.table.specs.declared.Part.{Part}
-use Rattle.status.specs.Page.{shownOf}
+use Rattle.view.specs.Shown.{shownOf}
 
 -- each is an index of the table's arrays
 abbrev pub Slots : List ℕ → Type 0

@@ -6,68 +6,18 @@ ghost use lib.ListN.{length, drop, replicate};
 ghost use Rattle.device.specs.Record.{removedNumber};
 ghost use Rattle.paper.specs.Told.{said};
 ghost use Rattle.slices.specs.Lists.{flat, stored};
-ghost use Rattle.layout.specs.Bytes.{headerBytes, descriptorBytes};
+ghost use Rattle.layout.specs.Bytes.{descriptorBytes};
 ghost use Rattle.request.specs.Requests.{pagesOf};
-ghost use Rattle.status.specs.Page.{capacityOf, shownOf, asks, busyOf, headed, pageOf, shown};
+ghost use Rattle.status.specs.Page.{headed, pageOf, shown};
 ghost use Rattle.status.specs.Places.{Slots, shownThere};
-use cells::Note;
 use device::Device;
-use layout::Descriptor;
 use layout::Header;
 use paper::Answer;
-use paper::ElementId;
 use paper::PageCount;
 use paper::Security;
 use request::Request;
 use table::Part;
 use words::Order;
-
-fn capacity(p: Part) -> u64
-    ensures { λ r. ⌜ r ≡ capacityOf p ⌝ }
-{
-    if p.unreported {
-        0xFFFF_FFFF_FFFF_FFFF
-    } else {
-        p.blocks
-    }
-}
-
-// What a page shows of an element: its part, and the health of its place.
-fn shown_of(p: Part, health: u8) -> Descriptor
-    ensures { λ r. ⌜ r ≡ shownOf p health ⌝ }
-{
-    let id = p.id;
-    Descriptor {
-        id,
-        restorable: false,
-        kind: p.kind,
-        health,
-        capacity: capacity(p),
-    }
-}
-
-// Whether a request asks for the element of this part and health.
-fn does_ask(request: Request, p: Part, health: u8) -> bool
-    ensures { λ r. ⌜ r ≡ asks request (shownOf p health) ⌝ }
-{
-    let x = shown_of(p, health);
-    if !request.takes_id(x.id) {
-        return false;
-    }
-    if !request.takes_type(x.kind) {
-        return false;
-    }
-    request.takes_health(x.health)
-}
-
-fn busy(note: Note) -> ElementId
-    ensures { λ r. ⌜ r ≡ record { 0 = busyOf note } ⌝ }
-{
-    match note {
-        Note::Empty => ElementId(0),
-        Note::Full(w) => w.element,
-    }
-}
 
 // The header of a list of this number. The number at FFh is of the whole table.
 fn header_of(d: Device, number: usize, count: PageCount) -> Header
@@ -81,27 +31,10 @@ fn header_of(d: Device, number: usize, count: PageCount) -> Header
     Header {
         number: number as u32,
         returned: returned as u32,
-        busy: busy(note),
+        busy: view::busy(note),
         limit: d.table.limit,
         removed: table::removed(hs, d.table.count),
     }
-}
-
-fn put_header(header: Header, buf: &mut [u8])
-    ensures { λ _. ⌜ now (buf .exit) ≡ stored (now (buf .entry)) 0 (headerBytes Order.Little header) ⌝ }
-{
-    let bytes = header.bytes(Order::Little);
-    slices::put(buf, 0, &bytes);
-}
-
-// Stores the descriptor of the element of this part and health, behind the header and the k before it.
-fn put_descriptor(p: Part, health: u8, k: usize, buf: &mut [u8])
-    requires { ⌜ k ≤ 128 ⌝ }
-    ensures { λ _. ⌜ now (buf .exit) ≡ stored (now (buf .entry)) (32 + 32 * k) (descriptorBytes Order.Little (shownOf p health)) ⌝ }
-{
-    let x = shown_of(p, health);
-    let bytes = x.bytes(Order::Little);
-    slices::put(buf, 32 + 32 * k, &bytes);
 }
 
 // Stores zeros behind the header and the descriptors.
@@ -125,7 +58,7 @@ fn put_list(ps: [Part; 128], hs: [u8; 128], places: [u8; 128], returned: usize, 
     let mut k: usize = 0;
     while k < returned {
         let j = places[k] as usize;
-        put_descriptor(ps[j], hs[j], k, buf);
+        view::put_shown(ps[j], hs[j], 32 + 32 * k, buf);
         k += 1;
     }
 }
@@ -144,11 +77,11 @@ fn fill(d: Device, request: Request, buf: &mut [u8])
     let mut i: usize = 0;
     while i < n {
         places[number] = i as u8;
-        number += does_ask(request, ps[i], hs[i]) as usize;
+        number += view::does_ask(request, ps[i], hs[i]) as usize;
         i += 1;
     }
     let header = header_of(d, number, request.count);
-    put_header(header, buf);
+    view::put_header(header, buf);
     let returned = header.returned as usize;
     put_list(ps, hs, places, returned, buf);
     put_zeros(returned, request.count, buf);

@@ -32,10 +32,12 @@ put-list-spec =
     (λ c. record { fits = search (slot-times) })
     (λ c. search (slot-below))
     (λ c. search (slot-below))
+    (λ c. search needs)
+    (λ c. search needs)
     (λ c κs. search needs)
     (λ c. search needs)
     (λ c. search needs)
-    (λ c. let put = c .before .before .put-descriptor in
+    (λ c. let put = c .before .before .put-shown in
     let turn = c .before .before .before .before .before .before in
     let l = turn .loop in
     let s = turn .before .before in (

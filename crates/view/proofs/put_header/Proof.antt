@@ -1,8 +1,8 @@
--- `status::put_header`.
+-- `view::put_header`.
 use borrow.Author.Needs.{needs}
-use Rattle.status.proofs.Page.{put-there}
-use Rattle.status.proofs.put_header.Statement.{statement}
-use Rattle.status.proofs.put_header.Tie as tie
+use Rattle.view.proofs.Shown.{put-there}
+use Rattle.view.proofs.put_header.Statement.{statement}
+use Rattle.view.proofs.put_header.Tie as tie
 
 pub put-header-spec : {M : Type 1} → statement M
 put-header-spec =

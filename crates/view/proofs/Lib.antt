@@ -1,0 +1,2 @@
+-- What is proved of `view`'s functions.
+pub mod Shown
