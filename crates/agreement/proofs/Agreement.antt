@@ -28,7 +28,7 @@ use Rattle.request.specs.Requests.{filterOf, reportTypeOf, pagesOf, refused, ta
 use Rattle.request.specs.declared.Request.{Request}
 use Rattle.slices.proofs.Lists.{length-keep, length-upTo, length-flat, every-take, every-keep, every-at, every-below, kept-all}
 use Rattle.slices.specs.Lists.{Every, keep, upTo, flat, one}
-use Rattle.status.proofs.EveryPage.{whole-pages}
+use Rattle.status.proofs.EveryPage.{list-ascends, whole-pages}
 use Rattle.status.proofs.Page.{bytesOf, wide, shown-ids}
 use Rattle.status.specs.Page.{shownAt, shownAll, listOf, headerOf, pageOf}
 use Rattle.table.specs.Elements.{live, blankPart, identifiers, size, ascending, removedCount}
@@ -36,7 +36,7 @@ use Rattle.table.specs.declared.Part.{Part}
 use Rattle.view.specs.Shown.{shownOf, asks}
 use Rattle.words.specs.declared.Order.the-variants.{Little}
 use Rattle.agreement.specs.Agreement.{PartFits, Fits, Agrees}
-use Rattle.agreement.proofs.Lists.{ascending-keep, before, ascending-at, after, flat-at}
+use Rattle.agreement.proofs.Lists.{before, ascending-at, after, flat-at}
 
 -- ## An element
 
@@ -118,9 +118,6 @@ module _ (d : Device) (q : Request) (fits : Fits d) (asc : ascending 0 (identifi
   list-clear : Every (λ (x : Descriptor). x .restorable ≡ false) (listOf d q)
   list-clear = rw list-is (every-keep (λ (x : Descriptor). x .restorable ≡ false) (asks q) (shownAll d) (bit-clear d (size (d .table))))
 
-  list-ascends : ascending 0 (map idOf (listOf d q)) ≡ true
-  list-ascends = rw list-is (ascending-keep idOf (asks q) 0 (shownAll d) (ap (ascending 0) (shown-ids d) ∙ asc))
-
   header-fits : HeaderFits (headerOf d q)
   header-fits =
       let removed = few-removed (take (d .table .count) (d .cells .healths)) in
@@ -191,7 +188,7 @@ module _ (d : Device) (q : Request) (fits : Fits d) (asc : ascending 0 (identifi
       let asked : asks q e ≡ true = every-at (λ (x : Descriptor). asks q x ≡ true) (listOf d q) k none (omega arith) list-asked in
       let clear : e .restorable ≡ false = every-at (λ (x : Descriptor). x .restorable ≡ false) (listOf d q) k none (omega arith) list-clear in
       let up : before 0 (map idOf (listOf d q)) k < idOf e =
-      subst (λ (m : ℕ). before 0 (map idOf (listOf d q)) k < m) (id-at k l) (ascending-at 0 (map idOf (listOf d q)) k (rw (length-map (listOf d q) idOf) (omega arith)) list-ascends) in
+      subst (λ (m : ℕ). before 0 (map idOf (listOf d q)) k < m) (id-at k l) (ascending-at 0 (map idOf (listOf d q)) k (rw (length-map (listOf d q) idOf) (omega arith)) (list-ascends d q asc)) in
       subst (λ (x : Descriptor). Listed q (lastBefore Little (pageOf d q) k) x) (sym (descriptor-here k l))
       (subst (λ (m : ℕ). Listed q m e) (sym (last-here k l)) (asked-listed q (before 0 (map idOf (listOf d q)) k) e asked clear up))
 

@@ -1,4 +1,4 @@
--- Ascending identifiers, of those kept and of the one at a place; a part of a flattened list.
+-- Ascending identifiers, of the one at a place; a part of a flattened list.
 use Prim.Native.Nat.{ℕ, zero, suc, _+_, _*_, _≤_, _<_}
 use mathlib.Core.Bool.{Bool, true, false, cond}
 use mathlib.Core.List.{List, [], _∷_, _++_, map, append-assoc}
@@ -14,23 +14,6 @@ use Rattle.table.proofs.Ascending.{both, ascending-both}
 use Rattle.table.specs.Elements.{ascending}
 
 -- ## Ascending
-
-ascending-from : (low high : ℕ) (l : List ℕ) → low ≤ high → ascending high l ≡ true → ascending low l ≡ true
-ascending-from low high [] h e = refl
-ascending-from low high (x ∷ xs) h e =
-    let b = ascending-both high x xs e in
-    rw (lt-ltb low x (omega (arith, b .0))) (b .1)
-
--- of elements by a key
-pub ascending-keep : {A : Type 0} (key : A → ℕ) (f : A → Bool) (low : ℕ) (l : List A) → ascending low (map key l) ≡ true → ascending low (map key (keep f l)) ≡ true
-ascending-keep key f low [] e = refl
-ascending-keep key f low (x ∷ xs) e =
-    let b = both (ltb low (key x)) (ascending (key x) (map key xs)) e in
-    one (f x) (b .0) (ascending-keep key f (key x) xs (b .1))
-  where
-    one : (t : Bool) → ltb low (key x) ≡ true → ascending (key x) (map key (keep f xs)) ≡ true → ascending low (map key (cond t (x ∷ keep f xs) (keep f xs))) ≡ true
-    one true up r = rw up r
-    one false up r = let less = ltb-true low (key x) up in ascending-from low (key x) (map key (keep f xs)) (omega (arith, less)) r
 
 -- the identifier before place k
 abbrev pub before : ℕ → List ℕ → ℕ → ℕ

@@ -5,11 +5,11 @@ use mathlib.Core.Bool.{Bool, true, false, _&&_}
 use mathlib.Core.List.{List, [], _∷_, _++_, map}
 use lib.Dec.{eqb}
 use lib.ListN.{replicate}
-use Rattle.commands.specs.Lent.{lent}
 use Rattle.device.specs.Machine.{Event, command, step, mediaError, powerCut, comreset, hardwareReset, softwareReset, grade}
 use Rattle.device.specs.declared.Device.{Device}
 use Rattle.making.specs.Examples.{registers, Row, row, rows, holds, run, deviceA, asBuilt}
 use Rattle.paper.specs.declared.Security.the-variants.{Unlocked}
+use Rattle.status.specs.Lent.{lent}
 
 pub record Example : Type 0 where
   pub line : Row

@@ -41,7 +41,7 @@ fn fitting(fits: bool, call: Line) -> Line
 
 // ---- The calls on the device
 
-pub fn element(line: &[u8]) -> Line
+pub fn element_call(line: &[u8]) -> Line
     ensures { λ r. ⌜ r ≡ spec.elementOf (now (line .entry)) ⌝ }
 {
     let id = field_at(line, 1, 0xFFFF_FFFF);
@@ -60,7 +60,7 @@ pub fn element(line: &[u8]) -> Line
     fitting(each(id.fits, kind.fits, figures), Line::Element(offered))
 }
 
-pub fn make(line: &[u8]) -> Line
+pub fn make_call(line: &[u8]) -> Line
     ensures { λ r. ⌜ r ≡ spec.makeOf (now (line .entry)) ⌝ }
 {
     let limit = field_at(line, 1, 0xFFFF);
@@ -106,7 +106,7 @@ fn asked(line: &[u8], k: usize) -> Asked
     }
 }
 
-pub fn command(line: &[u8]) -> Line
+pub fn command_call(line: &[u8]) -> Line
     ensures { λ r. ⌜ r ≡ spec.commandOf (now (line .entry)) ⌝ }
 {
     let state = state(lines::word_at(line, 1));
@@ -129,7 +129,7 @@ pub fn command(line: &[u8]) -> Line
     )
 }
 
-pub fn grade(line: &[u8]) -> Line
+pub fn grade_call(line: &[u8]) -> Line
     ensures { λ r. ⌜ r ≡ spec.gradeOf (now (line .entry)) ⌝ }
 {
     let id = field_at(line, 1, 0xFFFF_FFFF);
@@ -143,7 +143,7 @@ pub fn grade(line: &[u8]) -> Line
 
 // ---- The calls on the kept page
 
-pub fn length(line: &[u8]) -> Line
+pub fn length_call(line: &[u8]) -> Line
     ensures { λ r. ⌜ r ≡ spec.lengthOf (now (line .entry)) ⌝ }
 {
     let given = field_at(line, 1, 0x1_0000);
@@ -151,7 +151,7 @@ pub fn length(line: &[u8]) -> Line
     fitting(given.fits, Line::Page(PageCall::Length(size)))
 }
 
-pub fn poke(line: &[u8]) -> Line
+pub fn poke_call(line: &[u8]) -> Line
     ensures { λ r. ⌜ r ≡ spec.pokeOf (now (line .entry)) ⌝ }
 {
     let place = field_at(line, 1, 0x1_0000);
@@ -166,7 +166,7 @@ pub fn poke(line: &[u8]) -> Line
     )
 }
 
-pub fn read(line: &[u8]) -> Line
+pub fn read_call(line: &[u8]) -> Line
     ensures { λ r. ⌜ r ≡ spec.readOf (now (line .entry)) ⌝ }
 {
     let asked = asked(line, 1);

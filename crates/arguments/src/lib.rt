@@ -1,6 +1,13 @@
 // The bench language: each call from the words of its line.
-pub mod calls;
+mod calls;
 
+pub use calls::command_call;
+pub use calls::element_call;
+pub use calls::grade_call;
+pub use calls::length_call;
+pub use calls::make_call;
+pub use calls::poke_call;
+pub use calls::read_call;
 use offer::Element;
 use paper::ElementId;
 use paper::Lba;

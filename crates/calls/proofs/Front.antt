@@ -4,7 +4,6 @@ use mathlib.Core.List.{List}
 use mathlib.Core.Path.{_≡_, sym, ap, _∙_}
 use lib.ListN.{length}
 use borrow.Author.Tests.{eq-eqb, ne-eqb}
-use Rattle.commands.specs.Lent.{lent}
 use Rattle.device.specs.Machine.{command, told}
 use Rattle.device.specs.declared.Device.{Device}
 use Rattle.paper.specs.Registers.{Registers}
@@ -14,6 +13,7 @@ use Rattle.paper.specs.declared.Lba.{Lba}
 use Rattle.paper.specs.declared.Security.{Security}
 use Rattle.request.specs.Requests.{asked}
 use Rattle.request.specs.declared.Request.{Request}
+use Rattle.status.specs.Lent.{lent}
 use Rattle.status.specs.Page.{shown}
 
 abbrev pub registers : ℕ → ℕ → ℕ → Lba → Registers

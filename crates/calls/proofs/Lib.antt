@@ -1,5 +1,6 @@
--- What is proved of the calls' data, of the front call, of a lent list and of the answers.
+-- What is proved of the calls' data, of the front call, of a lent list, of the answers and of refusals.
 pub mod Data
+pub mod Demand1
 pub mod Front
 pub mod Lists
 pub mod Once

@@ -4,10 +4,9 @@ use mathlib.Core.Bool.{true}
 use mathlib.Core.List.{List, [], map}
 use mathlib.Core.Path.{_≡_}
 use lib.ListN.{length, take}
-use Rattle.commands.specs.Lent.{lent}
 use Rattle.device.specs.Commands.{otherNumber}
 use Rattle.device.specs.Machine.{command, told}
-use Rattle.device.specs.Promises.{One-answer, Leaves}
+use Rattle.device.specs.Promises.{One-answer, Leaves, Refusal-leaves}
 use Rattle.device.specs.declared.Device.{Device}
 use Rattle.making.specs.Making.{madeOf}
 use Rattle.offer.specs.Check.{verdict, good}
@@ -21,7 +20,8 @@ use Rattle.paper.specs.Registers.{Registers}
 use Rattle.paper.specs.Told.{tells, said}
 use Rattle.paper.specs.declared.Answer.{Answer}
 use Rattle.paper.specs.declared.Security.{Security}
-use Rattle.status.specs.Promises.{One-page}
+use Rattle.status.specs.Lent.{lent}
+use Rattle.status.specs.Promises.{One-page, Refusal-leaves-bytes}
 use Rattle.table.specs.Elements.{live}
 use Rattle.calls.specs.Offered.{checkList, findList, offerOf, madeFrom}
 
@@ -75,10 +75,6 @@ Long-list-refused =
     (d : Device) (es : List Element) (limit id : ℕ) → 128 < length es
     → (checkList es limit ≡ tells 8 []) × (findList id es ≡ Missing) × (madeFrom d es limit ≡ tells 8 d)
 
--- "Every number but 0 leaves the device .. untouched."
-abbrev pub Refused-list-leaves : Type 0
-Refused-list-leaves = (d : Device) (es : List Element) (limit : ℕ) → Leaves d (madeFrom d es limit)
-
 -- a device made of a list is the one made of its offer, from which demand 3 starts (history/specs/Starts)
 abbrev pub Made-alike : Type 0
 Made-alike = (d : Device) (es : List Element) (limit : ℕ) → madeFrom d es limit ≡ madeOf d (offerOf es limit)
@@ -88,3 +84,21 @@ abbrev pub Copied-whole : Type 0
 Copied-whole =
     (d : Device) (es : List Element) (limit : ℕ) → good (length es) es limit ≡ true
     → (live (madeFrom d es limit .state .table) ≡ map partOf es) × (take (length es) (madeFrom d es limit .state .cells .healths) ≡ map healthOf es)
+
+-- ## Demand 1: "A refusal has the number of document 01 and changes neither the device nor a byte lent to us."
+
+-- the front call
+abbrev pub Refusal-leaves-both : Type 0
+Refusal-leaves-both =
+    (d : Device) (s : Security) (r : Registers) (buf : List ℕ) → (told d (command s r (length buf)) .number ≡ 0 → ⊥)
+    → (told d (command s r (length buf)) .state ≡ d) × (lent d s r buf ≡ buf)
+
+abbrev pub Refused-list-leaves : Type 0
+Refused-list-leaves = (d : Device) (es : List Element) (limit : ℕ) → Leaves d (madeFrom d es limit)
+
+-- of every lent call
+pub record Demand-1 : Type 0 where
+  pub changing : Refusal-leaves
+  pub command : Refusal-leaves-both
+  pub showing : Refusal-leaves-bytes
+  pub making : Refused-list-leaves

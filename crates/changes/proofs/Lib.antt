@@ -1,3 +1,3 @@
--- What is proved of `changes`'s definitions, and of its functions.
+-- What is proved of `changes`' definitions, and of its functions.
 pub mod Changes
 pub mod Lengths

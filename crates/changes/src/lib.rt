@@ -1,8 +1,8 @@
 // The lines of a comparison: one for each difference, and the last, which says how far two pages were compared or which was refused.
 ghost use mathlib.Core.Path.{_≡_};
-ghost use Rattle.changes.specs.Changes as paper;
 ghost use Rattle.reach.specs.Opening.{heard};
 ghost use Rattle.text.specs.Text.{nothing, written};
+ghost use Rattle.changes.specs.Changes as paper;
 use compare::Line;
 use layout::Descriptor;
 use paper::ElementId;

@@ -2,4 +2,3 @@
 
 pub mod Codes
 pub mod Judgement
-pub mod Security

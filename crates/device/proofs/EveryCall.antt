@@ -1,4 +1,4 @@
--- No second answer fits; a refusal leaves the device; the table stays; a tidy device stays tidy (specs/Promises).
+-- No second answer fits; a refusal leaves the device; the table stays; a tidy device stays tidy; a removal ends at rest (specs/Promises).
 use Prim.Native.Nat.{ℕ, _-_, _≤_, _<_}
 use mathlib.Core.Bool.{Bool, true, false, cond}
 use mathlib.Core.List.{List}
@@ -21,7 +21,7 @@ use Rattle.steps.specs.Steps.{marking, nextOf}
 use Rattle.table.proofs.Search.{hits-there}
 use Rattle.table.specs.Elements.{identifiers}
 use Rattle.table.specs.Search.{sightIn}
-use Rattle.device.specs.Promises.{One-answer, Leaves, Refusal-leaves, Keeps-table, Tidy, Keeps-tidy}
+use Rattle.device.specs.Promises.{One-answer, Leaves, Refusal-leaves, Keeps-table, Tidy, Keeps-tidy, Ends-at-rest}
 use Rattle.device.specs.Record.{carriedOut, tell, see, storeAt}
 use Rattle.device.specs.declared.Device.{Device}
 use Rattle.device.proofs.Shapes.{Kind, Shape, quiet, clears, notes, advances, winds, Grading, refuses, grades, every, marking-note}
@@ -65,6 +65,18 @@ hit-below d id q =
     let few : length (identifiers (d .table)) ≤ d .table .count = simp (length-map, length-take) (omega arith) in
     omega (arith, there, few)
 
+module _ (d : Device) where
+  resting : (w : Removal) → d .cells .note ≡ Full w → (p : Position) → make (storeAt d w p) (d .cells) .note ≡ Empty → nextOf p ≡ Work1
+  resting w n Work1 q = full-not (sym n ∙ q)
+  resting w n Work2 q = full-not (sym n ∙ q)
+  resting w n Work3 q = full-not (sym n ∙ sym (marking-note (see d (w .element)) (d .cells)) ∙ q)
+  resting w n Work4 q = full-not (sym n ∙ q)
+  resting w n Work5 q = refl
+  resting w n Wind1 q = full-not (sym n ∙ q)
+  resting w n Wind2 q = full-not (sym n ∙ q)
+  resting w n Wind3 q = full-not (sym n ∙ q)
+  resting w n Wind4 q = refl
+
 module _ (d : Device) (tidy : Tidy d) where
   abbrev zeros : List ℕ → Type 0
   zeros hs = drop (d .table .count) hs ≡ replicate (128 - d .table .count) 0
@@ -90,22 +102,11 @@ module _ (d : Device) (tidy : Tidy d) where
   stepped w Wind3 = tidy .healths
   stepped w Wind4 = tidy .healths
 
-  resting : (w : Removal) → d .cells .note ≡ Full w → (p : Position) → make (storeAt d w p) (d .cells) .note ≡ Empty → nextOf p ≡ Work1
-  resting w n Work1 q = full-not (sym n ∙ q)
-  resting w n Work2 q = full-not (sym n ∙ q)
-  resting w n Work3 q = full-not (sym n ∙ sym (marking-note (see d (w .element)) (d .cells)) ∙ q)
-  resting w n Work4 q = full-not (sym n ∙ q)
-  resting w n Work5 q = refl
-  resting w n Wind1 q = full-not (sym n ∙ q)
-  resting w n Wind2 q = full-not (sym n ∙ q)
-  resting w n Wind3 q = full-not (sym n ∙ q)
-  resting w n Wind4 q = refl
-
   tidied-shape : (k : Kind) (r : Ruled) → Shape d k r → Tidy (carriedOut d r)
   tidied-shape k r (quiet n) = tidy
   tidied-shape k r clears = record { slots = tidy .slots; healths = tidy .healths; rests = tidy .rests }
   tidied-shape k r (notes id lba n s) = record { slots = tidy .slots; healths = tidy .healths; rests = λ _. refl }
-  tidied-shape k r (advances w n) = record { slots = tidy .slots; healths = stepped w (d .position); rests = resting w n (d .position) }
+  tidied-shape k r (advances w n) = record { slots = tidy .slots; healths = stepped w (d .position); rests = resting d w n (d .position) }
   tidied-shape k r (winds w n) = record { slots = tidy .slots; healths = tidy .healths; rests = λ q. full-not (sym n ∙ q) }
 
   tidied-grading : (id : ElementId) (h : ℕ) (r : Ruled) → Grading d id h r → Tidy (carriedOut d r)
@@ -114,3 +115,25 @@ module _ (d : Device) (tidy : Tidy d) where
 
 pub keeps-tidy : Keeps-tidy
 keeps-tidy d e tidy = every d (λ (r : Ruled). Tidy (carriedOut d r)) (tidied-shape d tidy) (tidied-grading d tidy) e
+
+-- ## A call that ends a removal
+
+pub ends-at-rest : Ends-at-rest
+ends-at-rest d e w full = every d Rested shape grading e
+  where
+    Rested : Ruled → Type 0
+    Rested r = carriedOut d r .cells .note ≡ Empty → carriedOut d r .position ≡ Work1
+
+    still-full : {A : Type 0} → d .cells .note ≡ Empty → A
+    still-full q = full-not (sym full ∙ q)
+
+    shape : (k : Kind) (r : Ruled) → Shape d k r → carriedOut d r .cells .note ≡ Empty → carriedOut d r .position ≡ Work1
+    shape k r (quiet n) q = still-full q
+    shape k r clears q = still-full q
+    shape k r (notes id lba n s) q = still-full n
+    shape k r (advances v n) q = resting d v n (d .position) q
+    shape k r (winds v n) q = still-full q
+
+    grading : (id : ElementId) (h : ℕ) (r : Ruled) → Grading d id h r → carriedOut d r .cells .note ≡ Empty → carriedOut d r .position ≡ Work1
+    grading id h r refuses q = still-full q
+    grading id h r (grades s g) q = still-full q

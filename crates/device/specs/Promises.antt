@@ -1,16 +1,17 @@
 -- What holds of every call at once. Each is a statement; proofs/ has the proof under the same name in lower case.
 use Prim.Native.Nat.{ℕ, _-_}
 use mathlib.Core.Path.{_≡_}
-use lib.ListN.{take, drop, replicate}
+use lib.ListN.{drop, replicate}
 use Rattle.cells.specs.Rulings.{Ruled}
 use Rattle.cells.specs.declared.Mark.{Mark}
-use Rattle.cells.specs.declared.Note.the-variants.{Empty}
+use Rattle.cells.specs.declared.Note.the-variants.{Empty, Full}
 use Rattle.cells.specs.declared.Note.{Note}
 use Rattle.cells.specs.declared.Position.the-variants.{Work1}
+use Rattle.cells.specs.declared.Removal.{Removal}
 use Rattle.paper.specs.Told.{Told, tells, said}
 use Rattle.paper.specs.declared.Answer.{Answer}
 use Rattle.paper.specs.declared.Lba.{Lba}
-use Rattle.table.specs.Elements.{live, blankPart}
+use Rattle.table.specs.Elements.{blankPart}
 use Rattle.device.specs.Machine.{Event, mediaError, powerCut, comreset, hardwareReset, softwareReset, told}
 use Rattle.device.specs.Record.{healthAt, tell}
 use Rattle.device.specs.declared.Device.{Device}
@@ -80,17 +81,16 @@ Stop-keeps-cells = (d : Device) → (told d powerCut .state .cells ≡ d .cells)
 abbrev pub Reset-changes-nothing : Type 0
 Reset-changes-nothing = (d : Device) → (told d comreset ≡ tells 0 d) × (told d hardwareReset ≡ tells 0 d) × (told d softwareReset ≡ tells 0 d)
 
--- the same elements with the same cells; what stands past the count is neither
-pub record Same-cells (d x : Device) : Type 0 where
-  pub parts : live (d .table) ≡ live (x .table)
-  pub count : d .table .count ≡ x .table .count
-  pub limit : d .table .limit ≡ x .table .limit
-  pub native : d .cells .native ≡ x .cells .native
-  pub accessible : d .cells .accessible ≡ x .cells .accessible
-  pub healths : take (d .table .count) (d .cells .healths) ≡ take (x .table .count) (x .cells .healths)
-  pub failed : d .cells .failed ≡ x .cells .failed
-  pub note : d .cells .note ≡ x .cells .note
+-- two devices that differ in the position alone
+pub record But-position (d x : Device) : Type 0 where
+  pub table : d .table ≡ x .table
+  pub cells : d .cells ≡ x .cells
 
--- so what is left after a cut depends on the elements and their cells alone
+-- are one after a cut, while the note is full; with an empty note no script tells them apart (history/specs/Runs, `Rests-alike`)
 abbrev pub Cut-forgets : Type 0
-Cut-forgets = (d x : Device) → Tidy d → Tidy x → Same-cells d x → told d powerCut .state ≡ told x powerCut .state
+Cut-forgets = (d x : Device) → But-position d x → (w : Removal) → d .cells .note ≡ Full w → told d powerCut ≡ told x powerCut
+
+-- every call that ends a removal leaves the position at the first work step
+abbrev pub Ends-at-rest : Type 0
+Ends-at-rest =
+    (d : Device) (e : Event) (w : Removal) → d .cells .note ≡ Full w → told d e .state .cells .note ≡ Empty → told d e .state .position ≡ Work1

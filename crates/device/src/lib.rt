@@ -5,9 +5,10 @@ ghost use Rattle.cells.specs.Cells.{isSet};
 ghost use Rattle.cells.specs.Rulings.{ruled};
 ghost use Rattle.paper.specs.Answers.{numberOf};
 ghost use Rattle.paper.specs.Told.{said};
+ghost use Rattle.steps.specs.Steps.{ruleStop};
 ghost use Rattle.device.specs.Machine as machine;
 ghost use Rattle.device.specs.Machine.{told};
-ghost use Rattle.device.specs.Record.{underWay, tell};
+ghost use Rattle.device.specs.Record.{underWay, says, tell};
 use cells::Cells;
 use cells::Position;
 use cells::Ruling;
@@ -124,48 +125,54 @@ impl Device {
         self.carry_out(r)
     }
 
-    pub fn media_error(self) -> Stepped
-        ensures { λ r. ⌜ said (r .answer) (r .device) ≡ told self machine.mediaError ⌝ }
+    // To the first winding-up step if a removal is under way; else this answer.
+    fn stop(self, idle: Answer) -> Stepped
+        ensures { λ r. ⌜ said (r .answer) (r .device) ≡ tell self (ruleStop (self .position) (numberOf idle) (self .cells .note)) ⌝ }
     {
         let cells = self.cells;
         let note = cells.note;
         let at = self.position;
-        let r = steps::rule_stop(note, at, Answer::NoRemoval);
+        let r = steps::rule_stop(note, at, idle);
         self.carry_out(r)
+    }
+
+    pub fn media_error(self) -> Stepped
+        ensures { λ r. ⌜ said (r .answer) (r .device) ≡ told self machine.mediaError ⌝ }
+    {
+        self.stop(Answer::NoRemoval)
     }
 
     pub fn power_cut(self) -> Stepped
         ensures { λ r. ⌜ said (r .answer) (r .device) ≡ told self machine.powerCut ⌝ }
     {
-        let cells = self.cells;
-        let note = cells.note;
+        self.stop(Answer::Done)
+    }
+
+    // What a reset does: nothing changes.
+    fn stay(self) -> Stepped
+        ensures { λ r. ⌜ said (r .answer) (r .device) ≡ tell self (says 0 self) ⌝ }
+    {
         let at = self.position;
-        let r = steps::rule_stop(note, at, Answer::Done);
+        let r = quiet(Answer::Done, at);
         self.carry_out(r)
     }
 
     pub fn comreset(self) -> Stepped
         ensures { λ r. ⌜ said (r .answer) (r .device) ≡ told self machine.comreset ⌝ }
     {
-        let at = self.position;
-        let r = quiet(Answer::Done, at);
-        self.carry_out(r)
+        self.stay()
     }
 
     pub fn hardware_reset(self) -> Stepped
         ensures { λ r. ⌜ said (r .answer) (r .device) ≡ told self machine.hardwareReset ⌝ }
     {
-        let at = self.position;
-        let r = quiet(Answer::Done, at);
-        self.carry_out(r)
+        self.stay()
     }
 
     pub fn software_reset(self) -> Stepped
         ensures { λ r. ⌜ said (r .answer) (r .device) ≡ told self machine.softwareReset ⌝ }
     {
-        let at = self.position;
-        let r = quiet(Answer::Done, at);
-        self.carry_out(r)
+        self.stay()
     }
 
     pub fn grade(self, id: ElementId, health: u8) -> Stepped

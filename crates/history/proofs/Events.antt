@@ -1,9 +1,10 @@
 -- Which events make the note, the marking store, and the store that sets the failed mark: what each ruling's shape tells of its store.
 use Prim.Native.Nat.{ℕ, _<_}
 use mathlib.Core.Bool.{Bool, true, false, cond, not, _&&_, true≢false, false≢true}
-use mathlib.Core.Path.{_≡_, refl, sym, subst, subst⁻¹, _∙_}
+use mathlib.Core.Path.{_≡_, refl, sym, ap, subst, subst⁻¹, _∙_}
 use native.Mathlib.Omega.{arith}
-use borrow.Author.Tests.{eq-eqb}
+use lib.Dec.{eqb}
+use borrow.Author.Tests.{eq-eqb, eqb-true}
 use Rattle.cells.specs.Rulings.{Ruled}
 use Rattle.cells.specs.Sights.{gone}
 use Rattle.device.proofs.Shapes.{still, moving, stopping, Shape, quiet, clears, notes, advances, winds, Grading, refuses, grades, each, choose}
@@ -22,38 +23,68 @@ use Rattle.cells.specs.declared.Removal.{Removal}
 use Rattle.cells.specs.declared.Store.the-variants.{Nothing, NativeTo, AccessibleTo, Marked, Graded, FailedTo, Noted, NoteEmptied}
 use Rattle.cells.specs.declared.Store.{Store}
 use Rattle.paper.specs.Elements.{removedHealth}
-use Rattle.paper.specs.Registers.{low48}
+use Rattle.paper.specs.Registers.{Registers, low48}
 use Rattle.paper.specs.declared.ElementId.{ElementId}
 use Rattle.paper.specs.declared.Lba.{Lba}
+use Rattle.paper.specs.declared.Security.{Security}
 use Rattle.table.specs.Elements.{isStorage, size, identifierAt}
-use Rattle.history.specs.Progress.{Acceptance, At, Marking-store, Setting-store}
+use Rattle.history.specs.Ledger.{ofStore}
+use Rattle.history.specs.Progress.{noteOf, Acceptance, Noting-store, At, Marking-store, Setting-store}
 use Rattle.history.proofs.Places.{hit-there}
 
 -- ## Acceptance
+
+-- whether a store is the note, and of which removal
+abbrev isNote : Store → Bool
+isNote x = ofStore (λ place. false) (λ w. true) (λ m. false) false x
+
+abbrev noted : Removal → Store → Removal
+noted other x = ofStore (λ place. other) (λ w. w) (λ m. other) other x
+
+no-note : {x : Store} {w : Removal} → isNote x ≡ false → x ≡ Noted w → ⊥
+no-note n q = false≢true (sym n ∙ ap isNote q)
 
 there-stands : (hit storage removed : Bool) → not (hit && storage) ≡ false → (hit && removed) ≡ false → removed ≡ true → ⊥
 there-stands true storage removed there stands q = false≢true (sym stands ∙ q)
 there-stands false storage removed there stands q = true≢false there
 
 module _ (d : Device) (id : ElementId) (lba : Lba) where
+  abbrev removal : Removal
+  removal = removalOf (d .cells .native) id lba (see d id .part .blocks)
+
   -- answered 0, a ruling has made the note of this element
   abbrev Notes : Ruled → Type 0
-  Notes r = r .number ≡ 0 → (w : Removal) × (r .store ≡ Noted w) × (w .element ≡ id) × (w .old ≡ d .cells .native)
+  Notes r = r .number ≡ 0 → r .store ≡ Noted removal
 
-  notes-room : (blocks : ℕ) → Notes (judgeRoom (d .position) (d .cells .native) id lba blocks)
+  notes-room : Notes (judgeRoom (d .position) (d .cells .native) id lba (see d id .part .blocks))
   unfolding judgeRoom
-  notes-room blocks =
-      choose Notes (tooSmall (d .cells .native .0) blocks) (λ _ z. absurd (omega arith))
-      (λ _. choose Notes (tooHigh (d .cells .native .0) blocks (lba .0)) (λ _ z. absurd (omega arith))
-      (λ _ z. (removalOf (d .cells .native) id lba blocks, refl, refl, refl)))
+  notes-room =
+      choose Notes (tooSmall (d .cells .native .0) (see d id .part .blocks)) (λ _ z. absurd (omega arith))
+      (λ _. choose Notes (tooHigh (d .cells .native .0) (see d id .part .blocks) (lba .0)) (λ _ z. absurd (omega arith)) (λ _ z. refl))
 
   notes-found : gone (see d id) ≡ false → Notes (judgeFound (d .table) (d .cells) (d .position) id lba (see d id))
   unfolding judgeFound
   notes-found s =
       choose Notes (not (see d id .hit && isStorage (see d id .part))) (λ _ z. absurd (omega arith))
       (λ there. choose Notes (removedHealth (see d id .health)) (λ q z. absurd (there-stands (see d id .hit) _ _ there s q))
-      (λ _. choose Notes (limitMet (d .table .limit) (removedNumber d)) (λ _ z. absurd (omega arith))
-      (λ _. notes-room (see d id .part .blocks))))
+      (λ _. choose Notes (limitMet (d .table .limit) (removedNumber d)) (λ _ z. absurd (omega arith)) (λ _. notes-room)))
+
+  -- a ruling that has made a note has made that one, and is answered 0
+  abbrev Noting : Ruled → Type 0
+  Noting r = (w : Removal) → r .store ≡ Noted w → (r .number ≡ 0) × (w ≡ removal)
+
+  noting-room : Noting (judgeRoom (d .position) (d .cells .native) id lba (see d id .part .blocks))
+  unfolding judgeRoom
+  noting-room =
+      choose Noting (tooSmall (d .cells .native .0) (see d id .part .blocks)) (λ _ w q. absurd (no-note refl q))
+      (λ _. choose Noting (tooHigh (d .cells .native .0) (see d id .part .blocks) (lba .0)) (λ _ w q. absurd (no-note refl q)) (λ _ w q. (refl, sym (ap (noted w) q))))
+
+  noting-found : Noting (judgeFound (d .table) (d .cells) (d .position) id lba (see d id))
+  unfolding judgeFound
+  noting-found =
+      choose Noting (not (see d id .hit && isStorage (see d id .part))) (λ _ w q. absurd (no-note refl q))
+      (λ _. choose Noting (removedHealth (see d id .health)) (λ _ w q. absurd (no-note refl q))
+      (λ _. choose Noting (limitMet (d .table .limit) (removedNumber d)) (λ _ w q. absurd (no-note refl q)) (λ _. noting-room)))
 
 pub acceptance : Acceptance
 acceptance d security r room is-7C z standing =
@@ -125,3 +156,57 @@ marking-store d e place q = subst (Tells d e (rule d e .next)) q (store-tells d 
 
 pub setting-store : Setting-store
 setting-store d e q = subst (Tells d e (rule d e .next)) q (store-tells d e)
+
+-- ## The note
+
+module _ (d : Device) where
+  step-none : (w : Removal) (p : Position) → isNote (storeAt d w p) ≡ false
+  step-none w Work1 = refl
+  step-none w Work2 = refl
+  step-none w Work3 = go (see d (w .element) .hit)
+    where
+      go : (b : Bool) → isNote (cond b (Marked (see d (w .element) .place)) Nothing) ≡ false
+      go true = refl
+      go false = refl
+  step-none w Work4 = refl
+  step-none w Work5 = refl
+  step-none w Wind1 = refl
+  step-none w Wind2 = refl
+  step-none w Wind3 = refl
+  step-none w Wind4 = refl
+
+  moving-none : (r : Ruled) → Shape d moving r → isNote (r .store) ≡ false
+  moving-none r (quiet n) = refl
+  moving-none r (advances w n) = step-none w (d .position)
+
+  stopping-none : (r : Ruled) → Shape d stopping r → isNote (r .store) ≡ false
+  stopping-none r (quiet n) = refl
+  stopping-none r (winds w n) = refl
+
+  grading-none : (id : ElementId) (h : ℕ) (r : Ruled) → Grading d id h r → isNote (r .store) ≡ false
+  grading-none id h r refuses = refl
+  grading-none id h r (grades s g) = refl
+
+  -- a command that makes a note is an accepted 7Ch
+  module _ (s : Security) (r : Registers) (room : ℕ) (w : Removal) where
+    abbrev Says : Ruled → Type 0
+    Says x = x .store ≡ Noted w → (r .code ≡ 0x7C) × (x .number ≡ 0) × (underWay d ≡ false) × (w ≡ noteOf d r)
+
+    noting-command : Says (rule d (command s r room))
+    noting-command =
+        choose Says (eqb (r .code) 0x7C)
+        (λ is-7C. choose Says (aborts Remove s) (λ _ q. absurd (no-note refl q))
+        (λ _. choose Says (underWay d) (λ _ q. absurd (no-note refl q))
+        (λ rests q. let so = noting-found d (identifierOf r) (low48 (r .lba)) w q in (eqb-true _ _ is-7C, so .0, rests, so .1))))
+        (λ _ q. absurd (no-note refl q))
+
+pub noting-store : Noting-store
+noting-store d (command s r room) w q =
+    let so = noting-command d s r room w q in (s, r, room, refl, so .0, so .1, so .2, so .3)
+noting-store d step w q = absurd (no-note (moving-none d _ (each d step)) q)
+noting-store d mediaError w q = absurd (no-note (stopping-none d _ (each d mediaError)) q)
+noting-store d powerCut w q = absurd (no-note (stopping-none d _ (each d powerCut)) q)
+noting-store d comreset w q = absurd (no-note refl q)
+noting-store d hardwareReset w q = absurd (no-note refl q)
+noting-store d softwareReset w q = absurd (no-note refl q)
+noting-store d (grade id h) w q = absurd (no-note (grading-none d id h _ (each d (grade id h))) q)

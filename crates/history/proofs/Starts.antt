@@ -70,7 +70,7 @@ pub accepted-starts : Accepted-starts
 unfolding madeOf
 accepted-starts there o a d full said-so = go (good (o .count) (offered o) (o .limit)) refl said-so
   where
-    go : (b : Bool) → good (o .count) (offered o) (o .limit) ≡ b → said a d ≡ cond b (tells 0 (fresh o)) (tells 8 there) → (numberOf a ≡ 0 → Made-of o d) × (b ≡ true → numberOf a ≡ 0)
-    go true g q = (λ _. subst (Made-of o) (sym (ap (λ (u : Told Device). u .state) q)) (made-of o full g), λ _. ap (λ (u : Told Device). u .number) q)
+    go : (b : Bool) → good (o .count) (offered o) (o .limit) ≡ b → said a d ≡ cond b (tells 0 (fresh o)) (tells 8 there) → (numberOf a ≡ 0 → (b ≡ true) × Made-of o d) × (b ≡ true → numberOf a ≡ 0)
+    go true g q = (λ _. (refl, subst (Made-of o) (sym (ap (λ (u : Told Device). u .state) q)) (made-of o full g)), λ _. ap (λ (u : Told Device). u .number) q)
     go false g q =
         (λ z. absurd (let e : numberOf a ≡ 8 = ap (λ (u : Told Device). u .number) q in omega arith), λ z. absurd (false≢true z))

@@ -6,12 +6,13 @@
 use mathlib.Core.Bool.{true}
 use mathlib.Core.Path.{_≡_}
 use Rattle.device.specs.Machine.{Event, step}
+use Rattle.device.specs.Promises.{At-most-one-cell}
 use Rattle.device.specs.declared.Device.{Device}
 use Rattle.cells.specs.declared.Note.the-variants.{Empty, Full}
 use Rattle.cells.specs.declared.Removal.{Removal}
-use Rattle.history.specs.Progress.{calm, steps, Acceptance, Marking-store, Setting-store, Five-steps, Fifth-ends, stops, Stop-winds, Four-steps, Fourth-ends}
+use Rattle.history.specs.Progress.{calm, steps, Acceptance, Noting-store, Marking-store, Setting-store, Five-steps, Fifth-ends, stops, Stop-winds, Four-steps, Fourth-ends}
 use Rattle.history.specs.Promise.{Promise, Kept-by-runs}
-use Rattle.history.specs.Runs.{Script, _▸_, _▸▸_, after, history}
+use Rattle.history.specs.Runs.{Script, _▸_, _▸▸_, after, history, Runs-are-scripts}
 use Rattle.history.specs.Starts.{Startable, Accepted-starts, Cut-starts}
 
 -- after a stop during a removal, and three undisturbed steps, the fourth brings the promise about
@@ -26,10 +27,14 @@ pub record Demand-3 : Type 0 where
   -- "From any accepted table", and from any state that a cut leaves
   pub accepted-starts : Accepted-starts
   pub cut-starts : Cut-starts
-  -- "after any sequence .. whenever no removal is under way"
+  -- "after any sequence .. a cut after any single store included": the code's own runs are the scripts, and an event makes at most one store
+  pub runs-are-scripts : Runs-are-scripts
+  pub at-most-one-cell : At-most-one-cell
+  -- "whenever no removal is under way"
   pub kept : (start : Device) → Startable start → (s : Script) → Kept-by-runs start (history start s) (after start s)
   -- "Undisturbed, a removal makes its marking store at the third step and ends at the fifth."
   pub acceptance : Acceptance
+  pub noting-store : Noting-store
   pub marking-store : Marking-store
   pub five-steps : Five-steps
   pub fifth-ends : Fifth-ends

@@ -1,11 +1,11 @@
 -- How a removal gets on.
-use Prim.Native.Nat.{ℕ, zero, suc, _≤_, _<_}
+use Prim.Native.Nat.{ℕ, zero, suc, _-_, _≤_, _<_}
 use mathlib.Core.Bool.{Bool, true, false, not, _&&_}
 use mathlib.Core.Path.{_≡_}
 use Rattle.cells.specs.Sights.{gone}
 use Rattle.device.specs.Machine.{Event, command, step, rule, told}
-use Rattle.device.specs.Record.{see, woundUp}
-use Rattle.removal.specs.Remove.{identifierOf}
+use Rattle.device.specs.Record.{underWay, see, woundUp}
+use Rattle.removal.specs.Remove.{identifierOf, orDifference}
 use Rattle.device.specs.declared.Device.{Device}
 use Rattle.cells.specs.declared.Mark.the-variants.{Clear, Set}
 use Rattle.cells.specs.declared.Note.the-variants.{Empty, Full}
@@ -14,7 +14,8 @@ use Rattle.cells.specs.declared.Position.{Position}
 use Rattle.cells.specs.declared.Removal.{Removal}
 use Rattle.cells.specs.declared.Store.the-variants.{NativeTo, AccessibleTo, Marked, FailedTo, Noted, NoteEmptied}
 use Rattle.cells.specs.declared.Store.{Store}
-use Rattle.paper.specs.Registers.{Registers}
+use Rattle.paper.specs.Registers.{Registers, low48}
+use Rattle.paper.specs.declared.ElementId.{ElementId}
 use Rattle.paper.specs.declared.Lba.{Lba}
 use Rattle.paper.specs.declared.Security.{Security}
 use Rattle.table.specs.Elements.{size, identifierAt}
@@ -39,14 +40,27 @@ steps (s ▸ e) = stepBy e (steps s)
 
 -- ## Acceptance
 
+-- "Acceptance makes one store: the note." Its new maximum is "the LBA, or that difference if the LBA is 0"
+abbrev pub noteOf : Device → Registers → Removal
+noteOf d r =
+    let id : ElementId = identifierOf r in
+    record { element = id; old = d .cells .native; new = orDifference (d .cells .native .0 - see d id .part .blocks) (low48 (r .lba)) }
+
 -- 7Ch answered 0 for an element that is not at FFh has made the note of it
 abbrev pub Acceptance : Type 0
 Acceptance =
     (d : Device) (security : Security) (r : Registers) (room : ℕ) → r .code ≡ 0x7C
     → told d (command security r room) .number ≡ 0 → gone (see d (identifierOf r)) ≡ false
-    → (w : Removal) × (rule d (command security r room) .store ≡ Noted w) × (w .element ≡ identifierOf r) × (w .old ≡ d .cells .native)
+    → rule d (command security r room) .store ≡ Noted (noteOf d r)
 
--- ## Which events make the marking store, and the store that sets the failed mark
+-- ## Which events fill the note, make the marking store, and set the failed mark
+
+-- an accepted 7Ch, while no removal is under way, and nothing else
+abbrev pub Noting-store : Type 0
+Noting-store =
+    (d : Device) (e : Event) (w : Removal) → rule d e .store ≡ Noted w
+    → (security : Security) × (r : Registers) × (room : ℕ)
+    × (e ≡ command security r room) × (r .code ≡ 0x7C) × (told d e .number ≡ 0) × (underWay d ≡ false) × (w ≡ noteOf d r)
 
 -- the next step is the one at this position, of this removal
 pub record At (p : Position) (w : Removal) (d : Device) : Type 0 where

@@ -3,7 +3,9 @@ use Prim.Native.Nat.{ℕ}
 use mathlib.Core.List.{List, [], _∷_}
 use mathlib.Core.Path.{_≡_}
 use Rattle.device.specs.Machine.{Event, command, step, mediaError, powerCut, comreset, hardwareReset, softwareReset, grade, rule, told}
+use Rattle.device.specs.Promises.{But-position}
 use Rattle.device.specs.declared.Device.{Device}
+use Rattle.cells.specs.declared.Note.the-variants.{Empty}
 use Rattle.cells.specs.declared.Store.{Store}
 use Rattle.paper.specs.Answers.{numberOf}
 use Rattle.paper.specs.Told.{said}
@@ -70,3 +72,11 @@ answersIn (past ▹ x) = x .answer ∷ answersIn past
 -- such a chain leaves the device that the definitions speak of, and gave the answers of its history
 abbrev pub Runs-are-scripts : Type 0
 Runs-are-scripts = (d : Device) (s : Script) (ns : List ℕ) (x : Device) → Ran d s ns x → (x ≡ after d s) × (ns ≡ answersIn (history d s))
+
+-- ## "Only the position in the step list is lost with power."
+
+-- with an empty note the position is not looked at: whatever comes, the answers and the cells are the same
+abbrev pub Rests-alike : Type 0
+Rests-alike =
+    (d x : Device) → But-position d x → d .cells .note ≡ Empty
+    → (s : Script) → (answersIn (history d s) ≡ answersIn (history x s)) × (after d s .cells ≡ after x s .cells)

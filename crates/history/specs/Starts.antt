@@ -55,11 +55,11 @@ pub record Made-of (o : Offer) (d : Device) : Type 0 where
   pub unmarked : (id : ℕ) → marked d empty id ≡ false
   pub sound : failedIn d empty ≡ false
 
--- "From any accepted table": whoever is answered 0 has such a device; and that is answered exactly to the tables that document 01 accepts
+-- "From any accepted table": 0 is answered exactly to the tables that document 01 accepts, and whoever is answered 0 has such a device
 abbrev pub Accepted-starts : Type 0
 Accepted-starts =
     (there : Device) (o : Offer) (a : Answer) (d : Device) → length (o .elements) ≡ 128 → said a d ≡ madeOf there o
-    → (numberOf a ≡ 0 → Made-of o d) × (good (o .count) (offered o) (o .limit) ≡ true → numberOf a ≡ 0)
+    → (numberOf a ≡ 0 → (good (o .count) (offered o) (o .limit) ≡ true) × Made-of o d) × (good (o .count) (offered o) (o .limit) ≡ true → numberOf a ≡ 0)
 
 -- what is left after a cut is such a start too
 abbrev pub Cut-starts : Type 0

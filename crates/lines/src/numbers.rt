@@ -2,8 +2,8 @@
 ghost use mathlib.Core.Bool.{false};
 ghost use mathlib.Core.Path.{_≡_};
 ghost use Prim.Native.Nat.{_≤_};
-ghost use Rattle.lines.specs.Numbers.{noNumber, fieldOf, fieldAt};
 ghost use Rattle.text.specs.Digits.{within, digitOf};
+ghost use Rattle.lines.specs.Numbers.{noNumber, fieldOf, fieldAt};
 use crate::Field;
 use crate::parts;
 

@@ -1,7 +1,8 @@
 -- No second answer fits a making; a refusal leaves the device that was there; a new one is tidy and in order (specs/Promises).
-use Prim.Native.Nat.{_≤_}
+use Prim.Native.Nat.{ℕ, _≤_}
 use mathlib.Core.Bool.{Bool, true, false, cond}
 use mathlib.Core.Path.{_≡_, refl, ap, _∙_}
+use native.Mathlib.Omega.{arith}
 use lib.ListN.{length}
 use Rattle.device.specs.Promises.{Leaves, Tidy}
 use Rattle.device.specs.declared.Device.{Device}
@@ -40,17 +41,17 @@ module _ (o : Offer) (full : length (o .elements) ≡ 128) (g : good (o .count) 
       let few : o .count ≤ 128 = good-count (o .count) (offered o) (o .limit) g in
       ap (ascending 0) (built-ids o full few) ∙ good-ascending (o .count) (offered o) (o .limit) g
 
--- what holds of a new device and of the one that was there holds after the making
-made : (d : Device) (o : Offer) (P : Device → Type 0) → (good (o .count) (offered o) (o .limit) ≡ true → P (fresh o)) → P d → P (madeOf d o .state)
+-- what holds of a new device holds of one that was answered 0
+made : (there : Device) (o : Offer) (P : Device → Type 0) → (good (o .count) (offered o) (o .limit) ≡ true → P (fresh o)) → madeOf there o .number ≡ 0 → P (madeOf there o .state)
 unfolding madeOf
-made d o P new there = go (good (o .count) (offered o) (o .limit)) refl
+made there o P new = go (good (o .count) (offered o) (o .limit)) refl
   where
-    go : (b : Bool) → good (o .count) (offered o) (o .limit) ≡ b → P (cond b (tells 0 (fresh o)) (tells 8 d) .state)
-    go true g = new g
-    go false g = there
+    go : (b : Bool) → good (o .count) (offered o) (o .limit) ≡ b → cond b (tells 0 (fresh o)) (tells 8 there) .number ≡ 0 → P (cond b (tells 0 (fresh o)) (tells 8 there) .state)
+    go true g z = new g
+    go false g z = absurd (let no : _≡_ {A = ℕ} 8 0 = z in omega arith)
 
 pub made-tidy : Made-tidy
-made-tidy d o full tidy = made d o Tidy (fresh-tidy o full) tidy
+made-tidy there o full = made there o Tidy (fresh-tidy o full)
 
 pub made-in-order : Made-in-order
-made-in-order d o full order = made d o (λ (x : Device). ascending 0 (identifiers (x .table)) ≡ true) (fresh-order o full) order
+made-in-order there o full = made there o (λ (x : Device). ascending 0 (identifiers (x .table)) ≡ true) (fresh-order o full)

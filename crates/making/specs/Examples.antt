@@ -45,7 +45,7 @@ R5 = cutAfter 2 4
 abbrev pub R6 : List Event
 R6 = cutAfter 3 4
 
--- from a device, after some events: the number that one more gets, and then both maxima, the healths, the failed mark, whether a removal
+-- from a device, after some events that are answered 0: the number that one more gets, and then both maxima, the healths, the failed mark, whether a removal
 -- is under way
 pub record Row : Type 0 where
   pub device : Device
@@ -78,10 +78,15 @@ shows r d =
     && sameBool (isSet (d .cells .failed)) (r .failed)
     && sameBool (underWay d) (r .busy)
 
+-- each of the events is answered 0
+abbrev pub accepted : Device → List Event → Bool
+accepted d [] = true
+accepted d (e ∷ es) = eqb (told d e .number) 0 && accepted (told d e .state) es
+
 abbrev pub holds : Row → Bool
 holds r =
     let d : Device = run (r .device) (r .before) in
-    eqb (told d (r .event) .number) (r .number) && shows r (told d (r .event) .state)
+    accepted (r .device) (r .before) && eqb (told d (r .event) .number) (r .number) && shows r (told d (r .event) .state)
 
 abbrev pub asBuilt : List ℕ
 asBuilt = 0x20 ∷ 0x10 ∷ 0x70 ∷ 0 ∷ []

@@ -18,11 +18,11 @@ One-device = (d : Device) (o : Offer) (a b : Answer) (x y : Device) → said a x
 abbrev pub Refusal-makes-none : Type 0
 Refusal-makes-none = (d : Device) (o : Offer) → Leaves d (madeOf d o)
 
--- a new device is tidy and its identifiers ascend, and a refusal leaves the one that was there
+-- a device that was answered 0 is tidy and its identifiers ascend, whatever was there: the first making goes into wild bytes
 abbrev pub Made-tidy : Type 0
-Made-tidy = (d : Device) (o : Offer) → length (o .elements) ≡ 128 → Tidy d → Tidy (madeOf d o .state)
+Made-tidy = (there : Device) (o : Offer) → length (o .elements) ≡ 128 → madeOf there o .number ≡ 0 → Tidy (madeOf there o .state)
 
 abbrev pub Made-in-order : Type 0
 Made-in-order =
-    (d : Device) (o : Offer) → length (o .elements) ≡ 128
-    → ascending 0 (identifiers (d .table)) ≡ true → ascending 0 (identifiers (madeOf d o .state .table)) ≡ true
+    (there : Device) (o : Offer) → length (o .elements) ≡ 128 → madeOf there o .number ≡ 0
+    → ascending 0 (identifiers (madeOf there o .state .table)) ≡ true

@@ -1,7 +1,7 @@
 // The making of a device from an offered table.
 ghost use mathlib.Core.Path.{_≡_};
-ghost use Rattle.making.specs.Making.{madeOf};
 ghost use Rattle.paper.specs.Told.{said};
+ghost use Rattle.making.specs.Making.{madeOf};
 use cells::Cells;
 use cells::Mark;
 use cells::Note;

@@ -1,4 +1,4 @@
-// The offences of a status page's list, in either byte order: what the reader looks at of each descriptor, in document 01's order.
+// The descriptors of a status page, in either byte order: the one at a number, and the first offence of a list, in document 01's order.
 ghost use mathlib.Core.Path.{_≡_};
 ghost use Prim.Native.Nat.{_+_, _^_, _<_};
 ghost use Rattle.offences.specs.Checks.{descriptorAt, inTurn, earned, checkOf, offenceAt};

@@ -27,6 +27,8 @@ partOf e = record { id = e .id; kind = e .kind; unreported = e .unreported; bloc
 abbrev pub blank : Element
 blank = elementOf (record { 0 = 0 }) 0 0 false 0
 
+-- ## Identifiers and blocks
+
 abbrev pub elementIds : List Element → List ℕ
 elementIds es = map (λ (e : Element). e .id .0) es
 

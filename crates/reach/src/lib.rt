@@ -1,9 +1,9 @@
 // How far two status pages are compared, or which of them is refused.
 ghost use mathlib.Core.Path.{_≡_};
-ghost use Rattle.reach.specs.Opening.{heard, openOf};
-ghost use Rattle.reach.specs.Pages.{reachOf, smallest, boundOf, endOf};
 ghost use Rattle.offences.specs.Checks.{lastBefore};
 ghost use Rattle.words.specs.declared.Order.the-variants.{Little};
+ghost use Rattle.reach.specs.Opening.{heard, openOf};
+ghost use Rattle.reach.specs.Pages.{reachOf, smallest, boundOf, endOf};
 use layout::Header;
 use paper::ElementId;
 use reader::Judgement;

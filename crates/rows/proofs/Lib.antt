@@ -1,2 +1,2 @@
--- What is proved of `rows`'s definitions, and of its functions.
+-- What is proved of `rows`' definitions, and of its functions.
 pub mod Rows

@@ -1,7 +1,7 @@
 // The lines of a listing: the header's, a descriptor's, and a refusal's.
 ghost use mathlib.Core.Path.{_≡_};
-ghost use Rattle.rows.specs.Rows.{capacityOf, valuesOf, descriptorLine, headerOf, headerLine, refusedLine};
 ghost use Rattle.text.specs.Text.{nothing, written};
+ghost use Rattle.rows.specs.Rows.{capacityOf, valuesOf, descriptorLine, headerOf, headerLine, refusedLine};
 use layout::Descriptor;
 use layout::Header;
 use text::Text;

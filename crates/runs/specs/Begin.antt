@@ -1,4 +1,4 @@
--- What a script starts from: no byte of its first line read, and the empty bench.
+-- What a script starts from: no byte of its first line read, and the empty bench (docs/BENCH.md).
 use Rattle.pieces.specs.Pieces.{nothing}
 use Rattle.workbench.specs.Empty.{empty}
 use Rattle.runs.specs.declared.Run.{Run}

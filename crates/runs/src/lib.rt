@@ -1,4 +1,4 @@
-// A script as far as it was run: its lines are put together from pieces of input, and each is obeyed. No contract can say what is printed.
+// Runs a script: its lines, put together from pieces of input, are obeyed one after the other. No contract can say what is printed.
 ghost use mathlib.Core.Path.{_≡_};
 ghost use Rattle.runs.specs.Begin.{newRun};
 use arguments::Line;
@@ -43,8 +43,8 @@ fn is_no_call(line: Line) -> bool {
     }
 }
 
-// A line that makes no call is passed over, which is printed.
-fn heard(made: bool, line: Line) -> Line {
+// A line that makes no call is answered here, and passed over then.
+fn answered(made: bool, line: Line) -> Line {
     if is_no_call(line) {
         print_words(b"not a call");
         return Line::Passed;
@@ -58,7 +58,7 @@ fn heard(made: bool, line: Line) -> Line {
 
 // Makes the call of a line that has ended.
 fn obey(bench: Bench, line: Gathered, page: &mut [u8]) -> Bench {
-    let meaning = heard(bench.made, script::meaning_of(line));
+    let meaning = answered(bench.made, script::meaning_of(line));
     acts::call(bench, meaning, page)
 }
 

@@ -3,13 +3,13 @@ ghost use mathlib.Core.Path.{_≡_};
 ghost use Rattle.script.specs.Names as spec;
 use arguments::Bare;
 use arguments::Line;
-use arguments::calls::command;
-use arguments::calls::element;
-use arguments::calls::grade;
-use arguments::calls::length;
-use arguments::calls::make;
-use arguments::calls::poke;
-use arguments::calls::read;
+use arguments::command_call;
+use arguments::element_call;
+use arguments::grade_call;
+use arguments::length_call;
+use arguments::make_call;
+use arguments::poke_call;
+use arguments::read_call;
 use lines::is_named;
 use pieces::Gathered;
 use pieces::is_long;
@@ -18,13 +18,13 @@ fn page_call(line: &[u8]) -> Line
     ensures { λ r. ⌜ r ≡ spec.pageCall (now (line .entry)) ⌝ }
 {
     if is_named(line, b"length", 2) {
-        return length(line);
+        return length_call(line);
     }
     if is_named(line, b"poke", 3) {
-        return poke(line);
+        return poke_call(line);
     }
     if is_named(line, b"read", 4) {
-        return read(line);
+        return read_call(line);
     }
     Line::NotACall
 }
@@ -57,7 +57,7 @@ fn event_call(line: &[u8]) -> Line
         return Line::Bare(Bare::Cut);
     }
     if is_named(line, b"grade", 3) {
-        return grade(line);
+        return grade_call(line);
     }
     reset_call(line)
 }
@@ -66,13 +66,13 @@ fn device_call(line: &[u8]) -> Line
     ensures { λ r. ⌜ r ≡ spec.deviceCall (now (line .entry)) ⌝ }
 {
     if is_named(line, b"element", 6) {
-        return element(line);
+        return element_call(line);
     }
     if is_named(line, b"make", 2) {
-        return make(line);
+        return make_call(line);
     }
     if is_named(line, b"command", 7) {
-        return command(line);
+        return command_call(line);
     }
     if is_named(line, b"cells", 1) {
         return Line::Cells;

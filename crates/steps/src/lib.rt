@@ -1,9 +1,9 @@
 // Work steps, winding up and grades: what each rules over a table, its cells and the position.
 ghost use mathlib.Core.Path.{_≡_};
 ghost use mathlib.Core.Bool.{false};
-ghost use Rattle.paper.specs.Answers.{numberOf};
 ghost use Rattle.cells.specs.Rulings.{ruled};
 ghost use Rattle.cells.specs.Sights.{seeIn};
+ghost use Rattle.paper.specs.Answers.{numberOf};
 ghost use Rattle.steps.specs.Steps as steps;
 use cells::Cells;
 use cells::Mark;

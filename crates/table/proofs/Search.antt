@@ -27,7 +27,7 @@ hits-there id (x ∷ xs) q = go (ltb x id) q (hits-there id xs)
     go true r later = let w = later r in (omega (arith, w .0), w .1)
     go false r later = (omega arith, eqb-true x id r)
 
--- and so each is found, at its place
+-- and on an ascending list each is found, at its place
 pub hits-member : (low : ℕ) (ids : List ℕ) (i : ℕ) → ascending low ids ≡ true → i < length ids → (hits (getD ids i 0) ids ≡ true) × (place (getD ids i 0) ids ≡ i)
 hits-member low [] i q h = absurd (omega arith)
 hits-member low (x ∷ xs) zero q h = rw (le-ltb x x (omega arith)) (eq-eqb x x refl, refl)

@@ -8,7 +8,8 @@ ghost use Rattle.table.specs.Elements.{blankPart, removedCount};
 ghost use Rattle.table.specs.Search as search;
 use paper::ElementId;
 
-// What of an element is no cell. The flag stands before the blocks, so that a part takes 16 bytes.
+// What of an element is no cell; `kind` is its type, a word that the language keeps. The flag stands before the blocks, so that a part takes
+// 16 bytes.
 pub struct Part {
     pub id: ElementId,
     pub kind: u8,

@@ -2,9 +2,9 @@
 ghost use mathlib.Core.Path.{_≡_};
 ghost use mathlib.Core.List.{_++_};
 ghost use Prim.Native.Nat.{_<_, _≤_};
+ghost use Rattle.slices.specs.Lists.{stored};
 ghost use Rattle.text.specs.Digits.{glyph, digits, placesOf, decimalOf};
 ghost use Rattle.text.specs.Text.{nothing, pushed, written, held};
-ghost use Rattle.slices.specs.Lists.{stored};
 
 // The first `len` bytes. What does not fit is left out.
 pub struct Text {

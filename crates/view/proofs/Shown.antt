@@ -1,4 +1,4 @@
--- An element as a page shows it, whether it is asked for, the noted element, and their bytes: a law for each way out.
+-- An element as a page shows it, whether it is asked for, the noted element, and what is stored: a law for each way out.
 use Prim.Native.Nat.{ℕ}
 use mathlib.Core.Bool.{Bool, true, false}
 use mathlib.Core.List.{List}

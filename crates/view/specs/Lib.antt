@@ -1,2 +1,2 @@
--- What a page shows of an element, and of what is noted.
+-- What a page shows of an element and of what is noted, and what a request asks for.
 pub mod Shown

@@ -1,4 +1,5 @@
--- Document 01, "GET PHYSICAL ELEMENT STATUS (12h)", with 003 and 004: what a page shows of an element, what a request asks for, the noted element.
+-- Document 01, "GET PHYSICAL ELEMENT STATUS (12h)", with 003 and 004: what a page shows of an element, what a request asks for, the noted
+-- element.
 use Prim.Native.Nat.{ℕ}
 use mathlib.Core.Bool.{Bool, false, cond, _&&_}
 use Rattle.cells.specs.declared.Note.the-variants.{Empty, Full}

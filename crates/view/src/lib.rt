@@ -1,4 +1,4 @@
-// What a status page shows of an element, whether a request asks for it, the noted element; and the bytes of both in the lent buffer.
+// What a status page shows of an element, whether a request asks for it, the noted element; and the bytes of the header and of an element.
 ghost use mathlib.Core.Path.{_≡_};
 ghost use Rattle.layout.specs.Bytes.{headerBytes, descriptorBytes};
 ghost use Rattle.slices.specs.Lists.{stored};

@@ -21,8 +21,9 @@ withElement elements place e = cond (leb 128 place) elements (set elements place
 abbrev pub lengthened : Offer → Element → Offer
 lengthened list e = record { elements = withElement (list .elements) (list .count) e; count = min (list .count) 128 + 1; limit = list .limit }
 
-abbrev pub withElementMore : Bench → Element → Bench
-withElementMore b e = record { offered = lengthened (b .offered) e; made = b .made; device = b .device; kept = b .kept }
+-- the bench with a record more in its list
+abbrev pub withRecord : Bench → Element → Bench
+withRecord b e = record { offered = lengthened (b .offered) e; made = b .made; device = b .device; kept = b .kept }
 
 -- "`make LIMIT` offers the list"
 abbrev pub offering : Bench → ℕ → Offer
@@ -36,8 +37,10 @@ isMade made answer = made || eqb (numberOf answer) 0
 abbrev pub afterMaking : Bench → Stepped → Bench
 afterMaking b s = record { offered = noOffer; made = isMade (b .made) (s .answer); device = s .device; kept = b .kept }
 
+-- after an event of the device, all else as it was
 abbrev pub withDevice : Bench → Device → Bench
 withDevice b device = record { offered = b .offered; made = b .made; device = device; kept = b .kept }
 
+-- after a call on the kept page, or one whose page is kept, all else as it was
 abbrev pub withKept : Bench → ℕ → Bench
 withKept b kept = record { offered = b .offered; made = b .made; device = b .device; kept = kept }

@@ -113,24 +113,8 @@ impl Bench {
         }
     }
 
-    pub fn with_device(self, device: Device) -> Bench
-        ensures { λ r. ⌜ r ≡ changes.withDevice self device ⌝ }
-    {
-        let mut next = self;
-        next.device = device;
-        next
-    }
-
-    pub fn with_kept(self, kept: usize) -> Bench
-        ensures { λ r. ⌜ r ≡ changes.withKept self kept ⌝ }
-    {
-        let mut next = self;
-        next.kept = kept;
-        next
-    }
-
     pub fn offer(self, e: Element) -> Bench
-        ensures { λ r. ⌜ r ≡ changes.withElementMore self e ⌝ }
+        ensures { λ r. ⌜ r ≡ changes.withRecord self e ⌝ }
     {
         let list = self.offered;
         let longer = lengthened(list, e);
@@ -160,5 +144,21 @@ impl Bench {
             device,
             kept: self.kept,
         }
+    }
+
+    pub fn with_device(self, device: Device) -> Bench
+        ensures { λ r. ⌜ r ≡ changes.withDevice self device ⌝ }
+    {
+        let mut next = self;
+        next.device = device;
+        next
+    }
+
+    pub fn with_kept(self, kept: usize) -> Bench
+        ensures { λ r. ⌜ r ≡ changes.withKept self kept ⌝ }
+    {
+        let mut next = self;
+        next.kept = kept;
+        next
     }
 }

@@ -5,16 +5,16 @@ use mir.Syntax.{w16}
 use Rattle.datum.proofs.Datum.{number}
 use Rattle.datum.proofs.Listed.{listed}
 use Rattle.offer.specs.Check.{checkOf, verdict}
+use Rattle.calls.specs.Offered.{arrayOf, checkList}
 use Rattle.calls.proofs.Data.{element, checked}
 use Rattle.calls.proofs.Lists.{check-offer}
-use Rattle.calls.proofs.copied.Met as copied
-use Rattle.calls.proofs.copied.Symbol as copied-symbol
 use Rattle.calls.proofs.check.Code as code
 use Rattle.calls.proofs.check.Key.{name}
 use Rattle.calls.proofs.check.Statement.{statement}
 use Rattle.calls.proofs.check_in.Met as callee
 use Rattle.calls.proofs.check_in.Symbol as symbol
-use Rattle.calls.specs.Offered.{arrayOf, checkList}
+use Rattle.calls.proofs.copied.Met as copied
+use Rattle.calls.proofs.copied.Symbol as copied-symbol
 
 pub check-spec : {M : Type 1} → statement M
 unfolding code.routine

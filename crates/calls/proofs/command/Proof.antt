@@ -7,20 +7,20 @@ use Rattle.commands.proofs.asked.Met as asked
 use Rattle.commands.proofs.asked.Symbol as asked-symbol
 use Rattle.commands.proofs.command.Met as callee
 use Rattle.commands.proofs.command.Symbol as symbol
-use Rattle.commands.specs.Lent.{lent}
 use Rattle.datum.proofs.ChangedShown.{changed-shown}
 use Rattle.datum.proofs.Datum.{number}
 use Rattle.device.specs.Machine as machine
 use Rattle.device.specs.Machine.{told}
 use Rattle.paper.specs.Told.{said}
+use Rattle.status.specs.Lent.{lent}
 use Rattle.status.specs.Page.{shown}
 use Rattle.calls.proofs.Data.{device, answer, stepped, security, request, lba}
 use Rattle.calls.proofs.Front.{registers, front-other, front-status}
-use Rattle.calls.proofs.show.Met as show
-use Rattle.calls.proofs.show.Symbol as show-symbol
 use Rattle.calls.proofs.command.Code as code
 use Rattle.calls.proofs.command.Key.{name}
 use Rattle.calls.proofs.command.Statement.{statement}
+use Rattle.calls.proofs.show.Met as show
+use Rattle.calls.proofs.show.Symbol as show-symbol
 
 pub command-spec : {M : Type 1} → statement M
 unfolding code.routine

@@ -3,6 +3,7 @@ use Rattle.datum.proofs.Copied.{copied}
 use Rattle.offer.specs.Elements.{blank}
 use Rattle.table.proofs.bounded.Met as bounded
 use Rattle.table.proofs.bounded.Symbol as bounded-symbol
+use Rattle.calls.specs.Offered.{arrayOf}
 use Rattle.calls.proofs.Data.{element}
 use Rattle.calls.proofs.Lists.{all-held}
 use Rattle.calls.proofs.blanks.Met as blanks
@@ -10,7 +11,6 @@ use Rattle.calls.proofs.blanks.Symbol as blanks-symbol
 use Rattle.calls.proofs.copied.Code as code
 use Rattle.calls.proofs.copied.Key.{name}
 use Rattle.calls.proofs.copied.Statement.{statement}
-use Rattle.calls.specs.Offered.{arrayOf}
 
 pub copied-spec : {M : Type 1} → statement M
 unfolding code.routine

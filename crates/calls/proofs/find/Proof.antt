@@ -7,6 +7,7 @@ use lib.ListN.{take}
 use Rattle.datum.proofs.Listed.{listed}
 use Rattle.offer.specs.Search.{find}
 use Rattle.offer.specs.declared.Found.the-variants.{Missing}
+use Rattle.calls.specs.Offered.{arrayOf, findList}
 use Rattle.calls.proofs.Data.{element, found, identifier}
 use Rattle.calls.proofs.Lists.{find-offer}
 use Rattle.calls.proofs.copied.Met as copied
@@ -16,7 +17,6 @@ use Rattle.calls.proofs.find.Key.{name}
 use Rattle.calls.proofs.find.Statement.{statement}
 use Rattle.calls.proofs.find_in.Met as callee
 use Rattle.calls.proofs.find_in.Symbol as symbol
-use Rattle.calls.specs.Offered.{arrayOf, findList}
 
 pub find-spec : {M : Type 1} → statement M
 unfolding code.routine

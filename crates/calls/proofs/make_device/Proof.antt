@@ -6,6 +6,7 @@ use Rattle.datum.proofs.Datum.{number}
 use Rattle.datum.proofs.Made.{made}
 use Rattle.making.specs.Making.{madeOf}
 use Rattle.paper.specs.Told.{said}
+use Rattle.calls.specs.Offered.{arrayOf, madeFrom}
 use Rattle.calls.proofs.Data.{device, element, answer, stepped}
 use Rattle.calls.proofs.Lists.{made-alike}
 use Rattle.calls.proofs.copied.Met as copied
@@ -15,7 +16,6 @@ use Rattle.calls.proofs.make_device.Key.{name}
 use Rattle.calls.proofs.make_device.Statement.{statement}
 use Rattle.calls.proofs.make_in.Met as callee
 use Rattle.calls.proofs.make_in.Symbol as symbol
-use Rattle.calls.specs.Offered.{arrayOf, madeFrom}
 
 pub make-device-spec : {M : Type 1} → statement M
 unfolding code.routine

@@ -1,2 +1,0 @@
--- What is proved of powering up.
-pub mod Rests
