@@ -1,46 +1,21 @@
 -- Laws of a call's fields: one for each way out.
-use Prim.Native.Nat.{ℕ, _+_}
-use mathlib.Core.Bool.{Bool, true, false, cond, _&&_}
+use Prim.Native.Nat.{ℕ}
+use mathlib.Core.Bool.{Bool, cond, _&&_}
 use mathlib.Core.List.{List}
-use mathlib.Core.Path.{_≡_, sym, _∙_}
+use mathlib.Core.Path.{_≡_, _∙_}
 use lib.Dec.{eqb}
 use Rattle.lines.specs.Numbers.{fieldAt}
-use Rattle.lines.specs.Parts.{wordAt, same}
+use Rattle.lines.specs.Parts.{wordAt}
 use Rattle.lines.specs.declared.Field.{Field}
-use Rattle.paper.specs.declared.Security.the-variants.{Locked, Unlocked, Frozen}
 use Rattle.offer.specs.Elements as elements
 use Rattle.offer.specs.declared.Element.{Element as Offered}
-use Rattle.text.specs.Text.{ascii}
-use Rattle.arguments.specs.Calls.{most64, most32, most16, most8, mostPlace, stateOf, askedAt, elementOf, commandOf, gradeOf, pokeOf}
-use Rattle.arguments.specs.declared.Asked.{Asked}
+use Rattle.registers.specs.Registers.{most64, stateOf, askedAt}
+use Rattle.registers.specs.declared.Asked.{Asked}
+use Rattle.registers.specs.declared.State.{State}
+use Rattle.arguments.specs.Calls.{most32, most8, mostPlace, elementOf, commandOf, gradeOf, pokeOf}
 use Rattle.arguments.specs.declared.Line.the-variants.{NotACall, Element, Command, Grade, Page}
 use Rattle.arguments.specs.declared.Line.{Line}
 use Rattle.arguments.specs.declared.PageCall.the-variants.{Poke}
-use Rattle.arguments.specs.declared.State.{State}
-
--- ## The security state
-
-module _ (w : List ℕ) (t : Bool) (is-t : t ≡ same w (ascii "locked")) where
-  pub state-locked : t ≡ true → record { fits = true; security = Locked } ≡ stateOf w
-  unfolding stateOf
-  state-locked y = sym (rw (sym is-t ∙ y))
-
-  module _ (n : t ≡ false) (u : Bool) (is-u : u ≡ same w (ascii "unlocked")) where
-    pub state-unlocked : u ≡ true → record { fits = true; security = Unlocked } ≡ stateOf w
-    unfolding stateOf
-    state-unlocked y = sym (rw (sym is-t ∙ n, sym is-u ∙ y))
-
-    pub state-frozen : u ≡ false → (v : Bool) → v ≡ same w (ascii "frozen") → record { fits = v; security = Frozen } ≡ stateOf w
-    unfolding stateOf
-    state-frozen m v is-v = sym (rw (sym is-t ∙ n, sym is-u ∙ m, is-v))
-
--- ## The fields of a call
-
-pub asked-is : (l : List ℕ) (k : ℕ) (feature count lba : Field) → feature ≡ fieldAt l k most16 → count ≡ fieldAt l (k + 1) most16 → lba ≡ fieldAt l (k + 2) most64
-    → (a : Bool) → a ≡ (feature .fits && (count .fits && lba .fits))
-    → record { fits = a; request = record { feature = feature .value; count = record { 0 = count .value }; lba = record { 0 = lba .value } } } ≡ askedAt l k
-unfolding askedAt
-asked-is l k feature count lba is-feature is-count is-lba a is-a = rw (is-a, is-feature, is-count, is-lba)
 
 pub element-is : (l : List ℕ) (id kind health blocks flag : Field)
     → id ≡ fieldAt l 1 most32 → kind ≡ fieldAt l 2 most8 → health ≡ fieldAt l 3 most8 → blocks ≡ fieldAt l 4 most64 → flag ≡ fieldAt l 5 1

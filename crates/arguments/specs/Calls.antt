@@ -1,52 +1,25 @@
 -- The calls of the bench language, each from the words of its line (docs/BENCH.md).
-use Prim.Native.Nat.{ℕ, _+_}
-use mathlib.Core.Bool.{true, cond, _&&_}
+use Prim.Native.Nat.{ℕ}
+use mathlib.Core.Bool.{cond, _&&_}
 use mathlib.Core.List.{List}
 use lib.Dec.{eqb}
 use Rattle.lines.specs.Numbers.{fieldAt}
-use Rattle.lines.specs.Parts.{wordAt, same}
-use Rattle.paper.specs.declared.Security.the-variants.{Locked, Unlocked, Frozen}
+use Rattle.lines.specs.Parts.{wordAt}
 use Rattle.offer.specs.Elements as elements
-use Rattle.text.specs.Text.{ascii}
-use Rattle.arguments.specs.declared.Asked.{Asked}
+use Rattle.registers.specs.Registers.{most64, most16, stateOf, askedAt}
 use Rattle.arguments.specs.declared.Line.the-variants.{NotACall, Element, Make, Command, Grade, Page}
 use Rattle.arguments.specs.declared.Line.{Line}
 use Rattle.arguments.specs.declared.PageCall.the-variants.{Length, Poke, Read}
-use Rattle.arguments.specs.declared.State.{State}
 
--- "FEATURE, COUNT and LIMIT 16 bits, LBA and BLOCKS 64, ID 32, TYPE, HEALTH, CODE and BYTE 8, FLAG 1, LENGTH and PLACE up to 10000h"
-abbrev pub most64 : ℕ
-most64 = 0xFFFF_FFFF_FFFF_FFFF
-
+-- "ID 32, TYPE, HEALTH, CODE and BYTE 8, FLAG 1, LENGTH and PLACE up to 10000h"; those of 16 bits and of 64 stand in `registers`
 abbrev pub most32 : ℕ
 most32 = 0xFFFF_FFFF
-
-abbrev pub most16 : ℕ
-most16 = 0xFFFF
 
 abbrev pub most8 : ℕ
 most8 = 0xFF
 
 abbrev pub mostPlace : ℕ
 mostPlace = 0x1_0000
-
--- "STATE is `locked`, `unlocked` or `frozen`"
-unfoldable pub stateOf : List ℕ → State
-stateOf w =
-    cond (same w (ascii "locked")) (record { fits = true; security = Locked })
-    (cond (same w (ascii "unlocked")) (record { fits = true; security = Unlocked })
-    (record { fits = same w (ascii "frozen"); security = Frozen }))
-
--- FEATURE COUNT LBA, from word k on
-unfoldable pub askedAt : List ℕ → ℕ → Asked
-askedAt l k =
-    let feature = fieldAt l k most16 in
-    let count = fieldAt l (k + 1) most16 in
-    let lba = fieldAt l (k + 2) most64 in
-    record {
-      fits = feature .fits && (count .fits && lba .fits);
-      request = record { feature = feature .value; count = record { 0 = count .value }; lba = record { 0 = lba .value } };
-    }
 
 -- ## The calls: what a line of that name says, by its other words
 

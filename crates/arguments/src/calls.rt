@@ -1,36 +1,19 @@
 // The calls, each from the words of its line.
-ghost use mathlib.Core.Bool.{_&&_, cond};
+ghost use mathlib.Core.Bool.{cond};
 ghost use mathlib.Core.Path.{_≡_};
-ghost use Prim.Native.Nat.{_≤_};
 ghost use Rattle.arguments.specs.Calls as spec;
 ghost use Rattle.arguments.specs.declared.Line.the-variants.{NotACall};
-use crate::Asked;
 use crate::Command;
 use crate::Grade;
 use crate::Line;
 use crate::PageCall;
 use crate::Poke;
-use crate::State;
 use lines::field_at;
-use lines::is_same;
 use offer::Element;
 use paper::ElementId;
 use paper::Lba;
-use paper::PageCount;
-use paper::Security;
-use request::Request;
-
-fn both(a: bool, b: bool) -> bool
-    ensures { λ r. ⌜ r ≡ (a && b) ⌝ }
-{
-    if a { b } else { false }
-}
-
-fn each(a: bool, b: bool, c: bool) -> bool
-    ensures { λ r. ⌜ r ≡ (a && (b && c)) ⌝ }
-{
-    both(a, both(b, c))
-}
+use registers::both;
+use registers::each;
 
 // A call if its words fit.
 fn fitting(fits: bool, call: Line) -> Line
@@ -67,51 +50,12 @@ pub fn make_call(line: &[u8]) -> Line
     fitting(limit.fits, Line::Make(limit.value as u16))
 }
 
-fn state(w: &[u8]) -> State
-    ensures { λ r. ⌜ r ≡ spec.stateOf (now (w .entry)) ⌝ }
-{
-    if is_same(w, b"locked") {
-        return State {
-            fits: true,
-            security: Security::Locked,
-        };
-    }
-    if is_same(w, b"unlocked") {
-        return State {
-            fits: true,
-            security: Security::Unlocked,
-        };
-    }
-    State {
-        fits: is_same(w, b"frozen"),
-        security: Security::Frozen,
-    }
-}
-
-// FEATURE, COUNT and LBA from word k on.
-fn asked(line: &[u8], k: usize) -> Asked
-    requires { ⌜ k ≤ 3 ⌝ }
-    ensures { λ r. ⌜ r ≡ spec.askedAt (now (line .entry)) k ⌝ }
-{
-    let feature = field_at(line, k, 0xFFFF);
-    let count = field_at(line, k + 1, 0xFFFF);
-    let lba = field_at(line, k + 2, 0xFFFF_FFFF_FFFF_FFFF);
-    Asked {
-        fits: each(feature.fits, count.fits, lba.fits),
-        request: Request {
-            feature: feature.value as u16,
-            count: PageCount(count.value as u16),
-            lba: Lba(lba.value),
-        },
-    }
-}
-
 pub fn command_call(line: &[u8]) -> Line
     ensures { λ r. ⌜ r ≡ spec.commandOf (now (line .entry)) ⌝ }
 {
-    let state = state(lines::word_at(line, 1));
+    let state = registers::state_of(lines::word_at(line, 1));
     let code = field_at(line, 2, 0xFF);
-    let asked = asked(line, 3);
+    let asked = registers::asked_at(line, 3);
     let length = field_at(line, 6, 0x1_0000);
     let registers = both(code.fits, asked.fits);
     let security = state.security;
@@ -169,7 +113,7 @@ pub fn poke_call(line: &[u8]) -> Line
 pub fn read_call(line: &[u8]) -> Line
     ensures { λ r. ⌜ r ≡ spec.readOf (now (line .entry)) ⌝ }
 {
-    let asked = asked(line, 1);
+    let asked = registers::asked_at(line, 1);
     let request = asked.request;
     fitting(asked.fits, Line::Page(PageCall::Read(request)))
 }

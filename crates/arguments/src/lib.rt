@@ -14,18 +14,6 @@ use paper::Lba;
 use paper::Security;
 use request::Request;
 
-// A security state that a word names, and whether it names one.
-struct State {
-    fits: bool,
-    security: Security,
-}
-
-// FEATURE, COUNT and LBA, and whether each fits its field.
-struct Asked {
-    fits: bool,
-    request: Request,
-}
-
 // The front call, with the length of the buffer that is lent.
 pub struct Command {
     pub security: Security,

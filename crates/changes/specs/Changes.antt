@@ -2,12 +2,12 @@
 -- capacity as the listing has them", and a last line. The older page is s, the newer t.
 use Prim.Native.Nat.{ℕ}
 use mathlib.Core.List.{List, [], _++_}
-use Rattle.compare.specs.Parts.{descriptorPart, partOf}
 use Rattle.compare.specs.declared.Cursor.{Cursor}
 use Rattle.compare.specs.declared.Line.the-variants.{OnlyOlder, OnlyNewer, Changed}
 use Rattle.compare.specs.declared.Line.{Line}
 use Rattle.layout.specs.Bytes.{descriptorIn}
 use Rattle.layout.specs.declared.Descriptor.{Descriptor}
+use Rattle.parts.specs.Parts.{descriptorPart, partOf}
 use Rattle.reach.specs.Opening.{Values, bound, turn}
 use Rattle.reach.specs.declared.Bound.the-variants.{Whole, UpTo}
 use Rattle.reach.specs.declared.Bound.{Bound}

@@ -18,7 +18,7 @@ use words::Order;
 fn handed<'a>(older: &'a [u8], newer: &'a [u8], line: Line) -> Descriptor
     ensures { λ r. ⌜ r ≡ paper.handed (now (older .entry)) (now (newer .entry)) line ⌝ }
 {
-    Descriptor::read(compare::part(older, newer, line), Order::Little)
+    Descriptor::read(parts::part(older, newer, line), Order::Little)
 }
 
 // A sign, then the element as the listing has it.

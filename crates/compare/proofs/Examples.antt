@@ -10,7 +10,6 @@ use Rattle.reach.specs.Pages.{countOf, elementAt, reachOf, boundOf}
 use Rattle.slices.specs.Lists.{flat}
 use Rattle.words.specs.declared.Order.the-variants.{Little}
 use Rattle.compare.specs.Differences.{standing, differenceAt, differencesIn, differencesOf}
-use Rattle.compare.specs.Parts.{descriptorPart, partOf}
 use Rattle.compare.specs.Walk.{cursor, first, keyAt, agreeAt, stepAt, past, nextTo, nextOf, walk, walkFrom}
 use Rattle.compare.specs.declared.Line.the-variants.{OnlyOlder, OnlyNewer, Changed}
 
@@ -20,7 +19,7 @@ page number returned ds =
     headerBytes Little (record { number = number; returned = returned; busy = record { 0 = 0 }; limit = 2; removed = 0 })
     ++ flat (descriptorBytes Little) ds
 
-abbrev element : ℕ → ℕ → Descriptor
+abbrev pub element : ℕ → ℕ → Descriptor
 element id health = record { id = record { 0 = id }; restorable = false; kind = 1; health = health; capacity = 500 }
 
 -- 1 gone, 3 unchanged, 4 new, 0001_0003h removed
@@ -35,7 +34,7 @@ unfolding countOf elementAt reachOf boundOf keyAt agreeAt stepAt past nextTo nex
 walked = refl
 
 -- cut after 3: 4 and what is above it are not compared
-cut : List ℕ
+unfoldable pub cut : List ℕ
 cut = page 3 2 (element 1 0x20 ∷ element 3 0x11 ∷ [])
 
 up-to-3 : differencesOf cut newer ≡ OnlyOlder 0 ∷ Changed (cursor 1 0) ∷ []
@@ -61,12 +60,3 @@ flagged b = page 1 1 (record { id = record { 0 = 0xFFFF_FFFF }; restorable = b; 
 flag-alone : walkFrom (flagged false) (flagged true) first ≡ Changed (cursor 0 0) ∷ []
 unfolding flagged countOf elementAt reachOf boundOf keyAt agreeAt stepAt past nextTo nextOf walk walkFrom
 flag-alone = refl
-
--- the newer's part of a changed element, and none of a wild line
-handed : partOf cut newer (Changed (cursor 1 0)) ≡ descriptorBytes Little (element 3 0x10)
-unfolding cut countOf descriptorPart
-handed = refl
-
-wild : partOf cut newer (OnlyOlder 2) ≡ []
-unfolding cut countOf descriptorPart
-wild = refl

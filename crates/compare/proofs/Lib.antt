@@ -3,7 +3,6 @@ pub mod Ascending
 pub mod EveryComparison
 pub mod Examples
 pub mod Merging
-pub mod Portions
 pub mod Standings
 pub mod Steps
 pub mod Walking

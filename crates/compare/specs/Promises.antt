@@ -3,16 +3,11 @@ use Prim.Native.Nat.{ℕ, _<_}
 use mathlib.Core.Bool.{true}
 use mathlib.Core.List.{List, [], _∷_, map}
 use mathlib.Core.Path.{_≡_}
-use lib.ListN.{length}
-use Rattle.layout.specs.Bytes.{descriptorIn}
 use Rattle.paper.specs.declared.ElementId.{ElementId}
 use Rattle.reach.specs.Opening.{accepted}
 use Rattle.reach.specs.Pages.{countOf, elementAt}
 use Rattle.request.specs.declared.Request.{Request}
-use Rattle.slices.specs.Lists.{Every}
-use Rattle.words.specs.declared.Order.the-variants.{Little}
 use Rattle.compare.specs.Differences.{absent, stands, standing, differencesOf}
-use Rattle.compare.specs.Parts.{descriptorPart, partOf}
 use Rattle.compare.specs.Walk.{first, nextOf, after, walkFrom}
 use Rattle.compare.specs.declared.Cursor.{Cursor}
 use Rattle.compare.specs.declared.Line.the-variants.{OnlyOlder, OnlyNewer, Changed}
@@ -51,17 +46,3 @@ Walk-ends = (s t : List ℕ) (c : Cursor) → walkFrom s t c ≡ after (nextOf s
 -- over two accepted pages it gives exactly the differences
 abbrev pub Walk-gives : Type 0
 Walk-gives = (s t : List ℕ) (q : Request) → accepted s q ≡ true → accepted t q ≡ true → walkFrom s t first ≡ differencesOf s t
-
--- ## The parts
-
--- of an accepted page, each descriptor is handed out whole, and reads as what stands there
-abbrev pub Hands-out : Type 0
-Hands-out =
-    (s : List ℕ) (q : Request) (k : ℕ) → accepted s q ≡ true → k < countOf s
-    → (length (descriptorPart s k) ≡ 32) × (descriptorIn Little (descriptorPart s k) ≡ elementAt s k)
-
--- "For each line the tool hands out the descriptor itself": 32 bytes with the line's identifier
-abbrev pub Hands-out-each : Type 0
-Hands-out-each =
-    (s t : List ℕ) (q : Request) → accepted s q ≡ true → accepted t q ≡ true
-    → Every (λ l. (length (partOf s t l) ≡ 32) × (descriptorIn Little (partOf s t l) .id ≡ idOf s t l)) (differencesOf s t)

@@ -13,14 +13,14 @@ use Rattle.compare.proofs.Merging.{walk-gives}
 use Rattle.compare.specs.Differences.{differencesOf}
 use Rattle.compare.specs.Walk.{first, walkFrom}
 use Rattle.compare.specs.declared.Cursor.{Cursor}
-use Rattle.listing.specs.Listing.{requestOf}
 use Rattle.paper.specs.Told.{tells}
-use Rattle.reach.specs.Opening.{Values, bound, turn, openOf, accepted}
+use Rattle.reach.specs.Opening.{Values, bound, turn, openOf, accepted, judged}
 use Rattle.reach.specs.Pages.{countOf, boundOf}
 use Rattle.reach.specs.declared.Bound.{Bound}
 use Rattle.reach.specs.declared.Turn.the-variants.{Older, Newer}
 use Rattle.reach.specs.declared.Turn.{Turn}
-use Rattle.comparison.specs.Comparison.{linesOf, judged, differencesFor, comparisonOf, isAccepted, linesFrom}
+use Rattle.request.specs.Requests.{requestOf}
+use Rattle.comparison.specs.Comparison.{linesOf, differencesFor, comparisonOf, isAccepted, linesFrom}
 
 -- ## Both were accepted
 

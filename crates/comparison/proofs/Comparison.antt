@@ -6,7 +6,6 @@ use mathlib.Core.Path.{_≡_, refl, sym, ap, _∙_}
 use native.Mathlib.Omega.{arith}
 use lib.ListN.{length, take, drop, length-append, length-drop, take-append-drop}
 use lib.Seq.{take-add, drop-drop, take-at, drop-at, length-take-le}
-use borrow.Author.Tests.{lt-ltb, le-ltb}
 use Rattle.changes.proofs.Lengths.{length-line, length-last}
 use Rattle.changes.specs.Changes.{lineOf, lastLine}
 use Rattle.compare.proofs.Walking.{walk-done, walk-found, found-leaves}
@@ -17,32 +16,21 @@ use Rattle.compare.specs.declared.Step.the-variants.{Done, Found}
 use Rattle.compare.specs.declared.Step.{Step}
 use Rattle.io.specs.Counts.{Counts}
 use Rattle.listing.proofs.Printing.{printed-small, printed-done, printed-counts}
-use Rattle.listing.specs.Listing.{requestOf, output, printed}
-use Rattle.paper.specs.Told.{tells, said}
+use Rattle.listing.specs.Listing.{output, printed}
+use Rattle.paper.specs.Told.{said}
 use Rattle.paper.specs.declared.Answer.the-variants as answer
-use Rattle.reach.specs.Opening.{turn, heard, openOf}
+use Rattle.reach.specs.Opening.{heard, judged}
 use Rattle.reach.specs.declared.Opening.{Opening}
-use Rattle.reach.specs.declared.Turn.the-variants.{Older}
-use Rattle.request.specs.declared.Request.{Request}
 use Rattle.slices.proofs.Lists.{stored-more, stored-two}
 use Rattle.slices.specs.Lists.{stored}
 use Rattle.text.proofs.Written.{len-written, held-written}
 use Rattle.text.specs.Text.{nothing, written, held}
 use Rattle.text.specs.declared.Text.{Text}
-use Rattle.comparison.specs.Comparison.{linesOf, judged, comparisonOf, isAccepted, stepOf, linesFrom}
+use Rattle.comparison.specs.Comparison.{linesOf, comparisonOf, isAccepted, stepOf, linesFrom}
 use Rattle.comparison.proofs.Accepted.{by-walk}
 use Rattle.comparison.proofs.Lengths.{length-lines}
 
--- ## Both pages
-
-module _ (s t : List ℕ) where
-  pub older-long : 65536 < length s → tells 9 (turn Older) ≡ judged s t
-  unfolding judged
-  older-long h = sym (rw (lt-ltb _ _ h))
-
-  pub both-read : length s ≤ 65536 → (q : Request) → q ≡ requestOf s → (r : Opening) → heard r ≡ openOf s t q → heard r ≡ judged s t
-  unfolding judged
-  both-read h q is-q r e = e ∙ rw is-q (sym (rw (le-ltb _ _ h)))
+-- ## A step
 
 pub step-accepted : (s t : List ℕ) (a : Bool) (c : Cursor) → a ≡ true → (x : Step) → x ≡ nextOf s t c → x ≡ stepOf a s t c
 step-accepted s t a c y x is-x = is-x ∙ rw y

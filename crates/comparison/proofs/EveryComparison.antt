@@ -11,12 +11,12 @@ use Rattle.compare.specs.Differences.{differencesOf}
 use Rattle.compare.specs.Walk.{first}
 use Rattle.compare.specs.declared.Line.the-variants.{OnlyOlder, OnlyNewer, Changed}
 use Rattle.compare.specs.declared.Line.{Line}
-use Rattle.reach.specs.Opening.{Values, bound, turn}
+use Rattle.reach.specs.Opening.{Values, bound, turn, judged}
 use Rattle.reach.specs.declared.Bound.the-variants.{Whole, UpTo}
 use Rattle.reach.specs.declared.Bound.{Bound}
 use Rattle.reach.specs.declared.Turn.the-variants.{Older, Newer}
 use Rattle.reach.specs.declared.Turn.{Turn}
-use Rattle.comparison.specs.Comparison.{linesOf, judged, differencesFor, comparisonOf, statusFor, statusOf, isAccepted, linesFrom}
+use Rattle.comparison.specs.Comparison.{linesOf, differencesFor, comparisonOf, statusFor, statusOf, isAccepted, linesFrom}
 use Rattle.comparison.specs.Promises.{Enough, Tells-status}
 use Rattle.comparison.proofs.Accepted.{by-walk}
 use Rattle.comparison.proofs.Lengths.{length-lines}

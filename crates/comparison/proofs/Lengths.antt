@@ -11,9 +11,9 @@ use Rattle.compare.proofs.Walking.{passed, few}
 use Rattle.compare.specs.Walk.{first, ahead, walkFrom}
 use Rattle.compare.specs.declared.Cursor.{Cursor}
 use Rattle.compare.specs.declared.Line.{Line}
-use Rattle.reach.specs.Opening.{Values, bound, turn}
+use Rattle.reach.specs.Opening.{Values, bound, turn, judged}
 use Rattle.slices.specs.Lists.{sum}
-use Rattle.comparison.specs.Comparison.{linesOf, judged, isAccepted, linesFrom}
+use Rattle.comparison.specs.Comparison.{linesOf, isAccepted, linesFrom}
 use Rattle.comparison.proofs.Accepted.{counts, lines-none}
 
 -- ## The walk's lines

@@ -3,8 +3,7 @@
 use Prim.Native.Nat.{ℕ}
 use mathlib.Core.Bool.{Bool, true, false, cond}
 use mathlib.Core.List.{List, [], _∷_, _++_}
-use lib.Dec.{eqb, ltb}
-use lib.ListN.{length}
+use lib.Dec.{eqb}
 use Rattle.changes.specs.Changes.{lineOf, lastLine}
 use Rattle.compare.specs.Differences.{differencesOf}
 use Rattle.compare.specs.Walk.{nextOf, walkFrom}
@@ -12,21 +11,13 @@ use Rattle.compare.specs.declared.Cursor.{Cursor}
 use Rattle.compare.specs.declared.Line.{Line}
 use Rattle.compare.specs.declared.Step.the-variants.{Done}
 use Rattle.compare.specs.declared.Step.{Step}
-use Rattle.listing.specs.Listing.{requestOf}
-use Rattle.paper.specs.Told.{Told, tells}
-use Rattle.reach.specs.Opening.{Values, bound, turn, openOf}
-use Rattle.reach.specs.declared.Turn.the-variants.{Older}
+use Rattle.reach.specs.Opening.{Values, bound, turn, judged}
 use Rattle.slices.specs.Lists.{flat}
 
 -- ## The whole text
 
 abbrev pub linesOf : List ℕ → List ℕ → List Line → List ℕ
 linesOf s t ls = flat (lineOf s t) ls
-
--- "As many pages as the files have, up to 65,536 bytes each, request as for the listing": it is one request, so with the older's pages. An
--- older page of more bytes is refused here; a newer one of another length than the older's, by the reader
-unfoldable pub judged : List ℕ → List ℕ → Told Values
-judged s t = cond (ltb 65536 (length s)) (tells 9 (turn Older)) (openOf s t (requestOf s))
 
 abbrev pub differencesFor : List ℕ → List ℕ → Values → List Line
 differencesFor s t (bound b) = differencesOf s t

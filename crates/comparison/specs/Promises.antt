@@ -5,7 +5,8 @@ use mathlib.Core.Path.{_≡_}
 use lib.ListN.{length}
 use Rattle.compare.specs.Differences.{differencesOf}
 use Rattle.listing.specs.Listing.{printed}
-use Rattle.comparison.specs.Comparison.{judged, comparisonOf, statusFor, statusOf}
+use Rattle.reach.specs.Opening.{judged}
+use Rattle.comparison.specs.Comparison.{comparisonOf, statusFor, statusOf}
 
 -- No second answer fits a text, and a refusal writes nothing: `listing`'s `One-printing` and `Refusal-writes-nothing`, of any text.
 

@@ -13,20 +13,7 @@ use compare::Cursor;
 use compare::Step;
 use listing::Printed;
 use paper::Answer;
-use paper::PageCount;
 use reach::Opening;
-use reach::Turn;
-
-// Both pages as answers to the listing's request, with as many pages as the older has.
-fn judge(older: &[u8], newer: &[u8]) -> Opening
-    ensures { λ r. ⌜ heard r ≡ paper.judged (now (older .entry)) (now (newer .entry)) ⌝ }
-{
-    if 65536 < older.len() {
-        return Opening::Refused(Turn::Older);
-    }
-    let pages = PageCount((older.len() / 512) as u16);
-    reach::open(older, newer, listing::request_for(pages))
-}
 
 fn is_accepted(opening: Opening) -> bool
     ensures { λ r. ⌜ r ≡ paper.isAccepted (heard opening .state) ⌝ }
@@ -92,7 +79,7 @@ pub fn write<'a>(older: &'a [u8], newer: &'a [u8], out: &mut [u8]) -> Printed
     ensures { λ r. ⌜ said (r .answer) (output (r .count) (now (out .exit))) ≡ printed (paper.comparisonOf (now (older .entry)) (now (newer .entry))) (now (out .entry)) ⌝ }
     ensures { λ r. ⌜ Counts (r .count) (now (out .exit)) ⌝ }
 {
-    let opening = judge(older, newer);
+    let opening = reach::judge(older, newer);
     let accepted = is_accepted(opening);
     let last = changes::last_line(opening);
     let lines = measure(older, newer, accepted);

@@ -1,15 +1,15 @@
 -- Only the position is lost with power: an error or a cut changes no cell, and while a removal is under way it sets the position.
 use Prim.Native.Nat.{ℕ}
 use mathlib.Core.Path.{_≡_, refl, sym, ap, _∙_}
-use Rattle.device.specs.Promises.{Stop-keeps-cells, Reset-changes-nothing, Cut-forgets}
-use Rattle.paper.specs.Told.{tells}
-use Rattle.steps.specs.Steps.{ruleStop}
-use Rattle.device.specs.Record.{carriedOut, tell}
-use Rattle.device.specs.declared.Device.{Device}
 use Rattle.cells.specs.declared.Cells.{Cells}
 use Rattle.cells.specs.declared.Note.the-variants.{Empty, Full}
 use Rattle.cells.specs.declared.Note.{Note}
 use Rattle.cells.specs.declared.Position.the-variants.{Wind1}
+use Rattle.paper.specs.Told.{tells}
+use Rattle.steps.specs.Steps.{ruleStop}
+use Rattle.device.specs.Promises.{Stop-keeps-cells, Reset-changes-nothing, Cut-forgets}
+use Rattle.device.specs.Record.{carriedOut, tell}
+use Rattle.device.specs.declared.Device.{Device}
 
 pub reset-changes-nothing : Reset-changes-nothing
 reset-changes-nothing d = (refl, refl, refl)

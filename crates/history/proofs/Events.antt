@@ -7,14 +7,6 @@ use lib.Dec.{eqb}
 use borrow.Author.Tests.{eq-eqb, eqb-true}
 use Rattle.cells.specs.Rulings.{Ruled}
 use Rattle.cells.specs.Sights.{gone}
-use Rattle.device.proofs.Shapes.{still, moving, stopping, Shape, quiet, clears, notes, advances, winds, Grading, refuses, grades, each, choose}
-use Rattle.device.specs.Machine.{Event, command, step, mediaError, powerCut, comreset, hardwareReset, softwareReset, grade, rule}
-use Rattle.device.specs.Record.{underWay, removedNumber, see, storeAt}
-use Rattle.paper.specs.Table12.{aborts}
-use Rattle.removal.specs.Remove.{identifierOf, limitMet, tooSmall, tooHigh, removalOf, judgeRoom, judgeFound, ruleRemove}
-use Rattle.steps.specs.Steps.{nextOf}
-use Rattle.paper.specs.declared.Command.the-variants.{Remove}
-use Rattle.device.specs.declared.Device.{Device}
 use Rattle.cells.specs.declared.Mark.the-variants.{Clear, Set}
 use Rattle.cells.specs.declared.Note.the-variants.{Full}
 use Rattle.cells.specs.declared.Position.the-variants.{Work1, Work2, Work3, Work4, Work5, Wind1, Wind2, Wind3, Wind4}
@@ -22,11 +14,19 @@ use Rattle.cells.specs.declared.Position.{Position}
 use Rattle.cells.specs.declared.Removal.{Removal}
 use Rattle.cells.specs.declared.Store.the-variants.{Nothing, NativeTo, AccessibleTo, Marked, Graded, FailedTo, Noted, NoteEmptied}
 use Rattle.cells.specs.declared.Store.{Store}
+use Rattle.device.proofs.Shapes.{still, moving, stopping, Shape, quiet, clears, notes, advances, winds, Grading, refuses, grades, each, choose}
+use Rattle.device.specs.Machine.{Event, command, step, mediaError, powerCut, comreset, hardwareReset, softwareReset, grade, rule}
+use Rattle.device.specs.Record.{underWay, removedNumber, see, storeAt}
+use Rattle.device.specs.declared.Device.{Device}
 use Rattle.paper.specs.Elements.{removedHealth}
 use Rattle.paper.specs.Registers.{Registers, low48}
+use Rattle.paper.specs.Table12.{aborts}
+use Rattle.paper.specs.declared.Command.the-variants.{Remove}
 use Rattle.paper.specs.declared.ElementId.{ElementId}
 use Rattle.paper.specs.declared.Lba.{Lba}
 use Rattle.paper.specs.declared.Security.{Security}
+use Rattle.removal.specs.Remove.{identifierOf, limitMet, tooSmall, tooHigh, removalOf, judgeRoom, judgeFound, ruleRemove}
+use Rattle.steps.specs.Steps.{nextOf}
 use Rattle.table.specs.Elements.{isStorage, size, identifierAt}
 use Rattle.history.specs.Ledger.{ofStore}
 use Rattle.history.specs.Progress.{noteOf, Acceptance, Noting-store, At, Marking-store, Setting-store}

@@ -1,15 +1,15 @@
 -- Powering up comes to rest: with a removal under way by the four steps, and without one since a cut and a step then change nothing.
 use mathlib.Core.Path.{_≡_, refl, ap, _∙_}
-use Rattle.device.specs.Machine.{step, powerCut, told}
-use Rattle.device.specs.Record.{carriedOut}
-use Rattle.steps.specs.Steps.{ruleStep, ruleStop}
-use Rattle.device.specs.declared.Device.{Device}
 use Rattle.cells.specs.declared.Note.the-variants.{Empty, Full}
 use Rattle.cells.specs.declared.Note.{Note}
-use Rattle.history.proofs.Demand3.{demand-3}
+use Rattle.device.specs.Machine.{step, powerCut, told}
+use Rattle.device.specs.Record.{carriedOut}
+use Rattle.device.specs.declared.Device.{Device}
+use Rattle.steps.specs.Steps.{ruleStep, ruleStop}
+use Rattle.history.specs.PowerUp.{powerUp, Powered-up-rests}
 use Rattle.history.specs.Promise.{Promise}
 use Rattle.history.specs.Runs.{begin, _▸_, _▸▸_, after, history}
-use Rattle.history.specs.PowerUp.{powerUp, Powered-up-rests}
+use Rattle.history.proofs.Demand3.{demand-3}
 
 -- at rest a cut and a step leave the note empty
 cut-rests : (d : Device) → d .cells .note ≡ Empty → told d powerCut .state .cells .note ≡ Empty

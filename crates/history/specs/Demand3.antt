@@ -5,11 +5,11 @@
 -- fifth. After a cut during a removal, four undisturbed steps bring that about."
 use mathlib.Core.Bool.{true}
 use mathlib.Core.Path.{_≡_}
+use Rattle.cells.specs.declared.Note.the-variants.{Empty, Full}
+use Rattle.cells.specs.declared.Removal.{Removal}
 use Rattle.device.specs.Machine.{Event, step}
 use Rattle.device.specs.Promises.{At-most-one-cell}
 use Rattle.device.specs.declared.Device.{Device}
-use Rattle.cells.specs.declared.Note.the-variants.{Empty, Full}
-use Rattle.cells.specs.declared.Removal.{Removal}
 use Rattle.history.specs.Progress.{calm, steps, Acceptance, Noting-store, Marking-store, Setting-store, Five-steps, Fifth-ends, stops, Stop-winds, Four-steps, Fourth-ends}
 use Rattle.history.specs.Promise.{Promise, Kept-by-runs}
 use Rattle.history.specs.Runs.{Script, _▸_, _▸▸_, after, history, Runs-are-scripts}

@@ -1,9 +1,9 @@
 -- When the power is back, firmware tells the cut and makes four steps, each a call of its own with at most one store. "After a cut during a
 -- removal, four undisturbed steps bring that about."
 use mathlib.Core.Path.{_≡_}
+use Rattle.cells.specs.declared.Note.the-variants.{Empty}
 use Rattle.device.specs.Machine.{step, powerCut}
 use Rattle.device.specs.declared.Device.{Device}
-use Rattle.cells.specs.declared.Note.the-variants.{Empty}
 use Rattle.history.specs.Promise.{Promise}
 use Rattle.history.specs.Runs.{Script, begin, _▸_, _▸▸_, after, history}
 use Rattle.history.specs.Starts.{Startable}

@@ -3,10 +3,6 @@ use Prim.Native.Nat.{ℕ, zero, suc, _-_, _≤_, _<_}
 use mathlib.Core.Bool.{Bool, true, false, not, _&&_}
 use mathlib.Core.Path.{_≡_}
 use Rattle.cells.specs.Sights.{gone}
-use Rattle.device.specs.Machine.{Event, command, step, rule, told}
-use Rattle.device.specs.Record.{underWay, see, woundUp}
-use Rattle.removal.specs.Remove.{identifierOf, orDifference}
-use Rattle.device.specs.declared.Device.{Device}
 use Rattle.cells.specs.declared.Mark.the-variants.{Clear, Set}
 use Rattle.cells.specs.declared.Note.the-variants.{Empty, Full}
 use Rattle.cells.specs.declared.Position.the-variants.{Work3, Wind1, Wind3}
@@ -14,10 +10,14 @@ use Rattle.cells.specs.declared.Position.{Position}
 use Rattle.cells.specs.declared.Removal.{Removal}
 use Rattle.cells.specs.declared.Store.the-variants.{NativeTo, AccessibleTo, Marked, FailedTo, Noted, NoteEmptied}
 use Rattle.cells.specs.declared.Store.{Store}
+use Rattle.device.specs.Machine.{Event, command, step, rule, told}
+use Rattle.device.specs.Record.{underWay, see, woundUp}
+use Rattle.device.specs.declared.Device.{Device}
 use Rattle.paper.specs.Registers.{Registers, low48}
 use Rattle.paper.specs.declared.ElementId.{ElementId}
 use Rattle.paper.specs.declared.Lba.{Lba}
 use Rattle.paper.specs.declared.Security.{Security}
+use Rattle.removal.specs.Remove.{identifierOf, orDifference}
 use Rattle.table.specs.Elements.{size, identifierAt}
 use Rattle.history.specs.Runs.{ofEvent, Script, begin, _▸_, _▸▸_, after}
 

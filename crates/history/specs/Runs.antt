@@ -2,11 +2,11 @@
 use Prim.Native.Nat.{ℕ}
 use mathlib.Core.List.{List, [], _∷_}
 use mathlib.Core.Path.{_≡_}
+use Rattle.cells.specs.declared.Note.the-variants.{Empty}
+use Rattle.cells.specs.declared.Store.{Store}
 use Rattle.device.specs.Machine.{Event, command, step, mediaError, powerCut, comreset, hardwareReset, softwareReset, grade, rule, told}
 use Rattle.device.specs.Promises.{But-position}
 use Rattle.device.specs.declared.Device.{Device}
-use Rattle.cells.specs.declared.Note.the-variants.{Empty}
-use Rattle.cells.specs.declared.Store.{Store}
 use Rattle.paper.specs.Answers.{numberOf}
 use Rattle.paper.specs.Told.{said}
 use Rattle.paper.specs.declared.Answer.{Answer}

@@ -5,15 +5,8 @@ ghost use lib.ListN.{length};
 ghost use Rattle.kept.specs.Kept.{lengthened, poked, keptAfter, pageAfter};
 use arguments::PageCall;
 use arguments::Poke;
-use layout::Descriptor;
-use layout::Header;
-use print::print_line;
 use print::print_number;
 use print::print_words;
-use reader::Judgement;
-use reader::Slot;
-use request::Request;
-use text::Text;
 
 fn clear(page: &mut [u8], from: usize, to: usize)
     requires { ⌜ to ≤ length (now page) ⌝ }
@@ -47,36 +40,6 @@ fn poke(page: &mut [u8], kept: usize, p: Poke)
     slices::put(page, p.place, &byte);
 }
 
-fn print_descriptor(d: Descriptor) {
-    let text = Text::nothing()
-        .hex8(d.id.0)
-        .field(b" ", slices::bit(d.restorable) as u64)
-        .word(b" ");
-    print_line(rows::write_values(text, d));
-}
-
-fn print_slot(slot: Slot) {
-    if let Slot::Holds(d) = slot {
-        print_descriptor(d);
-    }
-}
-
-fn print_contents(page: &[u8], h: Header) {
-    print_words(b"0");
-    print_line(rows::write_header(Text::nothing(), h));
-    for k in 0..h.returned {
-        print_slot(reader::descriptor(page, k));
-    }
-}
-
-fn read(page: &[u8], kept: usize, request: Request) {
-    let whole = slices::head(page, kept);
-    match reader::read(whole, request) {
-        Judgement::Accepted(h) => print_contents(whole, h),
-        Judgement::Refused(place) => print_number(b"9 at ", place),
-    }
-}
-
 // Makes a call on the kept page, and returns how long it then is.
 pub fn call(page: &mut [u8], kept: usize, call: PageCall) -> usize
     ensures { λ r. ⌜ (r ≡ keptAfter call kept (now (page .entry))) × (now (page .exit) ≡ pageAfter call kept (now (page .entry))) ⌝ }
@@ -88,7 +51,7 @@ pub fn call(page: &mut [u8], kept: usize, call: PageCall) -> usize
             kept
         }
         PageCall::Read(request) => {
-            read(page, kept, request);
+            contents::print_reading(page, kept, request);
             kept
         }
     }

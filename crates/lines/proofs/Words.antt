@@ -9,7 +9,7 @@ use lib.Dec.{eqb}
 use lib.ListN.{length, take, drop, getD, length-append, length-drop, drop-of-length-le}
 use lib.Seq.{drop-cons, take-append-seam}
 use borrow.Author.Tests.{eq-eqb, ne-eqb, not-true, not-false}
-use Rattle.lines.specs.Parts.{isSpace, isOther, dropWhile, takeWhile, spaceOr, fromWord, wordAt, isEmpty, same, named}
+use Rattle.lines.specs.Parts.{isSpace, isOther, dropWhile, takeWhile, spaceOr, fromWord, wordAt, isEmpty, same, named, isPassed}
 
 -- ## Skipped while a test holds
 
@@ -100,6 +100,15 @@ module _ (l name w : List ℕ) (n : ℕ) (is-w : w ≡ wordAt 0 l) (a : Bool) (i
   pub name-this : not a ≡ false → (z : List ℕ) → z ≡ wordAt n l → eqb (length z) 0 ≡ named name n l
   unfolding named
   name-this y z is-z = empty-length z ∙ sym (rw (← is-w, ← is-a, not-false a y, is-z))
+
+-- ## A line that is passed over
+
+module _ (l w : List ℕ) (is-w : w ≡ wordAt 0 l) where
+  pub passed-empty : length w ≡ 0 → true ≡ isPassed l
+  passed-empty e = sym (rw (← is-w, ← empty-length w, e))
+
+  pub passed-first : (length w ≡ 0 → ⊥) → eqb (getD w 0 0) 35 ≡ isPassed l
+  passed-first n = sym (rw (← is-w, ← empty-length w, ne-eqb _ _ n))
 
 -- ## A byte
 

@@ -1,8 +1,9 @@
 -- docs/BENCH.md: "Words are separated by one or more spaces (leading and trailing ones do not count; no other byte is a space)."
 use Prim.Native.Nat.{ℕ, zero, suc}
-use mathlib.Core.Bool.{Bool, true, false, not, cond, _&&_}
+use mathlib.Core.Bool.{Bool, true, false, not, cond, _&&_, _||_}
 use mathlib.Core.List.{List, [], _∷_}
 use lib.Dec.{eqb}
+use lib.ListN.{getD}
 
 abbrev pub dropWhile : (ℕ → Bool) → List ℕ → List ℕ
 dropWhile f [] = []
@@ -44,3 +45,7 @@ same (x ∷ a) (y ∷ b) = eqb x y && same a b
 -- this name, and no more than n words; that there are no fewer the fields say, since none may be empty
 unfoldable pub named : List ℕ → ℕ → List ℕ → Bool
 named name n l = same (wordAt 0 l) name && isEmpty (wordAt n l)
+
+-- "a line without words, or whose first word starts with `#`, is passed over"
+abbrev pub isPassed : List ℕ → Bool
+isPassed l = isEmpty (wordAt 0 l) || eqb (getD (wordAt 0 l) 0 0) 35

@@ -4,6 +4,7 @@ mod parts;
 
 pub use numbers::field_at;
 pub use parts::is_named;
+pub use parts::is_passed;
 pub use parts::is_same;
 pub use parts::word_at;
 

@@ -2,7 +2,7 @@
 ghost use mathlib.Core.Path.{_≡_};
 ghost use Prim.Native.Nat.{_≤_};
 ghost use lib.ListN.{length, drop};
-ghost use Rattle.lines.specs.Parts.{dropWhile, spaceOr, fromWord, wordAt, same, named};
+ghost use Rattle.lines.specs.Parts.{dropWhile, spaceOr, fromWord, wordAt, same, named, isPassed};
 
 fn is_spaced(b: u8, space: bool) -> bool
     ensures { λ r. ⌜ r ≡ spaceOr space b ⌝ }
@@ -72,4 +72,15 @@ pub fn is_named(line: &[u8], name: &[u8], words: usize) -> bool
     }
     let more = word_at(line, words);
     more.len() == 0
+}
+
+// Whether a line is passed over.
+pub fn is_passed(line: &[u8]) -> bool
+    ensures { λ r. ⌜ r ≡ isPassed (now (line .entry)) ⌝ }
+{
+    let first = word_at(line, 0);
+    if first.len() == 0 {
+        return true;
+    }
+    first[0] == b'#'
 }

@@ -12,8 +12,9 @@ use Rattle.paper.specs.Told.{tells}
 use Rattle.reader.proofs.LayoutTheorem.{with-header}
 use Rattle.reader.proofs.Taken.{taken, room}
 use Rattle.reader.specs.Judgement.{Values, header, place, readOf}
+use Rattle.request.specs.Requests.{requestOf}
 use Rattle.words.specs.declared.Order.the-variants.{Little}
-use Rattle.listing.specs.Listing.{linesBelow, requestOf, judged, firstLine, lineCount, listingOf}
+use Rattle.listing.specs.Listing.{linesBelow, judged, firstLine, lineCount, listingOf}
 use Rattle.listing.specs.Promises.{Enough}
 use Rattle.listing.proofs.Listing.{length-first, length-lines}
 

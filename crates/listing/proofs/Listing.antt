@@ -16,6 +16,7 @@ use Rattle.paper.specs.declared.Answer.the-variants.{Done, SmallBuffer}
 use Rattle.reader.specs.Judgement.{Values, header, place, heard, readOf}
 use Rattle.reader.specs.declared.Judgement.the-variants.{Accepted, Refused}
 use Rattle.reader.specs.declared.Judgement.{Judgement}
+use Rattle.request.specs.Requests.{requestOf}
 use Rattle.request.specs.declared.Request.{Request}
 use Rattle.rows.proofs.Rows.{length-line, length-header, length-refused}
 use Rattle.rows.specs.Rows.{descriptorLine, headerLine, refusedLine}
@@ -25,7 +26,7 @@ use Rattle.text.proofs.Written.{len-written, held-written}
 use Rattle.text.specs.Text.{nothing, written, held}
 use Rattle.text.specs.declared.Text.{Text}
 use Rattle.words.specs.declared.Order.the-variants.{Little}
-use Rattle.listing.specs.Listing.{linesBelow, requestOf, judged, firstLine, lineCount, listingOf, output, listed}
+use Rattle.listing.specs.Listing.{linesBelow, judged, firstLine, lineCount, listingOf, output, listed}
 use Rattle.listing.proofs.Printing.{printed-small, printed-done, printed-counts}
 
 -- ## The first line

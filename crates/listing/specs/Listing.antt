@@ -1,5 +1,5 @@
 -- Document 01, "The reader", last paragraph: the listing's text, and the lent output buffer.
-use Prim.Native.Nat.{ℕ, zero, suc, _/_}
+use Prim.Native.Nat.{ℕ, zero, suc}
 use mathlib.Core.Bool.{cond}
 use mathlib.Core.List.{List, [], _++_}
 use lib.Dec.{ltb}
@@ -7,7 +7,7 @@ use lib.ListN.{length, drop}
 use Rattle.offences.specs.Checks.{descriptorAt}
 use Rattle.paper.specs.Told.{Told, tells}
 use Rattle.reader.specs.Judgement.{Values, header, place, readOf}
-use Rattle.request.specs.declared.Request.{Request}
+use Rattle.request.specs.Requests.{requestOf}
 use Rattle.rows.specs.Rows.{descriptorLine, headerLine, refusedLine}
 use Rattle.words.specs.declared.Order.the-variants.{Little}
 
@@ -19,14 +19,6 @@ linesBelow s zero = []
 linesBelow s (suc n) = linesBelow s n ++ descriptorLine (descriptorAt Little s n)
 
 -- ## The text
-
--- "an answer to filter 0, report type 0, start 0, ..
-abbrev pub requestFor : ℕ → Request
-requestFor pages = record { feature = 0; count = record { 0 = pages }; lba = record { 0 = 0 } }
-
--- .. and as many pages as the input has"
-abbrev pub requestOf : List ℕ → Request
-requestOf s = requestFor (length s / 512)
 
 -- "at most 65,536 bytes ..; longer input is refused at 65536"
 abbrev pub judged : List ℕ → Told Values

@@ -10,12 +10,10 @@ ghost use Rattle.rows.specs.Rows.{descriptorLine};
 ghost use Rattle.slices.specs.Lists.{stored};
 ghost use Rattle.text.specs.Text.{nothing, written};
 ghost use Rattle.words.specs.declared.Order.the-variants.{Little};
-ghost use Rattle.listing.specs.Listing.{linesBelow, requestFor, judged, firstLine, lineCount, output, listed};
+ghost use Rattle.listing.specs.Listing.{linesBelow, judged, firstLine, lineCount, output, listed};
 use paper::Answer;
-use paper::Lba;
 use paper::PageCount;
 use reader::Judgement;
-use request::Request;
 use text::Text;
 use words::Order;
 
@@ -23,17 +21,6 @@ use words::Order;
 pub struct Printed {
     pub answer: Answer,
     pub count: usize,
-}
-
-// What an input of so many pages is read as an answer to.
-pub fn request_for(pages: PageCount) -> Request
-    ensures { λ r. ⌜ r ≡ requestFor (pages .0) ⌝ }
-{
-    Request {
-        feature: 0,
-        count: pages,
-        lba: Lba(0),
-    }
 }
 
 // The reader's answer; a longer input does not reach it.
@@ -44,7 +31,7 @@ fn judge(input: &[u8]) -> Judgement
         return Judgement::Refused(65536);
     }
     let pages = PageCount((input.len() / 512) as u16);
-    reader::read(input, request_for(pages))
+    reader::read(input, request::request_for(pages))
 }
 
 // The line that every listing starts with.

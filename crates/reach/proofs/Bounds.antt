@@ -5,6 +5,7 @@ use mathlib.Core.List.{List}
 use mathlib.Core.Path.{_≡_, refl, sym, ap, _∙_}
 use native.Mathlib.Omega.{arith}
 use lib.Dec.{ltb}
+use lib.ListN.{length}
 use borrow.Author.Tests.{lt-ltb, le-ltb}
 use Rattle.layout.specs.Bytes.{headerIn}
 use Rattle.layout.specs.declared.Descriptor.{Descriptor}
@@ -15,12 +16,14 @@ use Rattle.paper.specs.declared.ElementId.{ElementId}
 use Rattle.reader.specs.Judgement as judgement
 use Rattle.reader.specs.declared.Judgement.the-variants as says
 use Rattle.reader.specs.declared.Judgement.{Judgement}
+use Rattle.request.specs.Requests.{requestOf}
 use Rattle.request.specs.declared.Request.{Request}
 use Rattle.words.specs.declared.Order.the-variants.{Little}
-use Rattle.reach.specs.Opening.{openOf, accepted, bound, turn}
+use Rattle.reach.specs.Opening.{heard, openOf, judged, accepted, bound, turn}
 use Rattle.reach.specs.Pages.{countOf, reachOf, smallest, boundOf, endOf}
 use Rattle.reach.specs.declared.Bound.the-variants.{Whole, UpTo}
 use Rattle.reach.specs.declared.Bound.{Bound}
+use Rattle.reach.specs.declared.Opening.{Opening}
 use Rattle.reach.specs.declared.Turn.the-variants.{Older, Newer}
 
 -- ## Both judged
@@ -44,6 +47,15 @@ module _ (s t : List ℕ) (q : Request) (a : Judgement) (is-a : judgement.heard 
 
     pub open-both : (g : Header) → b ≡ says.Accepted g → (m : Bound) → m ≡ boundOf s t → tells 0 (bound m) ≡ openOf s t q
     open-both g z m is-m = sym (rw (accepted-yes s q a is-a h y, accepted-yes t q b is-b g z, ← is-m))
+
+module _ (s t : List ℕ) where
+  pub older-long : 65536 < length s → tells 9 (turn Older) ≡ judged s t
+  unfolding judged
+  older-long h = sym (rw (lt-ltb _ _ h))
+
+  pub both-read : length s ≤ 65536 → (q : Request) → q ≡ requestOf s → (r : Opening) → heard r ≡ openOf s t q → heard r ≡ judged s t
+  unfolding judged
+  both-read h q is-q r e = e ∙ rw is-q (sym (rw (le-ltb _ _ h)))
 
 -- ## How far
 

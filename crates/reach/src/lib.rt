@@ -2,10 +2,11 @@
 ghost use mathlib.Core.Path.{_≡_};
 ghost use Rattle.offences.specs.Checks.{lastBefore};
 ghost use Rattle.words.specs.declared.Order.the-variants.{Little};
-ghost use Rattle.reach.specs.Opening.{heard, openOf};
+ghost use Rattle.reach.specs.Opening.{heard, openOf, judged};
 ghost use Rattle.reach.specs.Pages.{reachOf, smallest, boundOf, endOf};
 use layout::Header;
 use paper::ElementId;
+use paper::PageCount;
 use reader::Judgement;
 use request::Request;
 use words::Order;
@@ -79,6 +80,17 @@ pub fn open(older: &[u8], newer: &[u8], request: Request) -> Opening
         return Opening::Refused(Turn::Newer);
     }
     Opening::Accepted(bound_of(older, newer))
+}
+
+// Both pages as answers to the listing's request, with as many pages as the older has.
+pub fn judge(older: &[u8], newer: &[u8]) -> Opening
+    ensures { λ r. ⌜ heard r ≡ judged (now (older .entry)) (now (newer .entry)) ⌝ }
+{
+    if 65536 < older.len() {
+        return Opening::Refused(Turn::Older);
+    }
+    let pages = PageCount((older.len() / 512) as u16);
+    open(older, newer, request::request_for(pages))
 }
 
 fn end_of(b: Bound) -> ElementId

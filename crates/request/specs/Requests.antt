@@ -1,7 +1,9 @@
 -- Document 01, "GET PHYSICAL ELEMENT STATUS (12h)": a request's fields, what it is answered, and the tests of an element.
 use Prim.Native.Nat.{ℕ, _*_, _/_, _%_, _^_}
 use mathlib.Core.Bool.{Bool, cond, not, _||_}
+use mathlib.Core.List.{List}
 use lib.Dec.{leb, ltb, eqb}
+use lib.ListN.{length}
 use Rattle.paper.specs.Elements.{storageType, removedHealth, slow}
 use Rattle.paper.specs.Registers.{Registers, low48}
 use Rattle.paper.specs.Table12.{aborts}
@@ -54,3 +56,13 @@ inFilter health = slow health || removedHealth health
 
 unfoldable pub takesHealth : ℕ → ℕ → Bool
 takesHealth filter health = not (eqb filter 1) || inFilter health
+
+-- ## Of an input: document 01, "The reader", last paragraph
+
+-- "an answer to filter 0, report type 0, start 0, ..
+abbrev pub requestFor : ℕ → Request
+requestFor pages = record { feature = 0; count = record { 0 = pages }; lba = record { 0 = 0 } }
+
+-- .. and as many pages as the input has"
+abbrev pub requestOf : List ℕ → Request
+requestOf s = requestFor (length s / 512)

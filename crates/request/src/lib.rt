@@ -2,7 +2,7 @@
 ghost use mathlib.Core.Path.{_≡_};
 ghost use Rattle.paper.specs.Answers.{numberOf};
 ghost use Rattle.paper.specs.Elements.{slow};
-ghost use Rattle.request.specs.Requests.{filterOf, reportTypeOf, startOf, refused, statusNumber, takesId, takesType, takesHealth};
+ghost use Rattle.request.specs.Requests.{filterOf, reportTypeOf, startOf, refused, statusNumber, takesId, takesType, takesHealth, requestFor};
 use paper::Answer;
 use paper::Command;
 use paper::ElementId;
@@ -103,4 +103,15 @@ pub fn judge(security: Security, request: Request, room: usize) -> Answer
         return Answer::SmallBuffer;
     }
     Answer::Done
+}
+
+// What an input of so many pages is read as an answer to.
+pub fn request_for(pages: PageCount) -> Request
+    ensures { λ r. ⌜ r ≡ requestFor (pages .0) ⌝ }
+{
+    Request {
+        feature: 0,
+        count: pages,
+        lba: Lba(0),
+    }
 }

@@ -4,7 +4,7 @@ use mathlib.Core.Bool.{false}
 use mathlib.Core.List.{_++_}
 use mathlib.Core.Path.{_≡_, refl}
 use lib.ListN.{replicate}
-use Rattle.arguments.specs.Calls.{stateOf, askedAt, elementOf, makeOf, commandOf, gradeOf, lengthOf}
+use Rattle.arguments.specs.Calls.{elementOf, makeOf, commandOf, gradeOf, lengthOf}
 use Rattle.arguments.specs.declared.Bare.the-variants.{Step}
 use Rattle.arguments.specs.declared.Line.the-variants.{Passed, NotACall, Element, Make, Command, Bare, Grade, Page}
 use Rattle.arguments.specs.declared.Line.{Line}
@@ -12,6 +12,7 @@ use Rattle.arguments.specs.declared.PageCall.the-variants.{Length}
 use Rattle.lines.specs.Numbers.{fieldOf, fieldAt}
 use Rattle.lines.specs.Parts.{wordAt, same, named}
 use Rattle.paper.specs.declared.Security.the-variants.{Unlocked}
+use Rattle.registers.specs.Registers.{stateOf, askedAt}
 use Rattle.text.specs.Text.{ascii}
 use Rattle.script.specs.Names.{pageCall, resetCall, eventCall, deviceCall, lineOf}
 

@@ -3,16 +3,14 @@ use Prim.Native.Nat.{ℕ, _≤_, _<_}
 use mathlib.Core.Bool.{Bool, true, false, cond}
 use mathlib.Core.List.{List}
 use mathlib.Core.Path.{_≡_, sym, _∙_}
-use lib.Dec.{eqb}
-use lib.ListN.{length, take, getD}
-use borrow.Author.Tests.{lt-ltb, le-ltb, ne-eqb}
+use lib.ListN.{take}
+use borrow.Author.Tests.{lt-ltb, le-ltb}
 use Rattle.arguments.specs.declared.Line.the-variants.{Passed, NotACall}
 use Rattle.arguments.specs.declared.Line.{Line}
-use Rattle.lines.proofs.Words.{empty-length}
-use Rattle.lines.specs.Parts.{wordAt}
+use Rattle.lines.specs.Parts.{isPassed}
 use Rattle.pieces.specs.Pieces.{isLong}
 use Rattle.pieces.specs.declared.Gathered.{Gathered}
-use Rattle.script.specs.Names.{deviceCall, isPassed, lineOf, meaningOf}
+use Rattle.script.specs.Names.{deviceCall, lineOf, meaningOf}
 
 -- ## The call of a name
 
@@ -24,13 +22,6 @@ module _ (t named : Bool) (is-t : t ≡ named) (call rest r : Line) where
   other-call n is-r = is-r ∙ sym (rw (sym is-t ∙ n))
 
 -- ## A line
-
-module _ (l w : List ℕ) (is-w : w ≡ wordAt 0 l) where
-  pub passed-empty : length w ≡ 0 → true ≡ isPassed l
-  passed-empty e = sym (rw (← is-w, ← empty-length w, e))
-
-  pub passed-first : (length w ≡ 0 → ⊥) → eqb (getD w 0 0) 35 ≡ isPassed l
-  passed-first n = sym (rw (← is-w, ← empty-length w, ne-eqb _ _ n))
 
 module _ (l : List ℕ) (s : Bool) (is-s : s ≡ isLong l) where
   pub line-long : s ≡ true → NotACall ≡ lineOf l

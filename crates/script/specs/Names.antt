@@ -1,14 +1,14 @@
 -- What a line says: the call of its name, "with exactly its words", or that there is none (docs/BENCH.md).
 use Prim.Native.Nat.{ℕ}
-use mathlib.Core.Bool.{Bool, cond, _||_}
+use mathlib.Core.Bool.{cond}
 use mathlib.Core.List.{List}
-use lib.Dec.{eqb, ltb}
-use lib.ListN.{take, getD}
+use lib.Dec.{ltb}
+use lib.ListN.{take}
 use Rattle.arguments.specs.Calls.{elementOf, makeOf, commandOf, gradeOf, lengthOf, pokeOf, readOf}
 use Rattle.arguments.specs.declared.Bare.the-variants.{Step, Error, Cut, Comreset, Hardreset, Softreset}
 use Rattle.arguments.specs.declared.Line.the-variants.{Passed, NotACall, Bare, Cells}
 use Rattle.arguments.specs.declared.Line.{Line}
-use Rattle.lines.specs.Parts.{wordAt, isEmpty, named}
+use Rattle.lines.specs.Parts.{named, isPassed}
 use Rattle.pieces.specs.Pieces.{isLong}
 use Rattle.pieces.specs.declared.Gathered.{Gathered}
 use Rattle.text.specs.Text.{ascii}
@@ -42,10 +42,6 @@ deviceCall l =
     (cond (named (ascii "command") 7 l) (commandOf l)
     (cond (named (ascii "cells") 1 l) Cells
     (eventCall l))))
-
--- "a line without words, or whose first word starts with `#`, is passed over"
-abbrev pub isPassed : List ℕ → Bool
-isPassed l = isEmpty (wordAt 0 l) || eqb (getD (wordAt 0 l) 0 0) 35
 
 -- "A line of more than 200 bytes, the newline not counted, is `not a call`, whatever it holds. .. Each other line is one of the calls below
 -- with exactly its words, or answers `not a call`"

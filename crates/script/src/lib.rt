@@ -11,6 +11,7 @@ use arguments::make_call;
 use arguments::poke_call;
 use arguments::read_call;
 use lines::is_named;
+use lines::is_passed;
 use pieces::Gathered;
 use pieces::is_long;
 
@@ -78,16 +79,6 @@ fn device_call(line: &[u8]) -> Line
         return Line::Cells;
     }
     event_call(line)
-}
-
-fn is_passed(line: &[u8]) -> bool
-    ensures { λ r. ⌜ r ≡ spec.isPassed (now (line .entry)) ⌝ }
-{
-    let first = lines::word_at(line, 0);
-    if first.len() == 0 {
-        return true;
-    }
-    first[0] == b'#'
 }
 
 // Of a line without its newline.

@@ -11,4 +11,4 @@ read-call-spec =
     (tie.spec
     (λ c κs. search needs)
     (λ c κs. search needs)
-    (λ c. simp (c .fitting .ensures, c .before .before .asked .ensures)))
+    (λ c. simp (c .fitting .ensures, c .before .before .asked-at .ensures)))

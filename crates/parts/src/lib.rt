@@ -1,0 +1,38 @@
+// The descriptor itself that a line of a comparison speaks of, as part of the page that it came from.
+ghost use mathlib.Core.Path.{_≡_};
+ghost use Rattle.parts.specs.Parts.{firstPart, descriptorPart, partOf};
+use compare::Line;
+use layout::Header;
+use words::Order;
+
+// The first 32 bytes; none of fewer.
+fn first_part(s: &[u8]) -> &[u8]
+    ensures { λ r. ⌜ now r ≡ firstPart (now (s .entry)) ⌝ }
+{
+    if s.len() < 32 {
+        return &s[..0];
+    }
+    &s[0..32]
+}
+
+// The 32 bytes of descriptor k; none where the page has no such descriptor.
+fn descriptor_part(page: &[u8], k: u32) -> &[u8]
+    ensures { λ r. ⌜ now r ≡ descriptorPart (now (page .entry)) k ⌝ }
+{
+    let h = Header::read(page, Order::Little);
+    if h.returned <= k {
+        return &page[..0];
+    }
+    first_part(slices::tail(page, 32 + 32 * (k as usize)))
+}
+
+// The descriptor that a line speaks of, as part of the page that it came from, the newer if it is in both.
+pub fn part<'a>(older: &'a [u8], newer: &'a [u8], line: Line) -> &'a [u8]
+    ensures { λ r. ⌜ now r ≡ partOf (now (older .entry)) (now (newer .entry)) line ⌝ }
+{
+    match line {
+        Line::OnlyOlder(k) => descriptor_part(older, k),
+        Line::OnlyNewer(k) => descriptor_part(newer, k),
+        Line::Changed(at) => descriptor_part(newer, at.newer),
+    }
+}

@@ -1,0 +1,2 @@
+-- What is proved of `registers`' definitions, and of its functions.
+pub mod Fields

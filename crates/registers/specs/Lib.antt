@@ -1,0 +1,2 @@
+-- The words of a command's registers.
+pub mod Registers
