@@ -1,3 +1,4 @@
 -- What is proved of `reach`'s definitions, and of its functions.
 pub mod Bounds
+pub mod Cut
 pub mod Once

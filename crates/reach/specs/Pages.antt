@@ -23,7 +23,7 @@ elementAt s k = descriptorAt Little s k
 
 -- ## How far
 
--- "If a page was cut short (N above returned)": to its last identifier. An accepted one has 16p - 1 descriptors, so there is a last.
+-- "If a page was cut short (N above returned)": to its last identifier, which an accepted one has (specs/Promises, `Cut-bounds`)
 unfoldable pub reachOf : List ℕ → Bound
 reachOf s =
     let h = headerIn Little s in

@@ -1,0 +1,2 @@
+-- Demand 3, from the lent making on.
+pub mod Starts

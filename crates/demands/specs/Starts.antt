@@ -1,0 +1,21 @@
+-- "From any accepted table": of the making from the caller's own list, whatever was lent. A run that starts with it is a run of demand 3
+-- (history/specs/Demand3).
+use Prim.Native.Nat.{ℕ}
+use mathlib.Core.Bool.{true}
+use mathlib.Core.List.{List}
+use mathlib.Core.Path.{_≡_}
+use lib.ListN.{length}
+use Rattle.calls.specs.Offered.{offerOf, madeFrom}
+use Rattle.device.specs.declared.Device.{Device}
+use Rattle.history.specs.Starts.{Made-of}
+use Rattle.offer.specs.Check.{good}
+use Rattle.offer.specs.declared.Element.{Element}
+use Rattle.paper.specs.Answers.{numberOf}
+use Rattle.paper.specs.Told.{said}
+use Rattle.paper.specs.declared.Answer.{Answer}
+
+-- 0 is answered exactly to the lists that document 01 accepts, and whoever is answered 0 has such a device
+abbrev pub Listed-starts : Type 0
+Listed-starts =
+    (there : Device) (es : List Element) (limit : ℕ) (a : Answer) (d : Device) → said a d ≡ madeFrom there es limit
+    → (numberOf a ≡ 0 → (good (length es) es limit ≡ true) × Made-of (offerOf es limit) d) × (good (length es) es limit ≡ true → numberOf a ≡ 0)

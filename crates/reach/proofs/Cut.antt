@@ -1,0 +1,43 @@
+-- A page that was cut bounds the comparison at an identifier (specs/Promises).
+use Prim.Native.Nat.{ℕ, zero, suc, _≤_, _<_}
+use mathlib.Core.Bool.{Bool, true, false}
+use mathlib.Core.List.{List}
+use mathlib.Core.Path.{_≡_, refl, _∙_}
+use native.Mathlib.Nat.{min-eq-left, min-eq-right}
+use native.Mathlib.Omega.{arith}
+use lib.Dec.{leb}
+use borrow.Author.Tests.{lt-ltb, leb-true, leb-false, eqb-true}
+use Rattle.layout.specs.Bytes.{headerIn, roomOf}
+use Rattle.offences.specs.Checks.{lastBefore}
+use Rattle.reader.proofs.Taken.{Taken, taken}
+use Rattle.request.specs.Requests.{pagesOf}
+use Rattle.request.specs.declared.Request.{Request}
+use Rattle.words.specs.declared.Order.the-variants.{Little}
+use Rattle.reach.specs.Opening.{accepted}
+use Rattle.reach.specs.Pages.{reachOf}
+use Rattle.reach.specs.Promises.{Cut-bounds}
+
+module _ (s : List ℕ) (q : Request) (page : Taken Little s q) (cut : headerIn Little s .returned < headerIn Little s .number) where
+  abbrev returned : ℕ
+  returned = headerIn Little s .returned
+
+  full : (b : Bool) → leb (roomOf (pagesOf q)) (headerIn Little s .number) ≡ b → returned ≡ roomOf (pagesOf q)
+  full true e = page .returned ∙ min-eq-right (leb-true _ _ e)
+  full false e =
+      let few : headerIn Little s .number < roomOf (pagesOf q) = leb-false _ _ e in
+      let all : returned ≡ headerIn Little s .number = page .returned ∙ min-eq-left (omega (arith, few)) in
+      absurd (omega (arith, all, cut))
+
+  -- the last descriptor has an identifier
+  last : (n : ℕ) → n ≡ returned → 1 ≤ n → 1 ≤ lastBefore Little s n
+  last zero e some = absurd (omega (arith, some))
+  last (suc k) e some = page .list k (omega (arith, e)) .some
+
+  some : 1 ≤ returned
+  some = omega (arith, full (leb (roomOf (pagesOf q)) (headerIn Little s .number)) refl, page .asked .2)
+
+pub cut-bounds : Cut-bounds
+unfolding accepted reachOf
+cut-bounds s q ok cut =
+    let page : Taken Little s q = taken Little s q (eqb-true _ _ ok) in
+    (full s q page cut _ refl, (_, rw (lt-ltb _ _ cut), last s q page cut (headerIn Little s .returned) refl (some s q page cut)))
