@@ -6,6 +6,7 @@ use lib.ListN.{replicate, take, drop}
 use Rattle.cells.specs.Cells.{isSet}
 use Rattle.cells.specs.Sights.{seeIn}
 use Rattle.device.specs.declared.Device.{Device}
+use Rattle.layout.specs.Examples.{zeros, pageG1}
 use Rattle.making.specs.Examples.{deviceA, run, remove, steps}
 use Rattle.making.specs.Making.{fresh}
 use Rattle.offer.specs.Elements.{blank}
@@ -27,9 +28,6 @@ request feature count lba = record { feature = feature; count = record { 0 = cou
 abbrev old : ℕ → List ℕ
 old n = replicate n 0xA5
 
-abbrev zeros : ℕ → List ℕ
-zeros n = replicate n 0
-
 -- a header of small numbers, and a descriptor of G1's element
 abbrev header : ℕ → ℕ → List ℕ → ℕ → List ℕ
 header number returned busy removed = (number ∷ zeros 3) ++ (returned ∷ zeros 3) ++ busy ++ (2 ∷ 0 ∷ removed ∷ zeros 17)
@@ -38,7 +36,7 @@ abbrev descriptor : ℕ → List ℕ
 descriptor health = zeros 4 ++ (0x03 ∷ 0x00 ∷ 0x01 ∷ 0x00 ∷ zeros 6) ++ (0x01 ∷ health ∷ 0xF4 ∷ 0x01 ∷ zeros 14)
 
 -- five bytes more than a page are lent, and stay
-pub G1 : shown deviceA Unlocked (request 0x4100 1 0) (old 517) ≡ tells 0 (header 1 1 (zeros 4) 0 ++ descriptor 0x70 ++ zeros 448 ++ old 5)
+pub G1 : shown deviceA Unlocked (request 0x4100 1 0) (old 517) ≡ tells 0 (pageG1 ++ old 5)
 unfolding shownOf asks listOf pageOf refused takesHealth
 G1 = refl
 

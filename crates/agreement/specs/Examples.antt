@@ -7,6 +7,7 @@ use lib.Dec.{eqb}
 use lib.ListN.{replicate}
 use Rattle.device.specs.Machine.{Event, command, step, mediaError, powerCut, comreset, hardwareReset, softwareReset, grade}
 use Rattle.device.specs.declared.Device.{Device}
+use Rattle.layout.specs.Examples.{zeros, pageG1}
 use Rattle.making.specs.Examples.{registers, Row, row, rows, holds, run, deviceA, asBuilt}
 use Rattle.paper.specs.declared.Security.the-variants.{Unlocked}
 use Rattle.status.specs.Lent.{lent}
@@ -49,14 +50,11 @@ abbrev pub get : ℕ → ℕ → ℕ → ℕ → List ℕ → Example
 get feature count lba number bytes =
     record { line = row deviceA [] (command Unlocked (registers 0x12 feature count lba) 512) number 2999 asBuilt false false; before = old; after = bytes }
 
-abbrev pub zeros : ℕ → List ℕ
-zeros n = replicate n 0
-
 abbrev pub examples : List Example
 examples =
     map unlent rows
     -- G1: "one descriptor, 0001_0003h; its bytes 4..7 are 03 00 01 00, 16..17 are F4 01"
-    ++ (get 0x4100 1 0 0 ((1 ∷ zeros 3) ++ (1 ∷ zeros 7) ++ (2 ∷ zeros 23) ++ (0x03 ∷ 0x00 ∷ 0x01 ∷ 0x00 ∷ zeros 6) ++ (0x01 ∷ 0x70 ∷ 0xF4 ∷ 0x01 ∷ zeros 462))
+    ++ (get 0x4100 1 0 0 pageG1
     -- G2: "N = 0, only byte 12 (02h) non-zero"
     ∷ get 0x4100 1 0x1_0000_0000 0 (zeros 12 ++ (0x02 ∷ zeros 499))
     -- G3, G4

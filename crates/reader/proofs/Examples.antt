@@ -4,7 +4,8 @@ use mathlib.Core.Bool.{Bool, true, false}
 use mathlib.Core.List.{List, [], _∷_, _++_}
 use mathlib.Core.Path.{_≡_, refl}
 use lib.Dec.{eqb}
-use lib.ListN.{replicate, set, take}
+use lib.ListN.{set, take}
+use Rattle.layout.specs.Examples.{zeros, headerG1, elementG1, frontG1, pageG1}
 use Rattle.paper.specs.Told.{tells}
 use Rattle.request.specs.Requests.{refused, takesHealth}
 use Rattle.request.specs.declared.Request.{Request}
@@ -16,22 +17,11 @@ use Rattle.reader.specs.declared.Slot.the-variants.{Outside, Holds}
 abbrev request : ℕ → ℕ → ℕ → Request
 request feature count lba = record { feature = feature; count = record { 0 = count }; lba = record { 0 = lba } }
 
-abbrev zeros : ℕ → List ℕ
-zeros n = replicate n 0
-
--- header and descriptor
-abbrev front : List ℕ
-front = (1 ∷ zeros 3) ++ (1 ∷ zeros 7) ++ (2 ∷ zeros 23) ++ (0x03 ∷ 0x00 ∷ 0x01 ∷ 0x00 ∷ zeros 6) ++ (0x01 ∷ 0x70 ∷ 0xF4 ∷ 0x01 ∷ zeros 14)
-
-abbrev g1 : List ℕ
-g1 = front ++ zeros 448
-
-G1-read : readOf Little g1 (request 0x4100 1 0) ≡ tells 0 (header (record { number = 1; returned = 1; busy = record { 0 = 0 }; limit = 2; removed = 0 }))
+G1-read : readOf Little pageG1 (request 0x4100 1 0) ≡ tells 0 (header headerG1)
 unfolding refused takesHealth
 G1-read = refl
 
-G1-slots : (slotOf Little g1 0 ≡ Holds (record { id = record { 0 = 0x0001_0003 }; restorable = false; kind = 1; health = 0x70; capacity = 500 }))
-    × (slotOf Little g1 1 ≡ Outside)
+G1-slots : (slotOf Little pageG1 0 ≡ Holds elementG1) × (slotOf Little pageG1 1 ≡ Outside)
 G1-slots = (refl, refl)
 
 -- ## A byte or two changed, or another request
@@ -50,23 +40,23 @@ refusedAt p s = refusedFor (request 0x4100 1 0) p s
 
 tried : all (λ (b : Bool). b)
     -- a request due 4, a length that is not 512p, a returned number that is not the smaller
-    (refusedFor (request 0x8000 1 0) 0 g1
-    ∷ refusedFor (request 0x4100 0 0) 0 g1
-    ∷ refusedFor (request 0x4100 2 0) 0 g1
-    ∷ refusedAt 0 (take 511 g1)
-    ∷ refusedAt 4 (set g1 4 0)
-    ∷ refusedAt 4 (set g1 0 2)
+    (refusedFor (request 0x8000 1 0) 0 pageG1
+    ∷ refusedFor (request 0x4100 0 0) 0 pageG1
+    ∷ refusedFor (request 0x4100 2 0) 0 pageG1
+    ∷ refusedAt 0 (take 511 pageG1)
+    ∷ refusedAt 4 (set pageG1 4 0)
+    ∷ refusedAt 4 (set pageG1 0 2)
     -- identifier 0 and below the start; the bit unearned; type and health
-    ∷ refusedAt 36 (set (set g1 36 0) 38 0)
-    ∷ refusedFor (request 0x4100 1 0x0001_0004) 36 g1
-    ∷ refusedAt 45 (set g1 45 1)
-    ∷ refusedAt 46 (set g1 46 2)
-    ∷ refusedAt 47 (set g1 47 0x64)
+    ∷ refusedAt 36 (set (set pageG1 36 0) 38 0)
+    ∷ refusedFor (request 0x4100 1 0x0001_0004) 36 pageG1
+    ∷ refusedAt 45 (set pageG1 45 1)
+    ∷ refusedAt 46 (set pageG1 46 2)
+    ∷ refusedAt 47 (set pageG1 47 0x64)
     -- the first of several
-    ∷ refusedAt 45 (set (set (set g1 45 1) 46 2) 511 7)
-    ∷ refusedAt 47 (set (set g1 47 0) 64 9)
+    ∷ refusedAt 45 (set (set (set pageG1 45 1) 46 2) 511 7)
+    ∷ refusedAt 47 (set (set pageG1 47 0) 64 9)
     -- in the other order N is 0100_0000h
-    ∷ isAt 4 (readOf Big g1 (request 0x4100 1 0) .state)
+    ∷ isAt 4 (readOf Big pageG1 (request 0x4100 1 0) .state)
     ∷ []) ≡ true
 unfolding refused takesHealth
 tried = refl
@@ -74,11 +64,11 @@ tried = refl
 -- ## Read to the last byte
 
 -- padding is looked at
-padding : readOf Little (front ++ zeros 447 ++ (7 ∷ [])) (request 0x4100 1 0) .state ≡ place 511
+padding : readOf Little (frontG1 ++ zeros 447 ++ (7 ∷ [])) (request 0x4100 1 0) .state ≡ place 511
 unfolding refused takesHealth
 padding = refl
 
 -- reserved bytes are not
-reserved : readOf Little (set (set front 16 7) 45 2 ++ zeros 448) (request 0x4100 1 0) .number ≡ 0
+reserved : readOf Little (set (set frontG1 16 7) 45 2 ++ zeros 448) (request 0x4100 1 0) .number ≡ 0
 unfolding refused takesHealth
 reserved = refl
