@@ -5,7 +5,7 @@ use native.Mathlib.Omega.{arith}
 use lib.Dec.{eqb}
 use lib.ListN.{length}
 use borrow.Author.Tests.{ne-eqb, eqb-true}
-use Rattle.device.proofs.EveryCall.{refusal-leaves}
+use Rattle.conduct.proofs.EveryCall.{refusal-leaves}
 use Rattle.device.specs.Machine.{command, told}
 use Rattle.request.specs.Requests.{asked}
 use Rattle.status.proofs.EveryPage.{refusal-leaves-bytes}

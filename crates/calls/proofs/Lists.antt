@@ -9,7 +9,7 @@ use lib.Dec.{leb}
 use lib.ListN.{length, take, replicate, length-map}
 use lib.Seq.{take-all, take-at}
 use borrow.Author.Tests.{leb-true, leb-false, le-leb, lt-leb}
-use Rattle.device.specs.Promises.{Leaves}
+use Rattle.conduct.specs.Promises.{Leaves}
 use Rattle.making.specs.Making.{fresh, madeOf}
 use Rattle.offer.proofs.Laws.{good-count}
 use Rattle.offer.specs.Check.{good, checkOf}

@@ -2,7 +2,7 @@
 use mathlib.Core.Path.{_≡_, sym, _∙_}
 use lib.ListN.{length}
 use borrow.Author.Tests.{ne-eqb}
-use Rattle.device.proofs.EveryCall.{one-answer}
+use Rattle.conduct.proofs.EveryCall.{one-answer}
 use Rattle.device.specs.Machine.{command, told}
 use Rattle.offer.proofs.Check.{verdict-injective}
 use Rattle.paper.proofs.Once.{number-injective, told-once}

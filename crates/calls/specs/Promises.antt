@@ -4,9 +4,9 @@ use mathlib.Core.Bool.{true}
 use mathlib.Core.List.{List, [], map}
 use mathlib.Core.Path.{_≡_}
 use lib.ListN.{length, take}
+use Rattle.conduct.specs.Promises.{One-answer, Leaves, Refusal-leaves}
 use Rattle.device.specs.Commands.{otherNumber}
 use Rattle.device.specs.Machine.{command, told}
-use Rattle.device.specs.Promises.{One-answer, Leaves, Refusal-leaves}
 use Rattle.device.specs.declared.Device.{Device}
 use Rattle.making.specs.Making.{madeOf}
 use Rattle.offer.specs.Check.{verdict, good}

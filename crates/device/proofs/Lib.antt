@@ -1,6 +1,2 @@
--- What is proved of the machine, and of the calls.
-pub mod EveryCall
-pub mod OneCell
-pub mod PowerCut
+-- What is proved of the calls.
 pub mod Rules
-pub mod Shapes

@@ -14,9 +14,9 @@ use Rattle.cells.specs.declared.Note.the-variants.{Empty, Full}
 use Rattle.cells.specs.declared.Note.{Note}
 use Rattle.cells.specs.declared.Position.{Position}
 use Rattle.cells.specs.declared.Store.{Store}
+use Rattle.conduct.specs.Promises.{But-position}
 use Rattle.device.specs.Commands.{mediaNumber, otherNumber}
 use Rattle.device.specs.Machine.{Event, command, step, mediaError, powerCut, comreset, hardwareReset, softwareReset, grade, rule, told}
-use Rattle.device.specs.Promises.{But-position}
 use Rattle.device.specs.declared.Device.{Device}
 use Rattle.paper.specs.Elements.{removedHealth, gradedHealth}
 use Rattle.paper.specs.Registers.{Registers, low48}

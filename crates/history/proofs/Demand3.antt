@@ -1,7 +1,7 @@
 -- Demand 3, put together.
 use mathlib.Core.Path.{_≡_}
 use Rattle.cells.specs.declared.Note.the-variants.{Empty}
-use Rattle.device.proofs.OneCell.{at-most-one-cell}
+use Rattle.conduct.proofs.OneCell.{at-most-one-cell}
 use Rattle.device.specs.Machine.{step}
 use Rattle.history.specs.Demand3.{Brought-about, Demand-3}
 use Rattle.history.specs.Runs.{_▸_, _▸▸_, after}

@@ -9,20 +9,20 @@ use lib.ListN.{length, getD, set, length-set}
 use borrow.Author.Tests.{eqb-true, eq-eqb, ne-eqb, leb-true}
 use Rattle.cells.specs.Rulings.{Ruled, goes}
 use Rattle.cells.specs.Sights.{gone}
-use Rattle.device.proofs.Shapes.{Kind, Standing, Shape, quiet, clears, notes, advances, winds, Grading, refuses, grades, each}
-use Rattle.device.specs.Machine.{Event, command, step, mediaError, powerCut, comreset, hardwareReset, softwareReset, grade, rule}
-use Rattle.device.specs.Record.{healthAt, carriedOut, see, woundUp, storeAt}
-use Rattle.steps.specs.Steps.{nextOf}
-use Rattle.device.specs.declared.Device.{Device}
 use Rattle.cells.specs.declared.Note.the-variants.{Empty, Full}
 use Rattle.cells.specs.declared.Note.{Note}
 use Rattle.cells.specs.declared.Position.the-variants.{Work1, Work2, Work3, Work4, Work5, Wind1, Wind2, Wind3, Wind4}
 use Rattle.cells.specs.declared.Position.{Position}
 use Rattle.cells.specs.declared.Removal.{Removal}
 use Rattle.cells.specs.declared.Store.the-variants.{Nothing, Marked}
+use Rattle.conduct.proofs.Shapes.{Kind, Standing, Shape, quiet, clears, notes, advances, winds, Grading, refuses, grades, each}
+use Rattle.device.specs.Machine.{Event, command, step, mediaError, powerCut, comreset, hardwareReset, softwareReset, grade, rule}
+use Rattle.device.specs.Record.{healthAt, carriedOut, see, woundUp, storeAt}
+use Rattle.device.specs.declared.Device.{Device}
 use Rattle.paper.specs.Elements.{removedHealth}
 use Rattle.paper.specs.declared.ElementId.{ElementId}
 use Rattle.paper.specs.declared.Lba.{Lba}
+use Rattle.steps.specs.Steps.{nextOf}
 use Rattle.table.specs.Elements.{identifiers, size, identifierAt, ascending}
 use Rattle.table.specs.declared.Table.{Table}
 use Rattle.history.specs.Ledger.{markedBy, marked, acceptedBy, accepted, addressBy, address, gradedBy, gradeIn}

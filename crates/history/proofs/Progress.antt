@@ -5,11 +5,6 @@ use mathlib.Core.Path.{_≡_, refl, sym, ap, _∙_, subst, subst⁻¹}
 use native.Mathlib.Omega.{arith}
 use Rattle.cells.specs.Cells.{make}
 use Rattle.cells.specs.Rulings.{Ruled, goes}
-use Rattle.device.proofs.Shapes.{still, Shape, quiet, clears, notes, Grading, refuses, grades, each, marking-note}
-use Rattle.device.specs.Machine.{Event, command, step, mediaError, powerCut, comreset, hardwareReset, softwareReset, grade, rule, told}
-use Rattle.device.specs.Record.{carriedOut, see, storeAt, woundUp}
-use Rattle.steps.specs.Steps.{nextOf, ruleStep, ruleStop}
-use Rattle.device.specs.declared.Device.{Device}
 use Rattle.cells.specs.declared.Note.the-variants.{Empty, Full}
 use Rattle.cells.specs.declared.Note.{Note}
 use Rattle.cells.specs.declared.Position.the-variants.{Work1, Work2, Work3, Work4, Work5, Wind1, Wind2, Wind3, Wind4}
@@ -17,7 +12,12 @@ use Rattle.cells.specs.declared.Position.{Position}
 use Rattle.cells.specs.declared.Removal.{Removal}
 use Rattle.cells.specs.declared.Store.the-variants.{Marked, Noted}
 use Rattle.cells.specs.declared.Store.{Store}
+use Rattle.conduct.proofs.Shapes.{still, Shape, quiet, clears, notes, Grading, refuses, grades, each, marking-note}
+use Rattle.device.specs.Machine.{Event, command, step, mediaError, powerCut, comreset, hardwareReset, softwareReset, grade, rule, told}
+use Rattle.device.specs.Record.{carriedOut, see, storeAt, woundUp}
+use Rattle.device.specs.declared.Device.{Device}
 use Rattle.paper.specs.declared.ElementId.{ElementId}
+use Rattle.steps.specs.Steps.{nextOf, ruleStep, ruleStop}
 use Rattle.table.proofs.Ascending.{both}
 use Rattle.history.specs.Progress.{calm, steps, At, On-its-way, workStore, Five-steps, Fifth-ends, stops, Stop-winds, windStore, Four-steps, Fourth-ends}
 use Rattle.history.specs.Runs.{Script, begin, _▸_, _▸▸_, after}

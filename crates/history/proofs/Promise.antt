@@ -5,17 +5,17 @@ use mathlib.Core.Path.{_≡_, refl, sym, ap, _∙_}
 use borrow.Author.Tests.{eqb-true, le-leb, leb-true}
 use Rattle.cells.specs.Cells.{make, isSet}
 use Rattle.cells.specs.Sights.{gone}
-use Rattle.device.proofs.PowerCut.{stop-keeps-cells}
-use Rattle.device.specs.Machine.{rule, powerCut}
-use Rattle.device.specs.Record.{healthAt, see}
-use Rattle.steps.specs.Steps.{ruleStop}
 use Rattle.cells.specs.declared.Cells.{Cells}
-use Rattle.device.specs.declared.Device.{Device}
 use Rattle.cells.specs.declared.Note.the-variants.{Empty, Full}
 use Rattle.cells.specs.declared.Note.{Note}
 use Rattle.cells.specs.declared.Store.the-variants.{Nothing, NativeTo, AccessibleTo, Marked, Graded, FailedTo, Noted, NoteEmptied}
 use Rattle.cells.specs.declared.Store.{Store}
+use Rattle.conduct.proofs.PowerCut.{stop-keeps-cells}
+use Rattle.device.specs.Machine.{rule, powerCut}
+use Rattle.device.specs.Record.{healthAt, see}
+use Rattle.device.specs.declared.Device.{Device}
 use Rattle.paper.specs.Elements.{removedHealth, gradedHealth}
+use Rattle.steps.specs.Steps.{ruleStop}
 use Rattle.table.specs.Elements.{size, identifierAt}
 use Rattle.history.specs.Ledger.{marked, firstAddress, failedBy, failedIn}
 use Rattle.history.specs.Promise.{Promise, Kept-by-runs}

@@ -7,8 +7,8 @@ use mathlib.Core.Bool.{true}
 use mathlib.Core.Path.{_≡_}
 use Rattle.cells.specs.declared.Note.the-variants.{Empty, Full}
 use Rattle.cells.specs.declared.Removal.{Removal}
+use Rattle.conduct.specs.Promises.{At-most-one-cell}
 use Rattle.device.specs.Machine.{Event, step}
-use Rattle.device.specs.Promises.{At-most-one-cell}
 use Rattle.device.specs.declared.Device.{Device}
 use Rattle.history.specs.Progress.{calm, steps, Acceptance, Noting-store, Marking-store, Setting-store, Five-steps, Fifth-ends, stops, Stop-winds, Four-steps, Fourth-ends}
 use Rattle.history.specs.Promise.{Promise, Kept-by-runs}

@@ -4,8 +4,8 @@ use mathlib.Core.List.{List, [], _∷_}
 use mathlib.Core.Path.{_≡_}
 use Rattle.cells.specs.declared.Note.the-variants.{Empty}
 use Rattle.cells.specs.declared.Store.{Store}
+use Rattle.conduct.specs.Promises.{But-position}
 use Rattle.device.specs.Machine.{Event, command, step, mediaError, powerCut, comreset, hardwareReset, softwareReset, grade, rule, told}
-use Rattle.device.specs.Promises.{But-position}
 use Rattle.device.specs.declared.Device.{Device}
 use Rattle.paper.specs.Answers.{numberOf}
 use Rattle.paper.specs.Told.{said}
@@ -16,7 +16,7 @@ infixl 20 _▸_
 infixl 20 _▹_
 infixl 20 _▸▸_
 -- "any sequence of commands, work steps, grades, media errors, resets and power cuts", the latest last. An event makes at most one store
--- (device/specs/Promises, `At-most-one-cell`), so "a cut after any single store included" is a cut after any event.
+-- (conduct/specs/Promises, `At-most-one-cell`), so "a cut after any single store included" is a cut after any event.
 pub data Script : Type 0 where
   begin : Script
   _▸_ : Script → Event → Script

@@ -4,7 +4,7 @@ use mathlib.Core.Bool.{Bool, true, false, cond}
 use mathlib.Core.Path.{_≡_, refl, ap, _∙_}
 use native.Mathlib.Omega.{arith}
 use lib.ListN.{length}
-use Rattle.device.specs.Promises.{Leaves, Tidy}
+use Rattle.conduct.specs.Promises.{Leaves, Tidy}
 use Rattle.device.specs.declared.Device.{Device}
 use Rattle.offer.proofs.Laws.{good-ascending, good-count}
 use Rattle.offer.proofs.Splits.{split-past, built-ids}

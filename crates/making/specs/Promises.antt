@@ -2,7 +2,7 @@
 use mathlib.Core.Bool.{true}
 use mathlib.Core.Path.{_≡_}
 use lib.ListN.{length}
-use Rattle.device.specs.Promises.{Leaves, Tidy}
+use Rattle.conduct.specs.Promises.{Leaves, Tidy}
 use Rattle.device.specs.declared.Device.{Device}
 use Rattle.offer.specs.declared.Offer.{Offer}
 use Rattle.paper.specs.Told.{said}

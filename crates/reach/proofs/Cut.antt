@@ -40,4 +40,7 @@ pub cut-bounds : Cut-bounds
 unfolding accepted reachOf
 cut-bounds s q ok cut =
     let page : Taken Little s q = taken Little s q (eqb-true _ _ ok) in
-    (full s q page cut _ refl, (_, rw (lt-ltb _ _ cut), last s q page cut (headerIn Little s .returned) refl (some s q page cut)))
+    let n : ℕ = headerIn Little s .returned in (
+      full s q page cut (leb (roomOf (pagesOf q)) (headerIn Little s .number)) refl,
+      (record { 0 = lastBefore Little s n }, rw (lt-ltb n (headerIn Little s .number) cut), last s q page cut n refl (some s q page cut)),
+    )

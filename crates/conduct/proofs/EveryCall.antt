@@ -15,16 +15,16 @@ use Rattle.cells.specs.declared.Position.{Position}
 use Rattle.cells.specs.declared.Removal.{Removal}
 use Rattle.cells.specs.declared.Seen.{Seen}
 use Rattle.cells.specs.declared.Store.the-variants.{Nothing, Marked}
+use Rattle.device.specs.Record.{carriedOut, tell, see, storeAt}
+use Rattle.device.specs.declared.Device.{Device}
 use Rattle.paper.proofs.Once.{told-once}
 use Rattle.paper.specs.declared.ElementId.{ElementId}
 use Rattle.steps.specs.Steps.{marking, nextOf}
 use Rattle.table.proofs.Search.{hits-there}
 use Rattle.table.specs.Elements.{identifiers}
 use Rattle.table.specs.Search.{sightIn}
-use Rattle.device.specs.Promises.{One-answer, Leaves, Refusal-leaves, Keeps-table, Tidy, Keeps-tidy, Ends-at-rest}
-use Rattle.device.specs.Record.{carriedOut, tell, see, storeAt}
-use Rattle.device.specs.declared.Device.{Device}
-use Rattle.device.proofs.Shapes.{Kind, Shape, quiet, clears, notes, advances, winds, Grading, refuses, grades, every, marking-note}
+use Rattle.conduct.specs.Promises.{One-answer, Leaves, Refusal-leaves, Keeps-table, Tidy, Keeps-tidy, Ends-at-rest}
+use Rattle.conduct.proofs.Shapes.{Kind, Shape, quiet, clears, notes, advances, winds, Grading, refuses, grades, every, marking-note}
 
 -- ## No second answer
 

@@ -5,11 +5,11 @@ use Rattle.cells.specs.declared.Cells.{Cells}
 use Rattle.cells.specs.declared.Note.the-variants.{Empty, Full}
 use Rattle.cells.specs.declared.Note.{Note}
 use Rattle.cells.specs.declared.Position.the-variants.{Wind1}
+use Rattle.device.specs.Record.{carriedOut, tell}
+use Rattle.device.specs.declared.Device.{Device}
 use Rattle.paper.specs.Told.{tells}
 use Rattle.steps.specs.Steps.{ruleStop}
-use Rattle.device.specs.Promises.{Stop-keeps-cells, Reset-changes-nothing, Cut-forgets}
-use Rattle.device.specs.Record.{carriedOut, tell}
-use Rattle.device.specs.declared.Device.{Device}
+use Rattle.conduct.specs.Promises.{Stop-keeps-cells, Reset-changes-nothing, Cut-forgets}
 
 pub reset-changes-nothing : Reset-changes-nothing
 reset-changes-nothing d = (refl, refl, refl)

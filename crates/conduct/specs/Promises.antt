@@ -8,13 +8,13 @@ use Rattle.cells.specs.declared.Note.the-variants.{Empty, Full}
 use Rattle.cells.specs.declared.Note.{Note}
 use Rattle.cells.specs.declared.Position.the-variants.{Work1}
 use Rattle.cells.specs.declared.Removal.{Removal}
+use Rattle.device.specs.Machine.{Event, mediaError, powerCut, comreset, hardwareReset, softwareReset, told}
+use Rattle.device.specs.Record.{healthAt, tell}
+use Rattle.device.specs.declared.Device.{Device}
 use Rattle.paper.specs.Told.{Told, tells, said}
 use Rattle.paper.specs.declared.Answer.{Answer}
 use Rattle.paper.specs.declared.Lba.{Lba}
 use Rattle.table.specs.Elements.{blankPart}
-use Rattle.device.specs.Machine.{Event, mediaError, powerCut, comreset, hardwareReset, softwareReset, told}
-use Rattle.device.specs.Record.{healthAt, tell}
-use Rattle.device.specs.declared.Device.{Device}
 
 -- ## No second answer fits, and no second device: whatever is ruled, and so of every event
 

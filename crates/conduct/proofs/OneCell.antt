@@ -2,14 +2,14 @@
 use Prim.Native.Nat.{ℕ}
 use mathlib.Core.Path.{_≡_, refl, ap}
 use lib.Seq.{getD-set-other}
-use Rattle.device.specs.Machine.{rule}
-use Rattle.device.specs.Promises.{Cell, nativeMax, accessibleMax, failedMark, note, health, healthIs, cellOf, At-most-one-cell}
-use Rattle.device.specs.Record.{carriedOut}
-use Rattle.device.specs.declared.Device.{Device}
 use Rattle.cells.specs.Rulings.{Ruled}
 use Rattle.cells.specs.declared.Position.{Position}
 use Rattle.cells.specs.declared.Store.the-variants.{Nothing, NativeTo, AccessibleTo, Marked, Graded, FailedTo, Noted, NoteEmptied}
 use Rattle.cells.specs.declared.Store.{Store}
+use Rattle.device.specs.Machine.{rule}
+use Rattle.device.specs.Record.{carriedOut}
+use Rattle.device.specs.declared.Device.{Device}
+use Rattle.conduct.specs.Promises.{Cell, nativeMax, accessibleMax, failedMark, note, health, healthIs, cellOf, At-most-one-cell}
 
 -- the cell that a store writes; one that writes none is given any
 abbrev written : Store → Cell

@@ -5,20 +5,7 @@ use mathlib.Core.Path.{_≡_, refl}
 use lib.Dec.{eqb}
 use Rattle.cells.specs.Cells.{make, isFull}
 use Rattle.cells.specs.Rulings.{Ruled, goes}
-use Rattle.paper.specs.Elements.{removedHealth, gradedHealth}
-use Rattle.paper.specs.Registers.{Registers, low48}
-use Rattle.paper.specs.Table12.{aborts}
-use Rattle.paper.specs.declared.ElementId.{ElementId}
-use Rattle.paper.specs.declared.Lba.{Lba}
-use Rattle.paper.specs.declared.Security.{Security}
-use Rattle.table.specs.Elements.{isStorage}
-use Rattle.device.specs.Machine.{Event, command, step, mediaError, powerCut, comreset, hardwareReset, softwareReset, grade, rule}
-use Rattle.removal.specs.Remove.{identifierOf, limitMet, tooSmall, tooHigh, removalOf, judgeRoom, judgeFound, ruleRemove}
-use Rattle.steps.specs.Steps.{marking, nextOf, ruleStep, ruleStop, gradeSeen, ruleGrade}
-use Rattle.paper.specs.declared.Command.the-variants.{Remove}
 use Rattle.cells.specs.declared.Cells.{Cells}
-use Rattle.device.specs.Record.{underWay, removedNumber, says, see, storeAt}
-use Rattle.device.specs.declared.Device.{Device}
 use Rattle.cells.specs.declared.Mark.the-variants.{Clear}
 use Rattle.cells.specs.declared.Note.the-variants.{Empty, Full}
 use Rattle.cells.specs.declared.Note.{Note}
@@ -26,6 +13,19 @@ use Rattle.cells.specs.declared.Position.the-variants.{Work1, Wind1}
 use Rattle.cells.specs.declared.Removal.{Removal}
 use Rattle.cells.specs.declared.Seen.{Seen}
 use Rattle.cells.specs.declared.Store.the-variants.{Nothing, Marked, Graded, FailedTo, Noted}
+use Rattle.device.specs.Machine.{Event, command, step, mediaError, powerCut, comreset, hardwareReset, softwareReset, grade, rule}
+use Rattle.device.specs.Record.{underWay, removedNumber, says, see, storeAt}
+use Rattle.device.specs.declared.Device.{Device}
+use Rattle.paper.specs.Elements.{removedHealth, gradedHealth}
+use Rattle.paper.specs.Registers.{Registers, low48}
+use Rattle.paper.specs.Table12.{aborts}
+use Rattle.paper.specs.declared.Command.the-variants.{Remove}
+use Rattle.paper.specs.declared.ElementId.{ElementId}
+use Rattle.paper.specs.declared.Lba.{Lba}
+use Rattle.paper.specs.declared.Security.{Security}
+use Rattle.removal.specs.Remove.{identifierOf, limitMet, tooSmall, tooHigh, removalOf, judgeRoom, judgeFound, ruleRemove}
+use Rattle.steps.specs.Steps.{marking, nextOf, ruleStep, ruleStop, gradeSeen, ruleGrade}
+use Rattle.table.specs.Elements.{isStorage}
 
 -- commands and resets; steps; errors and cuts
 pub data Kind : Type 0 where

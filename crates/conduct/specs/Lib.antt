@@ -1,0 +1,2 @@
+-- What holds of every event at once.
+pub mod Promises
