@@ -119,9 +119,11 @@ fn judge(
 pub fn other_answer(d: Device, code: u8, feature: u16, count: u16, lba: Lba) -> Answer
     ensures { λ r. ⌜ numberOf r ≡ otherNumber d (record { code = code; feature = feature; count = count; lba = lba }) ⌝ }
 {
-    let busy = d.is_under_way();
-    let failed = d.is_failed();
     let cells = d.cells;
+    let note = cells.note;
+    let mark = cells.failed;
+    let busy = note.is_full();
+    let failed = mark.is_set();
     let accessible = cells.accessible;
     judge(busy, failed, accessible, code, feature, count, lba)
 }
@@ -153,9 +155,11 @@ fn quiet_answer(
     if code == 0x12 {
         return request::judge(security, asked(feature, count, lba), room);
     }
-    let busy = d.is_under_way();
-    let failed = d.is_failed();
     let cells = d.cells;
+    let note = cells.note;
+    let mark = cells.failed;
+    let busy = note.is_full();
+    let failed = mark.is_set();
     let accessible = cells.accessible;
     judge(busy, failed, accessible, code, feature, count, lba)
 }

@@ -2,5 +2,4 @@
 pub mod Accepted
 pub mod Comparison
 pub mod EveryComparison
-pub mod Examples
 pub mod Lengths

@@ -1,14 +1,13 @@
 // The device by value: the table as built, the cells, the position. Each call rules on an answer, one store and the next position; carrying the
 // ruling out changes cells and position alone, and nothing else changes a device.
 ghost use mathlib.Core.Path.{_≡_};
-ghost use Rattle.cells.specs.Cells.{isSet};
 ghost use Rattle.cells.specs.Rulings.{ruled};
 ghost use Rattle.paper.specs.Answers.{numberOf};
 ghost use Rattle.paper.specs.Told.{said};
 ghost use Rattle.steps.specs.Steps.{ruleStop};
 ghost use Rattle.device.specs.Machine as machine;
 ghost use Rattle.device.specs.Machine.{told};
-ghost use Rattle.device.specs.Record.{underWay, says, tell};
+ghost use Rattle.device.specs.Record.{says, tell};
 use cells::Cells;
 use cells::Position;
 use cells::Ruling;
@@ -32,24 +31,6 @@ pub struct Stepped {
 }
 
 impl Device {
-    // Whether a removal is under way.
-    pub fn is_under_way(self) -> bool
-        ensures { λ r. ⌜ r ≡ underWay self ⌝ }
-    {
-        let cells = self.cells;
-        let note = cells.note;
-        note.is_full()
-    }
-
-    // Whether the failed mark is set.
-    pub fn is_failed(self) -> bool
-        ensures { λ r. ⌜ r ≡ isSet (self .cells .failed) ⌝ }
-    {
-        let cells = self.cells;
-        let mark = cells.failed;
-        mark.is_set()
-    }
-
     // The ruling's store made and its position taken: the one place where an event changes a device.
     fn carry_out(self, ruling: Ruling) -> Stepped
         ensures { λ r. ⌜ said (r .answer) (r .device) ≡ tell self (ruled ruling) ⌝ }

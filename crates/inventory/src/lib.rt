@@ -71,7 +71,8 @@ pub fn print_cells(d: Device) {
     let c = d.cells;
     let note = c.note;
     let position = d.position;
-    let failed = slices::bit(d.is_failed()) as u64;
+    let mark = c.failed;
+    let failed = slices::bit(mark.is_set()) as u64;
     let numbers = write_cells(c, t.limit).field(b" failed ", failed);
     let noted = write_note(numbers.word(b" note "), note).word(b" position ");
     print_line(write_position(noted, position));

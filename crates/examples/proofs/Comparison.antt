@@ -7,14 +7,14 @@ use lib.ListN.{length, replicate}
 use Rattle.changes.specs.Changes.{handed, olderOf, lineOf, lastLine}
 use Rattle.compare.proofs.Examples.{older, newer}
 use Rattle.compare.specs.Walk.{first, keyAt, agreeAt, stepAt, past, nextTo, nextOf, walk, walkFrom}
+use Rattle.comparison.proofs.Accepted.{by-walk}
+use Rattle.comparison.specs.Comparison.{comparisonOf, isAccepted, linesFrom}
 use Rattle.parts.specs.Parts.{descriptorPart}
 use Rattle.reach.specs.Opening.{Values, bound, accepted, judged}
 use Rattle.reach.specs.Pages.{countOf, elementAt, reachOf, boundOf}
 use Rattle.reach.specs.declared.Bound.the-variants.{Whole, UpTo}
 use Rattle.request.specs.Requests.{refused, takesHealth, requestFor}
 use Rattle.text.specs.Text.{ascii}
-use Rattle.comparison.specs.Comparison.{comparisonOf, isAccepted, linesFrom}
-use Rattle.comparison.proofs.Accepted.{by-walk}
 
 -- a page of 512 bytes
 abbrev padded : List ℕ → List ℕ

@@ -1,0 +1,2 @@
+-- The definitions, computed on small pages.
+pub mod Comparison

@@ -1,0 +1,1 @@
+// Examples of the definitions, computed in proofs/. There is no function here.
