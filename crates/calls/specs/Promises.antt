@@ -75,7 +75,7 @@ Long-list-refused =
     (d : Device) (es : List Element) (limit id : ℕ) → 128 < length es
     → (checkList es limit ≡ tells 8 []) × (findList id es ≡ Missing) × (madeFrom d es limit ≡ tells 8 d)
 
--- a device made of a list is the one made of its offer, from which demand 3 starts (history/specs/Starts)
+-- a device made of a list is the one made of its offer, from which demand 3 starts (demands/specs/Starts, `Listed-starts`)
 abbrev pub Made-alike : Type 0
 Made-alike = (d : Device) (es : List Element) (limit : ℕ) → madeFrom d es limit ≡ madeOf d (offerOf es limit)
 

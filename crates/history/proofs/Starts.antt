@@ -61,6 +61,9 @@ module _ (o : Offer) (full : length (o .elements) ≡ 128) (g : good (o .count) 
     healths = split-front o full few healthOf 0;
     count = refl;
     limit = refl;
+    rests = refl;
+    native-max = refl;
+    accessible-max = refl;
     first = refl;
     unmarked = λ id. gone-told (fresh o .table) (fresh-order o full g) (fresh o) refl (λ _. false) standing (record { 0 = id }) (λ q. absurd (false≢true q));
     sound = refl;

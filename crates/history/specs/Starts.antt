@@ -44,13 +44,16 @@ pub record Startable (d : Device) : Type 0 where
   pub healths : (place : ℕ) → place < size (d .table) → fit (healthAt d place) ≡ true
   pub begins : Begins d (d .cells .note)
 
--- a device that was made of a table: its elements, "the starting maximum address is the sum minus 1", nothing marked, no failed mark
+-- a device that was made of a table: its elements, "the starting maximum address is the sum minus 1", no note, nothing marked, no failed mark
 pub record Made-of (o : Offer) (d : Device) : Type 0 where
   pub startable : Startable d
   pub parts : live (d .table) ≡ map partOf (offered o)
   pub healths : take (d .table .count) (d .cells .healths) ≡ map healthOf (offered o)
   pub count : d .table .count ≡ o .count
   pub limit : d .table .limit ≡ o .limit
+  pub rests : d .cells .note ≡ Empty
+  pub native-max : d .cells .native .0 ≡ blockSum (offered o) - 1
+  pub accessible-max : d .cells .accessible .0 ≡ blockSum (offered o) - 1
   pub first : address d empty ≡ blockSum (offered o) - 1
   pub unmarked : (id : ℕ) → marked d empty id ≡ false
   pub sound : failedIn d empty ≡ false

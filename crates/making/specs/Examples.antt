@@ -45,8 +45,8 @@ R5 = cutAfter 2 4
 abbrev pub R6 : List Event
 R6 = cutAfter 3 4
 
--- from a device, after some events that are answered 0: the number that one more gets, and then both maxima, the healths, the failed mark, whether a removal
--- is under way
+-- from a device, after some events that are answered 0: the number that one more gets, and then both maxima, the healths, the failed mark,
+-- whether a removal is under way
 pub record Row : Type 0 where
   pub device : Device
   pub before : List Event

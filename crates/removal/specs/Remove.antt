@@ -1,4 +1,5 @@
--- Document 01, "REMOVE ELEMENT AND TRUNCATE (7Ch)": the checks in order. Differences are written as sums, so that none is cut off at 0.
+-- Document 01, "REMOVE ELEMENT AND TRUNCATE (7Ch)": the checks in order. Their differences are written as sums, so that
+-- none is cut off at 0; the new maximum's comes after check 6.
 use Prim.Native.Nat.{ℕ, _+_, _-_, _*_}
 use mathlib.Core.Bool.{Bool, cond, not, _&&_}
 use lib.Dec.{leb, ltb, eqb}
