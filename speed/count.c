@@ -14,10 +14,10 @@
 
 // ---- The cases
 
-enum call { STEP, MEDIA_ERROR, POWER_CUT, COMRESET, HARDWARE_RESET, SOFTWARE_RESET, REMOVE, GRADE, OTHER_ANSWER, COMMAND, SHOW };
+enum call { STEP, MEDIA_ERROR, POWER_CUT, COMRESET, HARDWARE_RESET, SOFTWARE_RESET, REMOVE, GRADE, COMMAND, SHOW };
 
-static const char *const names[] = {"step",   "media_error", "power_cut",    "comreset", "hardware_reset", "software_reset",
-                                    "remove", "grade",       "other_answer", "command",  "show"};
+static const char *const names[] = {"step",   "media_error", "power_cut", "comreset", "hardware_reset", "software_reset",
+                                    "remove", "grade",       "command",   "show"};
 
 enum { IDLE = -1 };
 enum which { NONE, FIRST, SECOND, LAST, UNKNOWN };
@@ -137,9 +137,6 @@ static int call_proved(enum call call, const struct asked *a, uint16_t count)
     case GRADE:
         calls_grade(&answer, &proved, &id, a->health);
         break;
-    case OTHER_ANSWER:
-        calls_other_answer(&answer, &proved, a->code, a->feature, count, &a->lba);
-        break;
     case COMMAND:
         calls_command(&answer, &proved, &security, a->code, a->feature, count, &a->lba, &buf);
         break;
@@ -162,8 +159,6 @@ static int call_plain(enum call call, const struct asked *a, uint16_t count)
         return plain_remove(&plain, a->security, a->feature, count, a->lba);
     case GRADE:
         return plain_grade(&plain, count, a->health);
-    case OTHER_ANSWER:
-        return plain_other_answer(&plain, a->code, a->feature, count, a->lba);
     case COMMAND:
         return plain_command(&plain, a->security, a->code, a->feature, count, a->lba, plain_page, a->room);
     case SHOW:

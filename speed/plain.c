@@ -232,7 +232,7 @@ static int is_named(uint8_t code)
     return code == 0xEC || code == 0xE1 || code == 0x2F || code == 0x47 || code == 0x0B || code == 0xF2 || code == 0xEF || code == 0xB0;
 }
 
-int plain_other_answer(const struct plain_device *d, uint8_t code, uint16_t feature, uint16_t count, uint64_t lba)
+static int other_answer(const struct plain_device *d, uint8_t code, uint16_t feature, uint16_t count, uint64_t lba)
 {
     if (d->under_way && !is_open(code, feature, lba))
         return 2;
@@ -253,5 +253,5 @@ int plain_command(struct plain_device *d, enum security security, uint8_t code, 
         return plain_remove(d, security, feature, count, lba);
     if (code == 0x12)
         return plain_show(d, feature, count, lba, buf, length);
-    return plain_other_answer(d, code, feature, count, lba);
+    return other_answer(d, code, feature, count, lba);
 }

@@ -32,7 +32,6 @@ int plain_power_cut(struct plain_device *d);
 int plain_reset(struct plain_device *d);
 int plain_remove(struct plain_device *d, enum security security, uint16_t feature, uint16_t count, uint64_t lba);
 int plain_grade(struct plain_device *d, uint32_t id, uint8_t health);
-int plain_other_answer(const struct plain_device *d, uint8_t code, uint16_t feature, uint16_t count, uint64_t lba);
 int plain_show(const struct plain_device *d, uint16_t feature, uint16_t pages, uint64_t start, uint8_t *page, size_t length);
 int plain_command(struct plain_device *d, enum security security, uint8_t code, uint16_t feature, uint16_t count, uint64_t lba,
                   uint8_t *buf, size_t length);

@@ -59,5 +59,4 @@ void calls_remove(uint8_t *answer, struct device *d, const uint8_t *security, ui
 void calls_grade(uint8_t *answer, struct device *d, const uint32_t *id, uint8_t health);
 void calls_command(uint8_t *answer, struct device *d, const uint8_t *security, uint8_t code, uint16_t feature, uint16_t count,
                    const uint64_t *lba, const struct buffer *buf);
-void calls_other_answer(uint8_t *answer, const struct device *d, uint8_t code, uint16_t feature, uint16_t count, const uint64_t *lba);
 void calls_show(uint8_t *answer, const struct device *d, const uint8_t *security, const struct request *request, const struct buffer *buf);

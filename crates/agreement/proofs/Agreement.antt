@@ -9,6 +9,10 @@ use lib.Dec.{ltb}
 use lib.ListN.{length, getD, take, drop, replicate, length-append, length-take, length-map, getD-replicate, List·getD-map}
 use lib.Seq.{drop-append-add, getD-append-add, getD-take}
 use borrow.Author.Tests.{lt-ltb, leb-true}
+use Rattle.cells.specs.declared.Note.the-variants.{Empty, Full}
+use Rattle.cells.specs.declared.Note.{Note}
+use Rattle.cells.specs.declared.Removal.{Removal}
+use Rattle.conduct.specs.Fits.{PartFits, Fits}
 use Rattle.device.specs.declared.Device.{Device}
 use Rattle.layout.proofs.Bytes.{header-back, descriptor-back}
 use Rattle.layout.specs.Bytes.{headerBytes, headerIn, descriptorIn, roomOf, returnedOf}
@@ -33,9 +37,9 @@ use Rattle.status.proofs.Page.{bytesOf, wide, shown-ids}
 use Rattle.status.specs.Page.{shownAt, shownAll, listOf, headerOf, pageOf}
 use Rattle.table.specs.Elements.{live, blankPart, identifiers, size, ascending, removedCount}
 use Rattle.table.specs.declared.Part.{Part}
-use Rattle.view.specs.Shown.{shownOf, asks}
+use Rattle.view.specs.Shown.{shownOf, asks, busyOf}
 use Rattle.words.specs.declared.Order.the-variants.{Little}
-use Rattle.agreement.specs.Agreement.{PartFits, Fits, Agrees}
+use Rattle.agreement.specs.Agreement.{Agrees}
 use Rattle.agreement.proofs.Lists.{before, ascending-at, after, flat-at}
 
 -- ## An element
@@ -47,6 +51,10 @@ capacity-fits false n h = h
 descriptor-fits : (p : Part) (h : ℕ) → PartFits p → h < 2 ^ 8 → DescriptorFits (shownOf p h)
 unfolding shownOf
 descriptor-fits p h f low = record { id = f .id; kind = f .kind; health = low; capacity = capacity-fits (p .unreported) (p .blocks) (f .blocks) }
+
+busy-fits : (n : Note) → ((w : Removal) → n ≡ Full w → w .element .0 < 2 ^ 32) → busyOf n < 2 ^ 32
+busy-fits Empty noted = omega arith
+busy-fits (Full w) noted = noted w refl
 
 few-removed : (hs : List ℕ) → removedCount hs ≤ length hs
 few-removed [] = omega arith
@@ -125,7 +133,7 @@ module _ (d : Device) (q : Request) (fits : Fits d) (asc : ascending 0 (identifi
       record {
         number = omega (arith, few);
         returned = omega (arith, few);
-        busy = fits .busy;
+        busy = busy-fits (d .cells .note) (fits .noted);
         limit = fits .limit;
         removed = omega (arith, removed, few-cells);
       }

@@ -1,14 +1,15 @@
 -- Demand 1 (specs/Promises): a refusal leaves the device, and every byte of the lent buffer.
 use mathlib.Core.Bool.{Bool, true, false, cond}
-use mathlib.Core.Path.{_≡_, refl, _∙_}
-use native.Mathlib.Omega.{arith}
+use mathlib.Core.Path.{_≡_, refl, ap, _∙_}
 use lib.Dec.{eqb}
 use lib.ListN.{length}
-use borrow.Author.Tests.{ne-eqb, eqb-true}
+use borrow.Author.Tests.{eqb-true}
 use Rattle.conduct.proofs.EveryCall.{refusal-leaves}
-use Rattle.device.specs.Machine.{command, told}
+use Rattle.device.specs.Machine.{command}
+use Rattle.device.specs.declared.Device.{Device}
+use Rattle.paper.specs.Told.{Told}
 use Rattle.request.specs.Requests.{asked}
-use Rattle.status.proofs.EveryPage.{refusal-leaves-bytes}
+use Rattle.status.proofs.EveryPage.{shown-alike, refusal-leaves-bytes}
 use Rattle.status.specs.Page.{shown}
 use Rattle.calls.specs.Promises.{Refusal-leaves-both, Demand-1}
 use Rattle.calls.proofs.Lists.{refused-list-leaves}
@@ -16,14 +17,8 @@ use Rattle.calls.proofs.Lists.{refused-list-leaves}
 refusal-leaves-both : Refusal-leaves-both
 refusal-leaves-both d s r buf n = (refusal-leaves d (command s r (length buf)) n, go (eqb (r .code) 0x12) refl)
   where
-    -- the number of 12h is the status call's
-    number : eqb (r .code) 0x12 ≡ true → told d (command s r (length buf)) .number ≡ shown d s (asked r) buf .number
-    number e =
-        let no-removal : r .code ≡ 0x7C → ⊥ = λ q. let is-12 : r .code ≡ 0x12 = eqb-true _ _ e in omega arith in
-        rw (ne-eqb (r .code) 0x7C no-removal, e)
-
     go : (b : Bool) → eqb (r .code) 0x12 ≡ b → cond b (shown d s (asked r) buf .state) buf ≡ buf
-    go true e = refusal-leaves-bytes d s (asked r) buf (λ z. n (number e ∙ z))
+    go true e = refusal-leaves-bytes d s (asked r) buf (λ z. n (ap (λ (t : Told Device). t .number) (shown-alike d s r buf (eqb-true _ _ e) .0) ∙ z))
     go false e = refl
 
 pub demand-1 : Demand-1

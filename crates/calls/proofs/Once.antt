@@ -1,14 +1,13 @@
--- No second answer fits a lent call, and the judgement is the front call's (specs/Promises).
+-- No second answer fits a lent call (specs/Promises).
 use mathlib.Core.Path.{_≡_, sym, _∙_}
 use lib.ListN.{length}
-use borrow.Author.Tests.{ne-eqb}
 use Rattle.conduct.proofs.EveryCall.{one-answer}
 use Rattle.device.specs.Machine.{command, told}
 use Rattle.offer.proofs.Check.{verdict-injective}
-use Rattle.paper.proofs.Once.{number-injective, told-once}
+use Rattle.paper.proofs.Once.{told-once}
 use Rattle.status.proofs.EveryPage.{one-page}
 use Rattle.calls.specs.Offered.{madeFrom}
-use Rattle.calls.specs.Promises.{One-command, One-fits, Judged-alike}
+use Rattle.calls.specs.Promises.{One-command, One-fits}
 
 one-command : One-command
 one-command d s r buf a b x y u v p q =
@@ -20,12 +19,8 @@ one-fits =
     record {
       changing = one-answer;
       command = one-command;
-      judging = λ d r a b p q. number-injective a b (p ∙ sym q);
       showing = one-page;
       checking = λ es limit a b p q. verdict-injective a b (p ∙ sym q);
       finding = λ es id a b p q. p ∙ sym q;
       making = λ d es limit. told-once (madeFrom d es limit);
     }
-
-pub judged-alike : Judged-alike
-judged-alike d s r room n m = rw (ne-eqb (r .code) 0x7C n, ne-eqb (r .code) 0x12 m)

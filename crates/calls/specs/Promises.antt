@@ -4,8 +4,7 @@ use mathlib.Core.Bool.{true}
 use mathlib.Core.List.{List, [], map}
 use mathlib.Core.Path.{_≡_}
 use lib.ListN.{length, take}
-use Rattle.conduct.specs.Promises.{One-answer, Leaves, Refusal-leaves}
-use Rattle.device.specs.Commands.{otherNumber}
+use Rattle.conduct.specs.Promises.{One-answer, Leaves, Refusal-leaves, But-position}
 use Rattle.device.specs.Machine.{command, told}
 use Rattle.device.specs.declared.Device.{Device}
 use Rattle.making.specs.Making.{madeOf}
@@ -15,7 +14,6 @@ use Rattle.offer.specs.declared.Checked.{Checked}
 use Rattle.offer.specs.declared.Element.{Element}
 use Rattle.offer.specs.declared.Found.the-variants.{Missing}
 use Rattle.offer.specs.declared.Found.{Found}
-use Rattle.paper.specs.Answers.{numberOf}
 use Rattle.paper.specs.Registers.{Registers}
 use Rattle.paper.specs.Told.{tells, said}
 use Rattle.paper.specs.declared.Answer.{Answer}
@@ -34,11 +32,6 @@ One-command =
     → (said b y ≡ told d (command s r (length buf))) × (v ≡ lent d s r buf)
     → (a ≡ b) × (x ≡ y) × (u ≡ v)
 
-abbrev pub One-judgement : Type 0
-One-judgement =
-    (d : Device) (r : Registers) (a b : Answer)
-    → numberOf a ≡ otherNumber d r → numberOf b ≡ otherNumber d r → a ≡ b
-
 abbrev pub One-check : Type 0
 One-check = (es : List Element) (limit : ℕ) (a b : Checked) → verdict a ≡ checkList es limit → verdict b ≡ checkList es limit → a ≡ b
 
@@ -54,18 +47,10 @@ One-making =
 pub record One-fits : Type 0 where
   pub changing : One-answer
   pub command : One-command
-  pub judging : One-judgement
   pub showing : One-page
   pub checking : One-check
   pub finding : One-find
   pub making : One-making
-
--- ## The judgement is the front call's, of every code but 7Ch and 12h, which have rules of their own
-
-abbrev pub Judged-alike : Type 0
-Judged-alike =
-    (d : Device) (s : Security) (r : Registers) (room : ℕ) → (r .code ≡ 0x7C → ⊥) → (r .code ≡ 0x12 → ⊥)
-    → told d (command s r room) ≡ tells (otherNumber d r) d
 
 -- ## A list
 
@@ -84,6 +69,12 @@ abbrev pub Copied-whole : Type 0
 Copied-whole =
     (d : Device) (es : List Element) (limit : ℕ) → good (length es) es limit ≡ true
     → (live (madeFrom d es limit .state .table) ≡ map partOf es) × (take (length es) (madeFrom d es limit .state .cells .healths) ≡ map healthOf es)
+
+-- ## "Only the position in the step list is lost with power."
+
+-- no page shows it; answers and cells are alike by `Cut-forgets` (conduct/specs/Promises) and `Rests-alike` (history/specs/Runs)
+abbrev pub Position-unshown : Type 0
+Position-unshown = (d x : Device) → But-position d x → (s : Security) (r : Registers) (buf : List ℕ) → lent d s r buf ≡ lent x s r buf
 
 -- ## Demand 1: "A refusal has the number of document 01 and changes neither the device nor a byte lent to us."
 

@@ -4,16 +4,15 @@ ghost use mathlib.Core.Path.{_≡_};
 ghost use mathlib.Core.Bool.{cond};
 ghost use lib.Dec.{leb};
 ghost use lib.ListN.{length, take, replicate};
-ghost use Rattle.status.specs.Lent.{lent};
-ghost use Rattle.device.specs.Commands.{otherNumber};
+ghost use Rattle.conduct.specs.Fits.{Fits};
 ghost use Rattle.device.specs.Machine as machine;
 ghost use Rattle.device.specs.Machine.{told};
 ghost use Rattle.making.specs.Making.{madeOf};
 ghost use Rattle.offer.specs.Check.{checkOf, verdict};
 ghost use Rattle.offer.specs.Elements.{blank};
 ghost use Rattle.offer.specs.Search as search;
-ghost use Rattle.paper.specs.Answers.{numberOf};
 ghost use Rattle.paper.specs.Told.{said};
+ghost use Rattle.status.specs.Lent.{lent};
 ghost use Rattle.status.specs.Page.{shown};
 ghost use Rattle.calls.specs.Offered.{arrayOf, checkList, findList, madeFrom};
 use device::Device;
@@ -119,13 +118,6 @@ pub fn command(
 
 // ---- The device, read
 
-// The judgement of the other commands.
-pub fn other_answer(d: &Device, code: u8, feature: u16, count: u16, lba: Lba) -> Answer
-    ensures { λ r. ⌜ numberOf r ≡ otherNumber (now (d .entry)) (record { code = code; feature = feature; count = count; lba = lba }) ⌝ }
-{
-    commands::other_answer(*d, code, feature, count, lba)
-}
-
 // The status page.
 pub fn show(d: &Device, security: Security, request: Request, buf: &mut [u8]) -> Answer
     ensures { λ r. ⌜ said r (now (buf .exit)) ≡ shown (now (d .entry)) security request (now (buf .entry)) ⌝ }
@@ -203,9 +195,10 @@ pub fn find(list: &[Element], id: ElementId) -> Found
     find_in(copied(list), list.len(), id)
 }
 
-// A new device of a list in the device's place, or 8.
+// A new device of a list in the device's place, or 8. What every record of the code has, that its numbers fit their types, is promised here,
+// where each run begins.
 pub fn make_device(d: &mut Device, list: &[Element], limit: u16) -> Answer
-    ensures { λ r. ⌜ said r (now (d .exit)) ≡ madeFrom (now (d .entry)) (now (list .entry)) limit ⌝ }
+    ensures { λ r. ⌜ (said r (now (d .exit)) ≡ madeFrom (now (d .entry)) (now (list .entry)) limit) × Fits (now (d .exit)) ⌝ }
 {
     let r = make_in(*d, copied(list), list.len(), limit);
     *d = r.device;

@@ -8,6 +8,7 @@ use native.Mathlib.Omega.{arith}
 use lib.Dec.{ltb, lit<}
 use borrow.Author.Tests.{eq-eqb, ne-eqb, lt-ltb, le-ltb, ltb-true, ltb-false}
 use Rattle.cells.specs.Cells.{isSet}
+use Rattle.cells.specs.declared.Mark.{Mark}
 use Rattle.device.specs.Commands.{otherNumber, isMedia, isNamed, sectorsOf, isBeyond, mediaNumber}
 use Rattle.device.specs.Machine.{command, ruleCommand, quietNumber, told}
 use Rattle.device.specs.Record.{underWay, tell}
@@ -63,49 +64,39 @@ module _ (busy : Bool) (code feature lba : ℕ) where
   pub shut-idle : busy ≡ false → false ≡ (busy && not (isOpen code feature lba))
   shut-idle n = sym (rw n)
 
--- ## What a judgement looks at of a device
-
-module _ (failed : Bool) (accessible : Lba) (count : ℕ) (lba : Lba) where
-  -- of every device with this mark and this address
-  abbrev Media : ℕ → Type 0
-  Media k = (d : Device) → failed ≡ isSet (d .cells .failed) → accessible ≡ d .cells .accessible → k ≡ mediaNumber d count lba
-
-  pub media-failed : failed ≡ true → Media 3
+module _ (failed : Mark) (accessible : Lba) (count : ℕ) (lba : Lba) (f : Bool) (is-f : f ≡ isSet failed) where
+  pub media-failed : f ≡ true → 3 ≡ mediaNumber failed accessible count lba
   unfolding mediaNumber
-  media-failed e d is-f is-a = sym (rw (sym is-f ∙ e))
+  media-failed y = sym (rw (sym is-f ∙ y))
 
-  module _ (clear : failed ≡ false) (b : Bool) (is-b : b ≡ isBeyond (accessible .0) lba count) where
-    pub media-beyond : b ≡ true → Media 5
+  module _ (clear : f ≡ false) (b : Bool) (is-b : b ≡ isBeyond (accessible .0) lba count) where
+    pub media-beyond : b ≡ true → 5 ≡ mediaNumber failed accessible count lba
     unfolding mediaNumber
-    media-beyond e d is-f is-a = sym (rw (sym is-f ∙ clear, ← is-a, sym is-b ∙ e))
+    media-beyond y = sym (rw (sym is-f ∙ clear, sym is-b ∙ y))
 
-    pub media-done : b ≡ false → Media 0
+    pub media-done : b ≡ false → 0 ≡ mediaNumber failed accessible count lba
     unfolding mediaNumber
-    media-done e d is-f is-a = sym (rw (sym is-f ∙ clear, ← is-a, sym is-b ∙ e))
+    media-done n = sym (rw (sym is-f ∙ clear, sym is-b ∙ n))
 
-module _ (busy failed : Bool) (accessible : Lba) (r : Registers) where
-  -- of every device with this mark and this address that is in a removal or not
-  abbrev Other : ℕ → Type 0
-  Other k = (d : Device) → busy ≡ underWay d → failed ≡ isSet (d .cells .failed) → accessible ≡ d .cells .accessible → k ≡ otherNumber d r
+module _ (d : Device) (r : Registers) (busy : Bool) (is-busy : busy ≡ underWay d) (s : Bool)
+    (is-s : s ≡ (busy && not (isOpen (r .code) (r .feature) (r .lba .0)))) where
+  pub other-shut : s ≡ true → 2 ≡ otherNumber d r
+  unfolding otherNumber
+  other-shut y = sym (rw (← is-busy, sym is-s ∙ y))
 
-  module _ (s : Bool) (is-s : s ≡ (busy && not (isOpen (r .code) (r .feature) (r .lba .0)))) where
-    pub other-shut : s ≡ true → Other 2
+  module _ (unshut : s ≡ false) (n : Bool) (is-n : n ≡ isNamed (r .code)) where
+    pub other-unknown : n ≡ false → 6 ≡ otherNumber d r
     unfolding otherNumber
-    other-shut y d is-u is-f is-a = sym (rw (← is-u, sym is-s ∙ y))
+    other-unknown e = sym (rw (← is-busy, sym is-s ∙ unshut, sym is-n ∙ e))
 
-    module _ (unshut : s ≡ false) (n : Bool) (is-n : n ≡ isNamed (r .code)) where
-      pub other-unknown : n ≡ false → Other 6
+    module _ (named : n ≡ true) (m : Bool) (is-m : m ≡ isMedia (r .code)) where
+      pub other-media : m ≡ true → (k : ℕ) → k ≡ mediaNumber (d .cells .failed) (d .cells .accessible) (r .count) (r .lba) → k ≡ otherNumber d r
       unfolding otherNumber
-      other-unknown e d is-u is-f is-a = sym (rw (← is-u, sym is-s ∙ unshut, sym is-n ∙ e))
+      other-media e k is-k = is-k ∙ sym (rw (← is-busy, sym is-s ∙ unshut, sym is-n ∙ named, sym is-m ∙ e))
 
-      module _ (named : n ≡ true) (m : Bool) (is-m : m ≡ isMedia (r .code)) where
-        pub other-media : m ≡ true → (k : ℕ) → Media failed accessible (r .count) (r .lba) k → Other k
-        unfolding otherNumber
-        other-media e k is-k d is-u is-f is-a = is-k d is-f is-a ∙ sym (rw (← is-u, sym is-s ∙ unshut, sym is-n ∙ named, sym is-m ∙ e))
-
-        pub other-done : m ≡ false → Other 0
-        unfolding otherNumber
-        other-done e d is-u is-f is-a = sym (rw (← is-u, sym is-s ∙ unshut, sym is-n ∙ named, sym is-m ∙ e))
+      pub other-done : m ≡ false → 0 ≡ otherNumber d r
+      unfolding otherNumber
+      other-done e = sym (rw (← is-busy, sym is-s ∙ unshut, sym is-n ∙ named, sym is-m ∙ e))
 
 -- ## Any command
 

@@ -2,15 +2,14 @@
 ghost use mathlib.Core.Path.{_≡_};
 ghost use mathlib.Core.Bool.{not, _&&_};
 ghost use Prim.Native.Nat.{_≤_};
-ghost use Rattle.cells.specs.Cells.{isSet};
 ghost use Rattle.device.specs.Commands.{otherNumber, isMedia, isNamed, sectorsOf, isBeyond, mediaNumber};
 ghost use Rattle.device.specs.Machine as machine;
 ghost use Rattle.device.specs.Machine.{told};
-ghost use Rattle.device.specs.Record.{underWay};
 ghost use Rattle.open.specs.Open.{isOpen};
 ghost use Rattle.paper.specs.Answers.{numberOf};
 ghost use Rattle.paper.specs.Told.{said};
 ghost use Rattle.slices.specs.Lists.{oneOf};
+use cells::Mark;
 use device::Device;
 use device::Stepped;
 use paper::Answer;
@@ -76,11 +75,10 @@ fn is_beyond(accessible: Lba, lba: Lba, count: u16) -> bool
     accessible.0 < last
 }
 
-fn media_answer(failed: bool, accessible: Lba, count: u16, lba: Lba) -> Answer
-    ensures { λ r.
-        ⌜ ((d : Device) → failed ≡ isSet (d .cells .failed) → accessible ≡ d .cells .accessible → numberOf r ≡ mediaNumber d count lba) ⌝ }
+fn media_answer(failed: Mark, accessible: Lba, count: u16, lba: Lba) -> Answer
+    ensures { λ r. ⌜ numberOf r ≡ mediaNumber failed accessible count lba ⌝ }
 {
-    if failed {
+    if failed.is_set() {
         return Answer::Failed;
     }
     if is_beyond(accessible, lba, count) {
@@ -89,43 +87,24 @@ fn media_answer(failed: bool, accessible: Lba, count: u16, lba: Lba) -> Answer
     Answer::Done
 }
 
-// The judgement of a code that has no rules of its own, over what it looks at of a device.
-fn judge(
-    busy: bool,
-    failed: bool,
-    accessible: Lba,
-    code: u8,
-    feature: u16,
-    count: u16,
-    lba: Lba,
-) -> Answer
-    ensures { λ r.
-        ⌜ ((d : Device) → busy ≡ underWay d → failed ≡ isSet (d .cells .failed) → accessible ≡ d .cells .accessible
-        → numberOf r ≡ otherNumber d (record { code = code; feature = feature; count = count; lba = lba })) ⌝ }
+// The judgement of a code that has no rules of its own.
+fn other_answer(d: Device, code: u8, feature: u16, count: u16, lba: Lba) -> Answer
+    ensures { λ r. ⌜ numberOf r ≡ otherNumber d (record { code = code; feature = feature; count = count; lba = lba }) ⌝ }
 {
-    if is_shut(busy, code, feature, lba.0) {
+    let cells = d.cells;
+    let note = cells.note;
+    if is_shut(note.is_full(), code, feature, lba.0) {
         return Answer::InProgress;
     }
     if !is_named(code) {
         return Answer::UnknownCommand;
     }
     if is_media(code) {
+        let failed = cells.failed;
+        let accessible = cells.accessible;
         return media_answer(failed, accessible, count, lba);
     }
     Answer::Done
-}
-
-// The same of a device.
-pub fn other_answer(d: Device, code: u8, feature: u16, count: u16, lba: Lba) -> Answer
-    ensures { λ r. ⌜ numberOf r ≡ otherNumber d (record { code = code; feature = feature; count = count; lba = lba }) ⌝ }
-{
-    let cells = d.cells;
-    let note = cells.note;
-    let mark = cells.failed;
-    let busy = note.is_full();
-    let failed = mark.is_set();
-    let accessible = cells.accessible;
-    judge(busy, failed, accessible, code, feature, count, lba)
 }
 
 // What 12h asks for.
@@ -140,7 +119,6 @@ pub fn asked(feature: u16, count: u16, lba: Lba) -> Request
 }
 
 // What a code that changes nothing is answered; 12h has rules of its own. It is asked of 7Ch too, whose ruling does not need it.
-// `other_answer`, called from a second place, would be compiled apart and copy the device.
 fn quiet_answer(
     d: Device,
     security: Security,
@@ -155,13 +133,7 @@ fn quiet_answer(
     if code == 0x12 {
         return request::judge(security, asked(feature, count, lba), room);
     }
-    let cells = d.cells;
-    let note = cells.note;
-    let mark = cells.failed;
-    let busy = note.is_full();
-    let failed = mark.is_set();
-    let accessible = cells.accessible;
-    judge(busy, failed, accessible, code, feature, count, lba)
+    other_answer(d, code, feature, count, lba)
 }
 
 // Any command, with the length of the lent buffer. It fills no page: of 12h that is left to `status::show`.

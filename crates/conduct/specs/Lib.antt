@@ -1,2 +1,3 @@
 -- What holds of every event at once.
+pub mod Fits
 pub mod Promises

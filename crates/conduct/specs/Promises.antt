@@ -15,6 +15,7 @@ use Rattle.paper.specs.Told.{Told, tells, said}
 use Rattle.paper.specs.declared.Answer.{Answer}
 use Rattle.paper.specs.declared.Lba.{Lba}
 use Rattle.table.specs.Elements.{blankPart}
+use Rattle.conduct.specs.Fits.{Fits}
 
 -- ## No second answer fits, and no second device: whatever is ruled, and so of every event
 
@@ -43,6 +44,11 @@ pub record Tidy (d : Device) : Type 0 where
 
 abbrev pub Keeps-tidy : Type 0
 Keeps-tidy = (d : Device) (e : Event) → Tidy d → Tidy (told d e .state)
+
+-- ## The numbers fit their fields, whatever registers come
+
+abbrev pub Keeps-fit : Type 0
+Keeps-fit = (d : Device) (e : Event) → Fits d → Fits (told d e .state)
 
 -- ## At most one cell differs after a call, and nothing that is no cell but the position (the making of a device writes them all)
 

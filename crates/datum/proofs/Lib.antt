@@ -2,7 +2,7 @@
 -- shape of code, once for every function of that shape, whatever it promises and whatever data it takes by value besides; a function's
 -- theorem is then its shape's lemma at its own types, its promise and the theorems of the functions that it calls.
 --
--- The shapes: `Changed`, `ChangedShown`, `Read`, `Filled`, `Copied`, `Listed`, `Made`. Each file begins with the code that it
+-- The shapes: `Changed`, `ChangedShown`, `Filled`, `Copied`, `Listed`, `Made`. Each file begins with the code that it
 -- walks, and how.
 -- What they share, in the order to read it: the data (`Datum`), a datum in memory (`Memory`) and the parameters (`Parameters`); a function's
 -- contract and its theorem from a walk (`Promise`, and `Thin` for the signature of these shapes); the locals of a list of data (`Locals`);
@@ -25,7 +25,6 @@ pub mod Made
 pub mod Memory
 pub mod Parameters
 pub mod Promise
-pub mod Read
 pub mod Rows
 pub mod SoFar
 pub mod Taken

@@ -1,6 +1,7 @@
 -- A call that changes what is lent by a lent list:
 --     fn f(d: &mut D, list: &[E], ..data..) -> B { let r = g(*d, copied(list), list.len(), ..data..); *d = r.state; r.answer }
--- The walk is that of `Changed`, with the list taken by value as in `Listed` before the call.
+-- The walk is that of `Changed`, with the list taken by value as in `Listed` before the call. The promise may rest on the facts of what is
+-- handed back.
 use Prim.Native.Nat.{ℕ}
 use mathlib.Core.List.{List, [], _∷_}
 use mathlib.Core.Path.{refl}
@@ -19,7 +20,7 @@ use denote.Slice.{Room}
 use denote.Steps.{nothing}
 use denote.Triple.Statement.{Triple}
 use Rattle.datum.proofs.Called.{Valued, calls-value, Reading, list-twice}
-use Rattle.datum.proofs.Datum.{Datum, Denot, ty, number, array}
+use Rattle.datum.proofs.Datum.{Datum, Denot, Fact, ty, number, array}
 use Rattle.datum.proofs.Handed.{Handed}
 use Rattle.datum.proofs.Lent.{ref, copying, handing, copies-out, hands-back}
 use Rattle.datum.proofs.Locals.{var, locals, after, up, copies, beyond, knowing, allocs-all, pass-all, free-cell, free-all, from-at, reads-all}
@@ -57,7 +58,7 @@ module _ (D E : Datum) (N : ℕ) (B : Datum) (S : Handed D B) (Ds : List Datum) 
   -- P: of what lay there, the list, the data, the answer, what lies there afterwards. Q: the same of the array that was copied and the list's length
   module _ (copyOf : List (Denot E) → List (Denot E)) (P : Denot D → List (Denot E) → Values Ds → Denot B → Denot D → Type 0)
       (Q : Denot D → List (Denot E) → ℕ → Values Ds → Denot B → Denot D → Type 0)
-      (agree : (h : Denot D) (ys : List (Denot E)) (x : Values Ds) (r : Denot B) (e : Denot D) → Q h (copyOf ys) (length ys) x r e
+      (agree : (h : Denot D) (ys : List (Denot E)) (x : Values Ds) (r : Denot B) (e : Denot D) → Fact D e → Q h (copyOf ys) (length ys) x r e
       → P h ys x r e) where
     abbrev Makes : Promised first [] more B
     Makes κs y _ z r e o = P (now y) (now (z .0)) (given none κs Ds (z .1)) r (now e)
@@ -99,7 +100,7 @@ module _ (D E : Datum) (N : ℕ) (B : Datum) (S : Handed D B) (Ds : List Datum) 
           suffices ! _ (finishes first [] more B Makes 𝓤 H A κs qs y tt (z, args none κs Ds x tt) (S .state r) (tt, lasts none κs Ds x tt tt)
           (S .answer r)
           W tt tt (tt, all-fit none κs Ds x tt tt tt) (S .fits r is .1)
-          (rw (given-args {n = 2} none κs Ds x tt) (agree (now y) (now z) x (S .answer r) (S .state r) (rw c at e)))) $
+          (rw (given-args {n = 2} none κs Ds x tt) (agree (now y) (now z) x (S .answer r) (S .state r) (S .fits r is .0) (rw c at e)))) $
           nothing ! $ move ! (3 ∷ 4 ∷ 0 ∷ []) $ group ! 3 $ frame ! $ feqI ! (List Val) (ptr-vals y) (ptr-vals y) refl $ fjoin3 ! $ frame ! $
           nothing ! $ use1 W (‵ (Has (values Ds none) κs (args none κs Ds x tt) (lasts none κs Ds x tt tt))) (all-had none κs 𝓤 H A W Ds x tt tt fs) $
           move ! (1 ∷ 0 ∷ []) $ fjoin ! $ done !)))))))))))))))

@@ -1,2 +1,3 @@
 -- What is proved of the demands.
+pub mod GivesBack
 pub mod Starts

@@ -2,27 +2,29 @@
 use Prim.Native.Nat.{ℕ, _-_}
 use mathlib.Core.Bool.{Bool, true, false, cond, false≢true}
 use mathlib.Core.List.{List}
-use mathlib.Core.Path.{_≡_, refl, ap, _∙_}
+use mathlib.Core.Path.{_≡_, refl, ap, subst⁻¹, _∙_}
 use native.Mathlib.Omega.{arith}
 use lib.ListN.{length, length-append, length-take, length-replicate}
 use Rattle.calls.proofs.Lists.{made-alike}
 use Rattle.calls.specs.Offered.{arrayOf, offerOf, madeFrom}
+use Rattle.conduct.specs.Promises.{Tidy}
 use Rattle.device.specs.declared.Device.{Device}
 use Rattle.history.proofs.Starts.{accepted-starts}
 use Rattle.history.specs.Starts.{Made-of}
+use Rattle.making.proofs.EveryMaking.{made-tidy}
 use Rattle.making.specs.Making.{fresh}
 use Rattle.offer.specs.Check.{good}
 use Rattle.offer.specs.declared.Element.{Element}
 use Rattle.paper.specs.Answers.{numberOf}
 use Rattle.paper.specs.Told.{Told, tells, said}
 use Rattle.paper.specs.declared.Answer.{Answer}
-use Rattle.demands.specs.Starts.{Listed-starts}
+use Rattle.demands.specs.Starts.{Listed-starts, Listed-tidy}
 
 full : (es : List Element) → length (arrayOf es) ≡ 128
 full es = rw (length-append, length-take, length-replicate) (omega arith)
 
 module _ (there : Device) (es : List Element) (limit : ℕ) (a : Answer) (d : Device) (is-made : said a d ≡ madeFrom there es limit) where
-  made : numberOf a ≡ 0 → Made-of (offerOf es limit) d
+  pub made : numberOf a ≡ 0 → Made-of (offerOf es limit) d
   made z = accepted-starts there (offerOf es limit) a d (full es) (is-made ∙ made-alike there es limit) .0 z .1
 
   exactly : (b : Bool) → good (length es) es limit ≡ b → said a d ≡ cond b (tells 0 (fresh (offerOf es limit))) (tells 8 there)
@@ -35,3 +37,7 @@ unfolding madeFrom
 listed-starts there es limit a d is-made =
     let so = exactly there es limit a d is-made (good (length es) es limit) refl is-made in
     (λ z. (so .0 z, made there es limit a d is-made z), so .1)
+
+pub listed-tidy : Listed-tidy
+listed-tidy there es limit =
+    subst⁻¹ (λ (t : Told Device). t .number ≡ 0 → Tidy (t .state)) (made-alike there es limit) (made-tidy there (offerOf es limit) (full es))

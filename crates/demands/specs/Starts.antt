@@ -6,6 +6,7 @@ use mathlib.Core.List.{List}
 use mathlib.Core.Path.{_≡_}
 use lib.ListN.{length}
 use Rattle.calls.specs.Offered.{offerOf, madeFrom}
+use Rattle.conduct.specs.Promises.{Tidy}
 use Rattle.device.specs.declared.Device.{Device}
 use Rattle.history.specs.Starts.{Made-of}
 use Rattle.offer.specs.Check.{good}
@@ -19,3 +20,7 @@ abbrev pub Listed-starts : Type 0
 Listed-starts =
     (there : Device) (es : List Element) (limit : ℕ) (a : Answer) (d : Device) → said a d ≡ madeFrom there es limit
     → (numberOf a ≡ 0 → (good (length es) es limit ≡ true) × Made-of (offerOf es limit) d) × (good (length es) es limit ≡ true → numberOf a ≡ 0)
+
+-- and it is tidy, as every device that runs on from it (conduct/specs/Promises, `Keeps-tidy`)
+abbrev pub Listed-tidy : Type 0
+Listed-tidy = (there : Device) (es : List Element) (limit : ℕ) → madeFrom there es limit .number ≡ 0 → Tidy (madeFrom there es limit .state)

@@ -4,6 +4,7 @@ use mathlib.Core.Bool.{Bool, cond, not, _&&_, _||_}
 use mathlib.Core.List.{[], _∷_}
 use lib.Dec.{ltb, eqb}
 use Rattle.cells.specs.Cells.{isSet, busyNumber, failedNumber}
+use Rattle.cells.specs.declared.Mark.{Mark}
 use Rattle.open.specs.Open.{isOpen}
 use Rattle.paper.specs.Registers.{Registers, low48}
 use Rattle.paper.specs.declared.Lba.{Lba}
@@ -28,12 +29,12 @@ abbrev pub isBeyond : ℕ → Lba → ℕ → Bool
 isBeyond accessible lba count = ltb (accessible + 1) (low48 lba .0 + sectorsOf count)
 
 -- "media access with the failed mark: 3; last sector above the accessible max: 5; else 0"
-unfoldable pub mediaNumber : Device → ℕ → Lba → ℕ
-mediaNumber d count lba = cond (isSet (d .cells .failed)) (failedNumber (d .cells .failed)) (cond (isBeyond (d .cells .accessible .0) lba count) 5 0)
+unfoldable pub mediaNumber : Mark → Lba → ℕ → Lba → ℕ
+mediaNumber failed accessible count lba = cond (isSet failed) (failedNumber failed) (cond (isBeyond (accessible .0) lba count) 5 0)
 
 -- "Order: not open during a removal: 2; unknown: 6; media access ..; else 0"
 unfoldable pub otherNumber : Device → Registers → ℕ
 otherNumber d r =
     cond (underWay d && not (isOpen (r .code) (r .feature) (r .lba .0))) (busyNumber (d .cells))
     (cond (not (isNamed (r .code))) 6
-    (cond (isMedia (r .code)) (mediaNumber d (r .count) (r .lba)) 0))
+    (cond (isMedia (r .code)) (mediaNumber (d .cells .failed) (d .cells .accessible) (r .count) (r .lba)) 0))

@@ -5,7 +5,7 @@ use Rattle.conduct.proofs.OneCell.{at-most-one-cell}
 use Rattle.device.specs.Machine.{step}
 use Rattle.history.specs.Demand3.{Brought-about, Demand-3}
 use Rattle.history.specs.Runs.{_▸_, _▸▸_, after}
-use Rattle.history.proofs.Events.{acceptance, noting-store, marking-store, setting-store}
+use Rattle.history.proofs.Events.{acceptance, clearance, noting-store, marking-store, setting-store}
 use Rattle.history.proofs.Progress.{five-steps, fifth-ends, stop-winds, four-steps, fourth-ends, fourth-after}
 use Rattle.history.proofs.Promise.{kept, cut-starts}
 use Rattle.history.proofs.Runs.{runs-are-scripts}
@@ -24,6 +24,7 @@ demand-3 = record {
   at-most-one-cell = at-most-one-cell;
   kept = kept;
   acceptance = acceptance;
+  clearance = clearance;
   noting-store = noting-store;
   marking-store = marking-store;
   five-steps = five-steps;

@@ -1,6 +1,6 @@
 -- Which events make the note, the marking store, and the store that sets the failed mark: what each ruling's shape tells of its store.
 use Prim.Native.Nat.{ℕ, _<_}
-use mathlib.Core.Bool.{Bool, true, false, cond, not, _&&_, true≢false, false≢true}
+use mathlib.Core.Bool.{Bool, true, false, cond, not, _&&_, and-false, true≢false, false≢true}
 use mathlib.Core.Path.{_≡_, refl, sym, ap, subst, subst⁻¹, _∙_}
 use native.Mathlib.Omega.{arith}
 use lib.Dec.{eqb}
@@ -15,7 +15,7 @@ use Rattle.cells.specs.declared.Removal.{Removal}
 use Rattle.cells.specs.declared.Store.the-variants.{Nothing, NativeTo, AccessibleTo, Marked, Graded, FailedTo, Noted, NoteEmptied}
 use Rattle.cells.specs.declared.Store.{Store}
 use Rattle.conduct.proofs.Shapes.{still, moving, stopping, Shape, quiet, clears, notes, advances, winds, Grading, refuses, grades, each, choose}
-use Rattle.device.specs.Machine.{Event, command, step, mediaError, powerCut, comreset, hardwareReset, softwareReset, grade, rule}
+use Rattle.device.specs.Machine.{Event, command, step, mediaError, powerCut, comreset, hardwareReset, softwareReset, grade, rule, told}
 use Rattle.device.specs.Record.{underWay, removedNumber, see, storeAt}
 use Rattle.device.specs.declared.Device.{Device}
 use Rattle.paper.specs.Elements.{removedHealth}
@@ -27,9 +27,10 @@ use Rattle.paper.specs.declared.Lba.{Lba}
 use Rattle.paper.specs.declared.Security.{Security}
 use Rattle.removal.specs.Remove.{identifierOf, limitMet, tooSmall, tooHigh, removalOf, judgeRoom, judgeFound, ruleRemove}
 use Rattle.steps.specs.Steps.{nextOf}
+use Rattle.table.proofs.Ascending.{both}
 use Rattle.table.specs.Elements.{isStorage, size, identifierAt}
 use Rattle.history.specs.Ledger.{ofStore}
-use Rattle.history.specs.Progress.{noteOf, Acceptance, Noting-store, At, Marking-store, Setting-store}
+use Rattle.history.specs.Progress.{noteOf, Acceptance, Clearance, Noting-store, At, Marking-store, Setting-store}
 use Rattle.history.proofs.Places.{hit-there}
 
 -- ## Acceptance
@@ -69,30 +70,55 @@ module _ (d : Device) (id : ElementId) (lba : Lba) where
       (λ there. choose Notes (removedHealth (see d id .health)) (λ q z. absurd (there-stands (see d id .hit) _ _ there s q))
       (λ _. choose Notes (limitMet (d .table .limit) (removedNumber d)) (λ _ z. absurd (omega arith)) (λ _. notes-room)))
 
-  -- a ruling that has made a note has made that one, and is answered 0
-  abbrev Noting : Ruled → Type 0
-  Noting r = (w : Removal) → r .store ≡ Noted w → (r .number ≡ 0) × (w ≡ removal)
+  -- for an element at FFh, answered 0, it has cleared the mark
+  abbrev Clears : Ruled → Type 0
+  Clears r = r .number ≡ 0 → r .store ≡ FailedTo Clear
 
-  noting-room : Noting (judgeRoom (d .position) (d .cells .native) id lba (see d id .part .blocks))
+  clears-found : gone (see d id) ≡ true → Clears (judgeFound (d .table) (d .cells) (d .position) id lba (see d id))
+  unfolding judgeFound
+  clears-found s =
+      choose Clears (not (see d id .hit && isStorage (see d id .part))) (λ _ z. absurd (omega arith))
+      (λ _. choose Clears (removedHealth (see d id .health)) (λ _ z. refl)
+      (λ stands z. absurd (false≢true (sym stands ∙ both (see d id .hit) (removedHealth (see d id .health)) s .1))))
+
+  -- a ruling that has made a note has made that one, and is answered 0; its element is not at FFh
+  abbrev Noting : Ruled → Type 0
+  Noting r = (w : Removal) → r .store ≡ Noted w → (r .number ≡ 0) × (w ≡ removal) × (gone (see d id) ≡ false)
+
+  noting-room : gone (see d id) ≡ false → Noting (judgeRoom (d .position) (d .cells .native) id lba (see d id .part .blocks))
   unfolding judgeRoom
-  noting-room =
+  noting-room stands =
       choose Noting (tooSmall (d .cells .native .0) (see d id .part .blocks)) (λ _ w q. absurd (no-note refl q))
-      (λ _. choose Noting (tooHigh (d .cells .native .0) (see d id .part .blocks) (lba .0)) (λ _ w q. absurd (no-note refl q)) (λ _ w q. (refl, sym (ap (noted w) q))))
+      (λ _. choose Noting (tooHigh (d .cells .native .0) (see d id .part .blocks) (lba .0)) (λ _ w q. absurd (no-note refl q))
+      (λ _ w q. (refl, sym (ap (noted w) q), stands)))
 
   noting-found : Noting (judgeFound (d .table) (d .cells) (d .position) id lba (see d id))
   unfolding judgeFound
   noting-found =
       choose Noting (not (see d id .hit && isStorage (see d id .part))) (λ _ w q. absurd (no-note refl q))
       (λ _. choose Noting (removedHealth (see d id .health)) (λ _ w q. absurd (no-note refl q))
-      (λ _. choose Noting (limitMet (d .table .limit) (removedNumber d)) (λ _ w q. absurd (no-note refl q)) (λ _. noting-room)))
+      (λ stands. choose Noting (limitMet (d .table .limit) (removedNumber d)) (λ _ w q. absurd (no-note refl q))
+      (λ _. noting-room (rw stands (and-false (see d id .hit))))))
+
+-- 7Ch answered 0 has passed the first two checks
+module _ (d : Device) (security : Security) (r : Registers) (room : ℕ) (is-7C : r .code ≡ 0x7C) (z : told d (command security r room) .number ≡ 0) where
+  abbrev judgement : Ruled
+  judgement = judgeFound (d .table) (d .cells) (d .position) (identifierOf r) (low48 (r .lba)) (see d (identifierOf r))
+
+  removed-by : (x : Store) → (judgement .number ≡ 0 → judgement .store ≡ x) → rule d (command security r room) .store ≡ x
+  removed-by x found =
+      let removes : rule d (command security r room) ≡ ruleRemove (d .table) (d .cells) (d .position) security r = rw (eq-eqb _ _ is-7C) in
+      let Makes : Ruled → Type 0 = λ y. y .number ≡ 0 → y .store ≡ x in
+      subst⁻¹ Makes removes
+      (choose Makes (aborts Remove security) (λ _ y. absurd (omega arith)) (λ _. choose Makes (underWay d) (λ _ y. absurd (omega arith)) (λ _. found))) z
 
 pub acceptance : Acceptance
 acceptance d security r room is-7C z standing =
-    let removes : rule d (command security r room) ≡ ruleRemove (d .table) (d .cells) (d .position) security r = rw (eq-eqb _ _ is-7C) in
-    subst⁻¹ (Notes d (identifierOf r) (low48 (r .lba))) removes
-    (choose (Notes d (identifierOf r) (low48 (r .lba))) (aborts Remove security) (λ _ y. absurd (omega arith))
-    (λ _. choose (Notes d (identifierOf r) (low48 (r .lba))) (underWay d) (λ _ y. absurd (omega arith))
-    (λ _. notes-found d (identifierOf r) (low48 (r .lba)) standing))) z
+    removed-by d security r room is-7C z (Noted (noteOf d r)) (notes-found d (identifierOf r) (low48 (r .lba)) standing)
+
+pub clearance : Clearance
+clearance d security r room is-7C z gone-by =
+    removed-by d security r room is-7C z (FailedTo Clear) (clears-found d (identifierOf r) (low48 (r .lba)) gone-by)
 
 -- ## Stores that one event alone makes
 
@@ -190,19 +216,21 @@ module _ (d : Device) where
   -- a command that makes a note is an accepted 7Ch
   module _ (s : Security) (r : Registers) (room : ℕ) (w : Removal) where
     abbrev Says : Ruled → Type 0
-    Says x = x .store ≡ Noted w → (r .code ≡ 0x7C) × (x .number ≡ 0) × (underWay d ≡ false) × (w ≡ noteOf d r)
+    Says x = x .store ≡ Noted w → (r .code ≡ 0x7C) × (x .number ≡ 0) × (underWay d ≡ false) × (w ≡ noteOf d r) × (gone (see d (identifierOf r)) ≡ false)
 
     noting-command : Says (rule d (command s r room))
     noting-command =
         choose Says (eqb (r .code) 0x7C)
         (λ is-7C. choose Says (aborts Remove s) (λ _ q. absurd (no-note refl q))
         (λ _. choose Says (underWay d) (λ _ q. absurd (no-note refl q))
-        (λ rests q. let so = noting-found d (identifierOf r) (low48 (r .lba)) w q in (eqb-true _ _ is-7C, so .0, rests, so .1))))
+        (λ rests q. let so = noting-found d (identifierOf r) (low48 (r .lba)) w q in (eqb-true _ _ is-7C, so .0, rests, so .1, so .2))))
         (λ _ q. absurd (no-note refl q))
 
 pub noting-store : Noting-store
 noting-store d (command s r room) w q =
-    let so = noting-command d s r room w q in (s, r, room, refl, so .0, so .1, so .2, so .3)
+    let so = noting-command d s r room w q in
+    let there : see d (w .element) .hit ≡ true = subst (Tells d (command s r room) (rule d (command s r room) .next)) q (store-tells d (command s r room)) .1 in
+    (s, r, room, refl, so .0, so .1, so .2, so .3, there, subst⁻¹ (λ (v : Removal). gone (see d (v .element)) ≡ false) (so .3) (so .4))
 noting-store d step w q = absurd (no-note (moving-none d _ (each d step)) q)
 noting-store d mediaError w q = absurd (no-note (stopping-none d _ (each d mediaError)) q)
 noting-store d powerCut w q = absurd (no-note (stopping-none d _ (each d powerCut)) q)

@@ -10,7 +10,7 @@ use Rattle.cells.specs.declared.Removal.{Removal}
 use Rattle.conduct.specs.Promises.{At-most-one-cell}
 use Rattle.device.specs.Machine.{Event, step}
 use Rattle.device.specs.declared.Device.{Device}
-use Rattle.history.specs.Progress.{calm, steps, Acceptance, Noting-store, Marking-store, Setting-store, Five-steps, Fifth-ends, stops, Stop-winds, Four-steps, Fourth-ends}
+use Rattle.history.specs.Progress.{calm, steps, Acceptance, Clearance, Noting-store, Marking-store, Setting-store, Five-steps, Fifth-ends, stops, Stop-winds, Four-steps, Fourth-ends}
 use Rattle.history.specs.Promise.{Promise, Kept-by-runs}
 use Rattle.history.specs.Runs.{Script, _▸_, _▸▸_, after, history, Runs-are-scripts}
 use Rattle.history.specs.Starts.{Startable, Accepted-starts, Cut-starts}
@@ -34,6 +34,7 @@ pub record Demand-3 : Type 0 where
   pub kept : (start : Device) → Startable start → (s : Script) → Kept-by-runs start (history start s) (after start s)
   -- "Undisturbed, a removal makes its marking store at the third step and ends at the fifth."
   pub acceptance : Acceptance
+  pub clearance : Clearance
   pub noting-store : Noting-store
   pub marking-store : Marking-store
   pub five-steps : Five-steps

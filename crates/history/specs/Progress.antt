@@ -53,14 +53,22 @@ Acceptance =
     → told d (command security r room) .number ≡ 0 → gone (see d (identifierOf r)) ≡ false
     → rule d (command security r room) .store ≡ Noted (noteOf d r)
 
+-- answered 0 for one at FFh, it has cleared the failed mark: "no element or address changes, but a failed mark is cleared"
+abbrev pub Clearance : Type 0
+Clearance =
+    (d : Device) (security : Security) (r : Registers) (room : ℕ) → r .code ≡ 0x7C
+    → told d (command security r room) .number ≡ 0 → gone (see d (identifierOf r)) ≡ true
+    → rule d (command security r room) .store ≡ FailedTo Clear
+
 -- ## Which events fill the note, make the marking store, and set the failed mark
 
--- an accepted 7Ch, while no removal is under way, and nothing else
+-- an accepted 7Ch, while no removal is under way, for an element that is there and not at FFh, and nothing else
 abbrev pub Noting-store : Type 0
 Noting-store =
     (d : Device) (e : Event) (w : Removal) → rule d e .store ≡ Noted w
     → (security : Security) × (r : Registers) × (room : ℕ)
     × (e ≡ command security r room) × (r .code ≡ 0x7C) × (told d e .number ≡ 0) × (underWay d ≡ false) × (w ≡ noteOf d r)
+    × (see d (w .element) .hit ≡ true) × (gone (see d (w .element)) ≡ false)
 
 -- the next step is the one at this position, of this removal
 pub record At (p : Position) (w : Removal) (d : Device) : Type 0 where

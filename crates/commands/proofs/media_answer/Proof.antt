@@ -8,6 +8,7 @@ pub media-answer-spec : {M : Type 1} → statement M
 media-answer-spec =
     tie.close
     (tie.spec
+    (λ c κs. search needs)
     (λ c. search (media-failed))
     (λ c κs. search needs)
     (λ c. search (media-beyond))

@@ -12,6 +12,4 @@ quiet-answer-spec =
     (λ c κs. search needs)
     (λ c. search (quiet-status))
     (λ c κs. search needs)
-    (λ c κs. search needs)
-    (λ c κs. search needs)
-    (λ c. search (quiet-other, c .judge2 .ensures)))
+    (λ c. search (quiet-other)))

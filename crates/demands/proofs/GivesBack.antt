@@ -1,0 +1,137 @@
+-- The page of a run is given back (specs/GivesBack): the making leaves a device in order that fits, every event keeps that, and what 12h
+-- leaves in the buffer is then a page that the reader takes.
+use Prim.Native.Nat.{ℕ, _*_, _/_, _≤_}
+use mathlib.Core.Bool.{Bool, true, false, cond}
+use mathlib.Core.List.{List, _++_}
+use mathlib.Core.Path.{_≡_, refl, sym, ap, subst⁻¹, _∙_}
+use native.Mathlib.Omega.{arith}
+use lib.Dec.{eqb, ltb}
+use lib.ListN.{length, take, drop}
+use lib.Seq.{take-at}
+use borrow.Author.Tests.{le-ltb}
+use Rattle.agreement.proofs.Agreement.{agrees}
+use Rattle.conduct.proofs.Fits.{keeps-fit}
+use Rattle.conduct.specs.Fits.{Fits}
+use Rattle.device.specs.Machine.{command, told}
+use Rattle.device.specs.declared.Device.{Device}
+use Rattle.history.proofs.Places.{table-kept}
+use Rattle.history.proofs.Runs.{runs-are-scripts}
+use Rattle.history.specs.Runs.{Script, begin, _▸_, after}
+use Rattle.layout.specs.Bytes.{headerIn, returnedOf}
+use Rattle.layout.specs.declared.Header.{Header}
+use Rattle.listing.specs.Listing.{judged}
+use Rattle.paper.specs.Registers.{Registers}
+use Rattle.paper.specs.Told.{Told, tells}
+use Rattle.paper.specs.declared.Security.{Security}
+use Rattle.reader.proofs.Taken.{Taken, taken, takes}
+use Rattle.reader.specs.Judgement.{Values, header, readOf}
+use Rattle.request.proofs.Requests.{accepted}
+use Rattle.request.specs.Requests.{asked, filterOf, reportTypeOf, pagesOf, startOf, refused, requestFor, requestOf}
+use Rattle.request.specs.declared.Request.{Request}
+use Rattle.status.proofs.EveryPage.{three-answers, shown-alike, whole-pages}
+use Rattle.status.specs.Lent.{lent}
+use Rattle.status.specs.Page.{headerOf, pageOf, shown}
+use Rattle.table.specs.Elements.{identifiers, ascending}
+use Rattle.table.specs.declared.Table.{Table}
+use Rattle.words.specs.declared.Order.the-variants.{Little}
+use Rattle.demands.specs.GivesBack.{Given-back, Gives-back}
+use Rattle.demands.proofs.Starts.{made}
+
+-- ## A run
+
+fits-after : (d : Device) → Fits d → (s : Script) → Fits (after d s)
+fits-after d fits begin = fits
+fits-after d fits (s ▸ e) = keeps-fit (after d s) e (fits-after d fits s)
+
+ordered-after : (d : Device) → ascending 0 (identifiers (d .table)) ≡ true → (s : Script) → ascending 0 (identifiers (after d s .table)) ≡ true
+ordered-after d asc s = subst⁻¹ (λ (t : Table). ascending 0 (identifiers t) ≡ true) (table-kept d s) asc
+
+-- ## What 12h leaves, answered 0
+
+-- 0 is no refusal, and the buffer has room
+zero-only : (r small : Bool) → cond {A = ℕ} r 4 (cond small 7 0) ≡ 0 → r ≡ false
+zero-only true small e = absurd (omega arith)
+zero-only false small e = refl
+
+module _ (d : Device) (s : Security) (r : Registers) (buf : List ℕ) (is-12 : r .code ≡ 0x12) (done : told d (command s r (length buf)) .number ≡ 0) where
+  abbrev q : Request
+  q = asked r
+
+  shown-0 : shown d s q buf .number ≡ 0
+  shown-0 = ap (λ (t : Told Device). t .number) (sym (shown-alike d s r buf is-12 .0)) ∙ done
+
+  unrefused : refused q ≡ false
+  unrefused = zero-only (refused q) (ltb (length buf) (512 * pagesOf q)) (sym (three-answers d s q buf) ∙ shown-0)
+
+  page-left : take (512 * pagesOf q) (lent d s r buf) ≡ pageOf d q
+  page-left =
+      let written : lent d s r buf ≡ pageOf d q ++ drop (512 * pagesOf q) buf =
+      shown-alike d s r buf is-12 .1 ∙ ap (λ (n : ℕ). cond (eqb n 0) (pageOf d q ++ drop (512 * pagesOf q) buf) buf) shown-0 in
+      ap (take (512 * pagesOf q)) written ∙ take-at (pageOf d q) _ (512 * pagesOf q) (whole-pages d q (accepted q unrefused .2))
+
+-- ## The listing's request
+
+-- a page is taken for every request of the same fields
+module _ (s : List ℕ) (p q : Request) (filter : filterOf p ≡ filterOf q) (report : reportTypeOf p ≡ reportTypeOf q) (pages : pagesOf p ≡ pagesOf q)
+    (start : startOf p ≡ startOf q) where
+  as-taken : Taken Little s p → Taken Little s q
+  as-taken t =
+      record {
+        asked = (rw (← filter) (t .asked .0), rw (← report) (t .asked .1), rw (← pages) (t .asked .2));
+        long = t .long ∙ ap (λ (n : ℕ). 512 * n) pages;
+        returned = t .returned ∙ ap (returnedOf (headerIn Little s .number)) pages;
+        list = λ k l.
+            let e = t .list k l in
+            record {
+              some = e .some;
+              started = rw (← start) (e .started);
+              rises = e .rises;
+              earned = e .earned;
+              typed = λ is-1. e .typed (report ∙ is-1);
+              filtered = λ is-1. e .filtered (filter ∙ is-1);
+            };
+        padding = t .padding;
+      }
+
+pages-in : (p : ℕ) → 512 * p / 512 ≡ p
+pages-in p = omega arith
+
+-- so the listing takes it for its own
+module _ (s : List ℕ) (q : Request) (h : Header) (filter : filterOf q ≡ 0) (report : reportTypeOf q ≡ 0) (start : startOf q ≡ 0) (few : pagesOf q ≤ 128)
+    (read : readOf Little s q ≡ tells 0 (header h)) where
+  is-taken : Taken Little s q
+  is-taken = taken Little s q (ap (λ (t : Told Values). t .number) read)
+
+  own : requestOf s ≡ requestFor (pagesOf q)
+  own = ap requestFor (ap (λ (n : ℕ). n / 512) (is-taken .long) ∙ pages-in (pagesOf q))
+
+  listing-takes : judged s ≡ tells 0 (header h)
+  listing-takes =
+      let short : ltb 65536 (length s) ≡ false = le-ltb 65536 (length s) (omega (arith, is-taken .long, few)) in
+      let same : Taken Little s (requestFor (pagesOf q)) = as-taken s q (requestFor (pagesOf q)) filter report refl start is-taken in
+      rw short (ap (readOf Little s) own ∙ takes Little s (requestFor (pagesOf q)) same ∙ sym (takes Little s q is-taken) ∙ read)
+
+-- ## The whole
+
+module _ (d : Device) (fits : Fits d) (asc : ascending 0 (identifiers (d .table)) ≡ true) (s : Security) (r : Registers) (buf : List ℕ)
+    (is-12 : r .code ≡ 0x12) (done : told d (command s r (length buf)) .number ≡ 0) where
+  page-given : Given-back d (asked r) (pageOf d (asked r))
+  page-given =
+      let both = agrees d (asked r) fits asc (unrefused d s r buf is-12 done) in
+      record {
+        taken = both .0;
+        elements = both .1;
+        listed = λ f t z few. listing-takes (pageOf d (asked r)) (asked r) (headerOf d (asked r)) f t z few (both .0);
+      }
+
+  given : Given-back d (asked r) (take (512 * pagesOf (asked r)) (lent d s r buf))
+  given = subst⁻¹ (Given-back d (asked r)) (page-left d s r buf is-12 done) page-given
+
+pub gives-back : Gives-back
+gives-back there es limit a d (is-made, fits) z s ns x ran security r buf out b y is-12 (is-told, is-out) done =
+    let same : x ≡ after d s = runs-are-scripts d s ns x ran .0 in
+    let fit : Fits x = subst⁻¹ Fits same (fits-after d fits s) in
+    let asc : ascending 0 (identifiers (x .table)) ≡ true =
+    subst⁻¹ (λ (v : Device). ascending 0 (identifiers (v .table)) ≡ true) same (ordered-after d (made there es limit a d is-made z .startable .ids) s) in
+    let zero : told x (command security r (length buf)) .number ≡ 0 = ap (λ (t : Told Device). t .number) (sym is-told) ∙ done in
+    subst⁻¹ (λ (bytes : List ℕ). Given-back x (asked r) (take (512 * pagesOf (asked r)) bytes)) is-out (given x fit asc security r buf is-12 zero)

@@ -1,0 +1,44 @@
+-- "The reader .. gives back what was written", of the code's own calls. Each premise is what a call promises (calls/src/lib.rt): the lent
+-- making, the calls of a run, and the front call with 12h, answered 0.
+use Prim.Native.Nat.{ℕ, _*_, _<_, _≤_}
+use mathlib.Core.List.{List}
+use mathlib.Core.Path.{_≡_}
+use lib.ListN.{length, getD, take}
+use Rattle.calls.specs.Offered.{madeFrom}
+use Rattle.conduct.specs.Fits.{Fits}
+use Rattle.device.specs.Machine.{command, told}
+use Rattle.device.specs.declared.Device.{Device}
+use Rattle.history.specs.Runs.{Script, Ran}
+use Rattle.listing.specs.Listing.{judged}
+use Rattle.offer.specs.declared.Element.{Element}
+use Rattle.paper.specs.Answers.{numberOf}
+use Rattle.paper.specs.Registers.{Registers}
+use Rattle.paper.specs.Told.{tells, said}
+use Rattle.paper.specs.declared.Answer.{Answer}
+use Rattle.paper.specs.declared.Security.{Security}
+use Rattle.reader.specs.Judgement.{header, readOf, slotOf}
+use Rattle.reader.specs.declared.Slot.the-variants.{Holds}
+use Rattle.request.specs.Requests.{asked, filterOf, reportTypeOf, pagesOf, startOf}
+use Rattle.request.specs.declared.Request.{Request}
+use Rattle.status.specs.Lent.{lent}
+use Rattle.status.specs.Page.{listOf, headerOf}
+use Rattle.table.specs.Elements.{blankPart}
+use Rattle.view.specs.Shown.{shownOf}
+use Rattle.words.specs.declared.Order.the-variants.{Little}
+
+-- a page, as the answer of a device to a request
+pub record Given-back (d : Device) (q : Request) (page : List ℕ) : Type 0 where
+  -- the reader takes it, with the header's numbers,
+  pub taken : readOf Little page q ≡ tells 0 (header (headerOf d q))
+  -- has each listed element at its place,
+  pub elements : (k : ℕ) → k < headerOf d q .returned → slotOf Little page k ≡ Holds (getD (listOf d q) k (shownOf blankPart 0))
+  -- and the listing accepts it as "an answer to filter 0, report type 0, start 0", up to 65,536 bytes
+  pub listed : filterOf q ≡ 0 → reportTypeOf q ≡ 0 → startOf q ≡ 0 → pagesOf q ≤ 128 → judged page ≡ tells 0 (header (headerOf d q))
+
+abbrev pub Gives-back : Type 0
+Gives-back =
+    (there : Device) (es : List Element) (limit : ℕ) (a : Answer) (d : Device) → (said a d ≡ madeFrom there es limit) × Fits d → numberOf a ≡ 0
+    → (s : Script) (ns : List ℕ) (x : Device) → Ran d s ns x
+    → (security : Security) (r : Registers) (buf out : List ℕ) (b : Answer) (y : Device) → r .code ≡ 0x12
+    → (said b y ≡ told x (command security r (length buf))) × (out ≡ lent x security r buf) → numberOf b ≡ 0
+    → Given-back x (asked r) (take (512 * pagesOf (asked r)) out)
