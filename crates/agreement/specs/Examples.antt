@@ -3,6 +3,7 @@
 use Prim.Native.Nat.{ℕ}
 use mathlib.Core.Bool.{Bool, true, false, _&&_}
 use mathlib.Core.List.{List, [], _∷_, _++_, map}
+use mathlib.Core.Path.{_≡_}
 use lib.Dec.{eqb}
 use lib.ListN.{replicate}
 use Rattle.device.specs.Machine.{Event, command, step, mediaError, powerCut, comreset, hardwareReset, softwareReset, grade}
@@ -10,6 +11,7 @@ use Rattle.device.specs.declared.Device.{Device}
 use Rattle.layout.specs.Examples.{zeros, pageG1}
 use Rattle.making.specs.Examples.{registers, Row, row, rows, holds, run, deviceA, asBuilt}
 use Rattle.paper.specs.declared.Security.the-variants.{Unlocked}
+use Rattle.slices.specs.Lists.{all}
 use Rattle.status.specs.Lent.{lent}
 
 pub record Example : Type 0 where
@@ -61,3 +63,7 @@ examples =
     ∷ get 0x4100 0 0 4 old
     ∷ get 0x8000 1 0 4 old
     ∷ [])
+
+-- "Proved: R1 to R8, G1 to G4."
+abbrev pub Twelve : Type 0
+Twelve = all asSaid examples ≡ true

@@ -1,7 +1,9 @@
--- Document 01's bench examples R1 to R8 of device A, the limit alone (R8 would meet check 6 without it), and the machine's edges.
+-- Document 01's bench examples R1 to R8 of device A, the limit alone (R8 would meet check 6 without it), and the machine's edges. That device
+-- A is made, and that the rows of each table hold, is stated; proofs/ has the proof under the same name in lower case.
 use Prim.Native.Nat.{ℕ}
 use mathlib.Core.Bool.{Bool, true, false, not, _&&_}
 use mathlib.Core.List.{List, [], _∷_, _++_}
+use mathlib.Core.Path.{_≡_}
 use lib.Dec.{eqb}
 use lib.ListN.{take, replicate}
 use Rattle.cells.specs.Cells.{isSet}
@@ -10,12 +12,22 @@ use Rattle.device.specs.Record.{underWay}
 use Rattle.device.specs.declared.Device.{Device}
 use Rattle.offer.specs.Examples.{offerA}
 use Rattle.paper.specs.Registers.{Registers}
+use Rattle.paper.specs.Told.{tells}
 use Rattle.paper.specs.declared.Security.the-variants.{Locked, Unlocked, Frozen}
-use Rattle.making.specs.Making.{fresh}
+use Rattle.slices.specs.Lists.{all}
+use Rattle.making.specs.Making.{fresh, madeOf}
 
 -- "Device A, limit 2"
 abbrev pub deviceA : Device
 deviceA = fresh (offerA 2)
+
+-- its table is accepted with that limit, and with 1; with 129 it is refused
+abbrev pub Made-of-A : Type 0
+Made-of-A =
+    (there : Device)
+    → (madeOf there (offerA 2) ≡ tells 0 deviceA)
+    × (madeOf there (offerA 1) ≡ tells 0 (fresh (offerA 1)))
+    × (madeOf there (offerA 129) ≡ tells 8 there)
 
 abbrev pub run : Device → List Event → Device
 run d [] = d
@@ -117,6 +129,9 @@ rows =
     ∷ row deviceA R1 (remove 0 1 0) 0 2499 oneGone false true
     ∷ []
 
+abbrev pub Rows-hold : Type 0
+Rows-hold = all holds rows ≡ true
+
 -- ## The edges: what the examples above do not reach
 
 abbrev pub locked : ℕ → Event
@@ -173,6 +188,9 @@ removals =
     ∷ row deviceA R1 (graded 0x0001_0003 0x10) 11 2499 oneGone false false
     ∷ []
 
+abbrev pub Removals-hold : Type 0
+Removals-hold = all holds removals ≡ true
+
 abbrev pub others : List Row
 others =
     -- "After R1, 25h: LBA 2,499 COUNT 1: 0; COUNT 2: 5. After R5 or R6: 3."
@@ -210,3 +228,6 @@ others =
     ∷ idle (command Unlocked (registers 0x12 0 0 0) 0) 4
     ∷ idle (command Unlocked (registers 0x12 0x8000 1 0) 0) 4
     ∷ []
+
+abbrev pub Others-hold : Type 0
+Others-hold = all holds others ≡ true

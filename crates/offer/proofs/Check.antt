@@ -16,6 +16,7 @@ use Rattle.table.proofs.Ascending.{both}
 use Rattle.table.specs.Elements.{ascending}
 use Rattle.offer.specs.Check.{sized, shaped, healthy, summed, good, checkOf, verdict, mayFollow, walkFrom}
 use Rattle.offer.specs.Elements.{offered, blank, elementIds, blockSum}
+use Rattle.offer.specs.Promises.{Verdict-injective}
 use Rattle.offer.specs.declared.Checked.the-variants.{Refused, Blocks}
 use Rattle.offer.specs.declared.Checked.{Checked}
 use Rattle.offer.specs.declared.Element.{Element}
@@ -145,8 +146,9 @@ module _ (o : Offer) (b : Bool) (is-b : b ≡ sized (o .count) (o .limit)) where
       told true = refl
       told false = refl
 
--- no second answer fits the check's promise
-pub verdict-injective : (x y : Checked) → verdict x ≡ verdict y → x ≡ y
+-- ## No second answer (specs/Promises)
+
+pub verdict-injective : Verdict-injective
 verdict-injective Refused Refused e = refl
 verdict-injective Refused (Blocks n) e = absurd (let z : _≡_ {A = ℕ} 8 0 = ap (λ (u : Told (List ℕ)). u .number) e in omega arith)
 verdict-injective (Blocks m) Refused e = absurd (let z : _≡_ {A = ℕ} 0 8 = ap (λ (u : Told (List ℕ)). u .number) e in omega arith)

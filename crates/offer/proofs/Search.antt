@@ -1,4 +1,4 @@
--- The search of an offered table: what it finds, and a turn of its loop at a time.
+-- The search of an offered table: what it finds (specs/Promises), and a turn of its loop at a time.
 use Prim.Native.Nat.{ℕ, _+_, _≤_, _<_, min}
 use mathlib.Core.Bool.{Bool, true, false, cond}
 use mathlib.Core.List.{List}
@@ -7,9 +7,9 @@ use native.Mathlib.Omega.{arith}
 use lib.ListN.{length, take, drop, getD, length-map, List·getD-map}
 use borrow.Author.Tests.{eq-eqb, ne-eqb}
 use Rattle.table.proofs.Search.{hits-there, hits-member, seek-pass, seek-hits, seek-at, end-hits}
-use Rattle.table.specs.Elements.{ascending}
 use Rattle.table.specs.Search.{place, hits}
 use Rattle.offer.specs.Elements.{blank, elementIds}
+use Rattle.offer.specs.Promises.{Find-sound, Find-member}
 use Rattle.offer.specs.Search.{find, stopped}
 use Rattle.offer.specs.declared.Element.{Element}
 use Rattle.offer.specs.declared.Found.the-variants.{Missing, One}
@@ -21,8 +21,7 @@ abbrev element : Found → Element
 element Missing = blank
 element (One e) = e
 
--- an element that is found is in the list, under its identifier
-pub find-sound : (id : ℕ) (es : List Element) (e : Element) → find id es ≡ One e → (i : ℕ) × (i < length es) × (getD es i blank ≡ e) × (e .id .0 ≡ id)
+pub find-sound : Find-sound
 unfolding find
 find-sound id es e q = go (hits id (elementIds es)) q (hits-there id (elementIds es))
   where
@@ -35,8 +34,7 @@ find-sound id es e q = go (hits id (elementIds es)) q (hits-there id (elementIds
         (place id (elementIds es), simp length-map at (w .0), same, ap (λ (x : Element). x .id .0) (sym same) ∙ sym (List·getD-map (λ (x : Element). x .id .0) es _ blank) ∙ w .1)
     go false r there = absurd (let z : _≡_ {A = ℕ} 0 1 = cc in omega arith)
 
--- and on an ascending list each is found
-pub find-member : (low : ℕ) (es : List Element) (i : ℕ) → ascending low (elementIds es) ≡ true → i < length es → find (getD es i blank .id .0) es ≡ One (getD es i blank)
+pub find-member : Find-member
 unfolding find
 find-member low es i q h =
     let name : getD (elementIds es) i 0 ≡ getD es i blank .id .0 = List·getD-map (λ (x : Element). x .id .0) es i blank in

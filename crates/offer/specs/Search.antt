@@ -1,5 +1,5 @@
--- The search by identifier in an offered table, as in one that is built; on an ascending list it finds exactly the members (proofs/Search:
--- `find-sound`, `find-member`).
+-- The search by identifier in an offered table, as in one that is built; on an ascending list it finds exactly the members (specs/Promises:
+-- `Find-sound`, `Find-member`).
 use Prim.Native.Nat.{ℕ}
 use mathlib.Core.Bool.{cond}
 use mathlib.Core.List.{List}

@@ -1,6 +1,8 @@
--- What document 01 speaks of: answers and senses, an element's bytes, registers, the security table; and `Told`, in which promises are put.
+-- What document 01 speaks of: answers and senses, an element's bytes, registers, the security table; `Told`, in which promises are put; and
+-- what holds of these.
 pub mod Answers
 pub mod Elements
+pub mod Promises
 pub mod Registers
 pub mod Table12
 pub mod Told

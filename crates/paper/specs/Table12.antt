@@ -2,6 +2,7 @@
 -- all three".
 use Prim.Native.Nat.{ℕ}
 use mathlib.Core.Bool.{Bool, true, false}
+use mathlib.Core.List.{List, [], _∷_}
 use Rattle.paper.specs.declared.Command.the-variants.{Remove, Status}
 use Rattle.paper.specs.declared.Command.{Command}
 use Rattle.paper.specs.declared.Security.the-variants.{Locked, Unlocked, Frozen}
@@ -15,7 +16,8 @@ aborts Status Locked = false
 aborts Status Unlocked = false
 aborts Status Frozen = false
 
--- the table's rows and columns
+-- ## As the code has it: rows by columns, and 1 is aborted (specs/Promises, `Grid-right`)
+
 abbrev pub rowOf : Command → ℕ
 rowOf Remove = 0
 rowOf Status = 1
@@ -24,3 +26,6 @@ abbrev pub columnOf : Security → ℕ
 columnOf Locked = 0
 columnOf Unlocked = 1
 columnOf Frozen = 2
+
+abbrev pub grid : List (List ℕ)
+grid = (1 ∷ 0 ∷ 0 ∷ []) ∷ (0 ∷ 0 ∷ 0 ∷ []) ∷ []

@@ -1,4 +1,4 @@
--- The search: what it finds among identifiers, and a turn of its loop at a time, over any list whose elements have one.
+-- The search: what it finds among identifiers (specs/Promises), and a turn of its loop at a time, over any list whose elements have one.
 use Prim.Native.Nat.{ℕ, zero, suc, _+_, _≤_, _<_, min}
 use mathlib.Core.Bool.{Bool, true, false, cond, true≢false}
 use mathlib.Core.List.{List, [], _∷_, map}
@@ -9,7 +9,8 @@ use lib.Dec.{eqb, ltb}
 use lib.ListN.{length, take, drop, getD, length-take, drop-of-length-le, List·getD-eq-default}
 use lib.Seq.{drop-cons, getD-take}
 use borrow.Author.Tests.{lt-ltb, le-ltb, eq-eqb, eqb-true}
-use Rattle.table.specs.Elements.{blankPart, partIds, ascending}
+use Rattle.table.specs.Elements.{blankPart, partIds}
+use Rattle.table.specs.Promises.{Hits-there, Hits-member}
 use Rattle.table.specs.Search.{place, hits, sightIn}
 use Rattle.table.specs.declared.Part.{Part}
 use Rattle.table.proofs.Arrays.{taken, length-taken}
@@ -17,8 +18,7 @@ use Rattle.table.proofs.Ascending.{ascending-both, ascending-low}
 
 -- ## What is found
 
--- a hit is there, where the search stops
-pub hits-there : (id : ℕ) (ids : List ℕ) → hits id ids ≡ true → (place id ids < length ids) × (getD ids (place id ids) 0 ≡ id)
+pub hits-there : Hits-there
 hits-there id [] q = absurd (true≢false (sym q))
 hits-there id (x ∷ xs) q = go (ltb x id) q (hits-there id xs)
   where
@@ -27,8 +27,7 @@ hits-there id (x ∷ xs) q = go (ltb x id) q (hits-there id xs)
     go true r later = let w = later r in (omega (arith, w .0), w .1)
     go false r later = (omega arith, eqb-true x id r)
 
--- and on an ascending list each is found, at its place
-pub hits-member : (low : ℕ) (ids : List ℕ) (i : ℕ) → ascending low ids ≡ true → i < length ids → (hits (getD ids i 0) ids ≡ true) × (place (getD ids i 0) ids ≡ i)
+pub hits-member : Hits-member
 hits-member low [] i q h = absurd (omega arith)
 hits-member low (x ∷ xs) zero q h = rw (le-ltb x x (omega arith)) (eq-eqb x x refl, refl)
 hits-member low (x ∷ xs) (suc i) q h =

@@ -1,3 +1,4 @@
--- The table as built: its elements, the search, the counts.
+-- The table as built: its elements, the search and what it finds, the counts.
 pub mod Elements
+pub mod Promises
 pub mod Search

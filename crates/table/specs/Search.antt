@@ -1,5 +1,5 @@
 -- The search by identifier. It stops at the first identifier that is not below the one sought; on an ascending list it finds exactly the
--- members (proofs/Search: `hits-there`, `hits-member`).
+-- members (specs/Promises: `Hits-there`, `Hits-member`).
 use Prim.Native.Nat.{ℕ, suc}
 use mathlib.Core.Bool.{Bool, false, cond}
 use mathlib.Core.List.{List, [], _∷_}

@@ -1,0 +1,23 @@
+-- What holds of every answer, and of table 12. Each is a statement; proofs/ has the proof under the same name in lower case.
+use mathlib.Core.List.{[]}
+use mathlib.Core.Path.{_≡_}
+use lib.Dec.{eqb}
+use lib.ListN.{getD}
+use Rattle.paper.specs.Answers.{numberOf}
+use Rattle.paper.specs.Table12.{aborts, grid, rowOf, columnOf}
+use Rattle.paper.specs.Told.{Told, said}
+use Rattle.paper.specs.declared.Answer.{Answer}
+use Rattle.paper.specs.declared.Command.{Command}
+use Rattle.paper.specs.declared.Security.{Security}
+
+-- no two answers have one number
+abbrev pub Number-injective : Type 0
+Number-injective = (a b : Answer) → numberOf a ≡ numberOf b → a ≡ b
+
+-- "that no second answer fits", and nothing else lent or handed back: of every call whose promise equates `said` with a definition
+abbrev pub No-second-answer : Type 1
+No-second-answer = (X : Type 0) (t : Told X) (a b : Answer) (x y : X) → said a x ≡ t → said b y ≡ t → (a ≡ b) × (x ≡ y)
+
+-- "A two by three array of arrays: the command's row by the security state's column": its 1s are what table 12 aborts
+abbrev pub Grid-right : Type 0
+Grid-right = (k : Command) (s : Security) → eqb (getD (getD grid (rowOf k) []) (columnOf s) 0) 1 ≡ aborts k s
