@@ -20,7 +20,8 @@ use Rattle.reach.specs.declared.Bound.{Bound}
 use Rattle.reach.specs.declared.Turn.the-variants.{Older, Newer}
 use Rattle.reach.specs.declared.Turn.{Turn}
 use Rattle.request.specs.Requests.{requestOf}
-use Rattle.comparison.specs.Comparison.{linesOf, differencesFor, comparisonOf, isAccepted, linesFrom}
+use Rattle.comparison.specs.Comparison.{linesOf, differencesFor, comparisonOf}
+use Rattle.comparison.specs.Private.{isAccepted, linesFrom}
 
 -- ## Both were accepted
 

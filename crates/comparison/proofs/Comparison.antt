@@ -26,7 +26,8 @@ use Rattle.slices.specs.Lists.{stored}
 use Rattle.text.proofs.Written.{len-written, held-written}
 use Rattle.text.specs.Text.{nothing, written, held}
 use Rattle.text.specs.declared.Text.{Text}
-use Rattle.comparison.specs.Comparison.{linesOf, comparisonOf, isAccepted, stepOf, linesFrom}
+use Rattle.comparison.specs.Comparison.{linesOf, comparisonOf}
+use Rattle.comparison.specs.Private.{isAccepted, stepOf, linesFrom}
 use Rattle.comparison.proofs.Accepted.{by-walk}
 use Rattle.comparison.proofs.Lengths.{length-lines}
 

@@ -16,7 +16,8 @@ use Rattle.reach.specs.declared.Bound.the-variants.{Whole, UpTo}
 use Rattle.reach.specs.declared.Bound.{Bound}
 use Rattle.reach.specs.declared.Turn.the-variants.{Older, Newer}
 use Rattle.reach.specs.declared.Turn.{Turn}
-use Rattle.comparison.specs.Comparison.{linesOf, differencesFor, comparisonOf, statusFor, statusOf, isAccepted, linesFrom}
+use Rattle.comparison.specs.Comparison.{linesOf, differencesFor, comparisonOf, statusFor, statusOf}
+use Rattle.comparison.specs.Private.{isAccepted, linesFrom}
 use Rattle.comparison.specs.Promises.{Enough, Tells-status}
 use Rattle.comparison.proofs.Accepted.{by-walk}
 use Rattle.comparison.proofs.Lengths.{length-lines}

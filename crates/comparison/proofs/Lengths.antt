@@ -13,7 +13,8 @@ use Rattle.compare.specs.declared.Cursor.{Cursor}
 use Rattle.compare.specs.declared.Line.{Line}
 use Rattle.reach.specs.Opening.{Values, bound, turn, judged}
 use Rattle.slices.specs.Lists.{sum}
-use Rattle.comparison.specs.Comparison.{linesOf, isAccepted, linesFrom}
+use Rattle.comparison.specs.Comparison.{linesOf}
+use Rattle.comparison.specs.Private.{isAccepted, linesFrom}
 use Rattle.comparison.proofs.Accepted.{counts, lines-none}
 
 -- ## The walk's lines

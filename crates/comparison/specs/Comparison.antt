@@ -1,16 +1,12 @@
 -- The text of a comparison, as docs/changes/2026-01 asks for it: "a line for each difference", and a last line. The older page is s, the
 -- newer t.
 use Prim.Native.Nat.{ℕ}
-use mathlib.Core.Bool.{Bool, true, false, cond}
+use mathlib.Core.Bool.{cond}
 use mathlib.Core.List.{List, [], _∷_, _++_}
 use lib.Dec.{eqb}
 use Rattle.changes.specs.Changes.{lineOf, lastLine}
 use Rattle.compare.specs.Differences.{differencesOf}
-use Rattle.compare.specs.Walk.{nextOf, walkFrom}
-use Rattle.compare.specs.declared.Cursor.{Cursor}
 use Rattle.compare.specs.declared.Line.{Line}
-use Rattle.compare.specs.declared.Step.the-variants.{Done}
-use Rattle.compare.specs.declared.Step.{Step}
 use Rattle.reach.specs.Opening.{Values, bound, turn, judged}
 use Rattle.slices.specs.Lists.{flat}
 
@@ -38,16 +34,3 @@ statusFor (bound b) (l ∷ ls) = 1
 abbrev pub statusOf : List ℕ → ℕ
 statusOf [] = 0
 statusOf (b ∷ bs) = cond (eqb b 0x72) 2 (cond (eqb b 0x63) 0 1)
-
--- ## For the promises of private functions
-
-abbrev pub isAccepted : Values → Bool
-isAccepted (bound b) = true
-isAccepted (turn w) = false
-
-abbrev pub stepOf : Bool → List ℕ → List ℕ → Cursor → Step
-stepOf accepted s t c = cond accepted (nextOf s t c) Done
-
--- the lines from a cursor on
-unfoldable pub linesFrom : Bool → List ℕ → List ℕ → Cursor → List ℕ
-linesFrom accepted s t c = linesOf s t (cond accepted (walkFrom s t c) [])

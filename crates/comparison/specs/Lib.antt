@@ -1,4 +1,5 @@
 -- The text of a comparison.
 
 pub mod Comparison
+pub mod Private
 pub mod Promises

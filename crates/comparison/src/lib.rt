@@ -9,6 +9,7 @@ ghost use Rattle.paper.specs.Told.{said};
 ghost use Rattle.reach.specs.Opening.{heard};
 ghost use Rattle.slices.specs.Lists.{stored};
 ghost use Rattle.comparison.specs.Comparison as paper;
+ghost use Rattle.comparison.specs.Private as private;
 use compare::Cursor;
 use compare::Step;
 use listing::Printed;
@@ -16,7 +17,7 @@ use paper::Answer;
 use reach::Opening;
 
 fn is_accepted(opening: Opening) -> bool
-    ensures { λ r. ⌜ r ≡ paper.isAccepted (heard opening .state) ⌝ }
+    ensures { λ r. ⌜ r ≡ private.isAccepted (heard opening .state) ⌝ }
 {
     match opening {
         Opening::Accepted(_) => true,
@@ -26,7 +27,7 @@ fn is_accepted(opening: Opening) -> bool
 
 // The next difference of two pages, if they were accepted.
 fn next_of(older: &[u8], newer: &[u8], accepted: bool, at: Cursor) -> Step
-    ensures { λ r. ⌜ r ≡ paper.stepOf accepted (now (older .entry)) (now (newer .entry)) at ⌝ }
+    ensures { λ r. ⌜ r ≡ private.stepOf accepted (now (older .entry)) (now (newer .entry)) at ⌝ }
 {
     if accepted {
         compare::next(older, newer, at)
@@ -37,8 +38,8 @@ fn next_of(older: &[u8], newer: &[u8], accepted: bool, at: Cursor) -> Step
 
 // How long the lines of all differences are.
 fn measure<'a>(older: &'a [u8], newer: &'a [u8], accepted: bool) -> usize
-    requires { ⌜ length (paper.linesFrom accepted (now older) (now newer) first) < 2 ^ 64 ⌝ }
-    ensures { λ r. ⌜ r ≡ length (paper.linesFrom accepted (now (older .entry)) (now (newer .entry)) first) ⌝ }
+    requires { ⌜ length (private.linesFrom accepted (now older) (now newer) first) < 2 ^ 64 ⌝ }
+    ensures { λ r. ⌜ r ≡ length (private.linesFrom accepted (now (older .entry)) (now (newer .entry)) first) ⌝ }
 {
     let mut size: usize = 0;
     let mut at = Cursor::first();
@@ -56,8 +57,8 @@ fn measure<'a>(older: &'a [u8], newer: &'a [u8], accepted: bool) -> usize
 
 // Stores the lines of all differences.
 fn put_lines<'a>(older: &'a [u8], newer: &'a [u8], accepted: bool, out: &mut [u8])
-    requires { ⌜ length (paper.linesFrom accepted (now older) (now newer) first) ≤ length (now out) ⌝ }
-    ensures { λ _. ⌜ now (out .exit) ≡ stored (now (out .entry)) 0 (paper.linesFrom accepted (now (older .entry)) (now (newer .entry)) first) ⌝ }
+    requires { ⌜ length (private.linesFrom accepted (now older) (now newer) first) ≤ length (now out) ⌝ }
+    ensures { λ _. ⌜ now (out .exit) ≡ stored (now (out .entry)) 0 (private.linesFrom accepted (now (older .entry)) (now (newer .entry)) first) ⌝ }
 {
     let mut size: usize = 0;
     let mut at = Cursor::first();

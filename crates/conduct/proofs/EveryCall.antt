@@ -15,7 +15,8 @@ use Rattle.cells.specs.declared.Position.{Position}
 use Rattle.cells.specs.declared.Removal.{Removal}
 use Rattle.cells.specs.declared.Seen.{Seen}
 use Rattle.cells.specs.declared.Store.the-variants.{Nothing, Marked}
-use Rattle.device.specs.Record.{carriedOut, tell, see, storeAt}
+use Rattle.device.proofs.Stores.{storeAt}
+use Rattle.device.specs.Record.{carriedOut, tell, see}
 use Rattle.device.specs.declared.Device.{Device}
 use Rattle.paper.proofs.Once.{told-once}
 use Rattle.paper.specs.declared.ElementId.{ElementId}

@@ -18,7 +18,8 @@ use Rattle.cells.specs.declared.Removal.{Removal}
 use Rattle.cells.specs.declared.Seen.{Seen}
 use Rattle.cells.specs.declared.Store.the-variants.{Nothing, Marked}
 use Rattle.cells.specs.declared.Store.{Store}
-use Rattle.device.specs.Record.{carriedOut, see, storeAt}
+use Rattle.device.proofs.Stores.{storeAt}
+use Rattle.device.specs.Record.{carriedOut, see}
 use Rattle.device.specs.declared.Device.{Device}
 use Rattle.paper.specs.declared.ElementId.{ElementId}
 use Rattle.slices.proofs.Lists.{every-take, every-at, every-set}

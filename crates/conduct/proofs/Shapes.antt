@@ -13,8 +13,9 @@ use Rattle.cells.specs.declared.Position.the-variants.{Work1, Wind1}
 use Rattle.cells.specs.declared.Removal.{Removal}
 use Rattle.cells.specs.declared.Seen.{Seen}
 use Rattle.cells.specs.declared.Store.the-variants.{Nothing, Marked, Graded, FailedTo, Noted}
+use Rattle.device.proofs.Stores.{storeAt}
 use Rattle.device.specs.Machine.{Event, command, step, mediaError, powerCut, comreset, hardwareReset, softwareReset, grade, rule}
-use Rattle.device.specs.Record.{underWay, removedNumber, says, see, storeAt}
+use Rattle.device.specs.Record.{underWay, removedNumber, says, see}
 use Rattle.device.specs.declared.Device.{Device}
 use Rattle.paper.specs.Elements.{removedHealth, gradedHealth}
 use Rattle.paper.specs.Registers.{Registers, low48}

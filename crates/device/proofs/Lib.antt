@@ -1,2 +1,3 @@
--- What is proved of the calls.
+-- What is proved of the calls; the store of a step.
 pub mod Rules
+pub mod Stores

@@ -4,14 +4,12 @@ use mathlib.Core.Bool.{Bool}
 use Rattle.cells.specs.Cells.{make, isFull, healthIn, removedIn}
 use Rattle.cells.specs.Rulings.{Ruled, quiet}
 use Rattle.cells.specs.Sights.{seeIn}
-use Rattle.cells.specs.declared.Position.{Position}
 use Rattle.cells.specs.declared.Removal.{Removal}
 use Rattle.cells.specs.declared.Seen.{Seen}
-use Rattle.cells.specs.declared.Store.{Store}
 use Rattle.paper.specs.Told.{Told, tells}
 use Rattle.paper.specs.declared.ElementId.{ElementId}
 use Rattle.paper.specs.declared.Lba.{Lba}
-use Rattle.steps.specs.Steps.{woundTo, storeFrom}
+use Rattle.steps.specs.Steps.{woundTo}
 use Rattle.device.specs.declared.Device.{Device}
 
 -- "A removal is under way exactly while the note is full."
@@ -30,10 +28,7 @@ removedNumber d = removedIn (d .table) (d .cells)
 abbrev pub see : Device → ElementId → Seen
 see d id = seeIn (d .table) (d .cells) id
 
--- the store of a step, and where winding up leads, with the noted element as it is seen now
-abbrev pub storeAt : Device → Removal → Position → Store
-storeAt d w p = storeFrom (see d (w .element)) w p
-
+-- where winding up leads, with the noted element as it is seen now
 abbrev pub woundUp : Device → Removal → Lba
 woundUp d w = woundTo (see d (w .element)) w
 

@@ -8,7 +8,8 @@ use Rattle.changes.specs.Changes.{handed, olderOf, lineOf, lastLine}
 use Rattle.compare.proofs.Examples.{older, newer}
 use Rattle.compare.specs.Walk.{first, keyAt, agreeAt, stepAt, past, nextTo, nextOf, walk, walkFrom}
 use Rattle.comparison.proofs.Accepted.{by-walk}
-use Rattle.comparison.specs.Comparison.{comparisonOf, isAccepted, linesFrom}
+use Rattle.comparison.specs.Comparison.{comparisonOf}
+use Rattle.comparison.specs.Private.{isAccepted, linesFrom}
 use Rattle.parts.specs.Parts.{descriptorPart}
 use Rattle.reach.specs.Opening.{Values, bound, accepted, judged}
 use Rattle.reach.specs.Pages.{countOf, elementAt, reachOf, boundOf}

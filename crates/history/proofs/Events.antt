@@ -15,8 +15,9 @@ use Rattle.cells.specs.declared.Removal.{Removal}
 use Rattle.cells.specs.declared.Store.the-variants.{Nothing, NativeTo, AccessibleTo, Marked, Graded, FailedTo, Noted, NoteEmptied}
 use Rattle.cells.specs.declared.Store.{Store}
 use Rattle.conduct.proofs.Shapes.{still, moving, stopping, Shape, quiet, clears, notes, advances, winds, Grading, refuses, grades, each, choose}
+use Rattle.device.proofs.Stores.{storeAt}
 use Rattle.device.specs.Machine.{Event, command, step, mediaError, powerCut, comreset, hardwareReset, softwareReset, grade, rule, told}
-use Rattle.device.specs.Record.{underWay, removedNumber, see, storeAt}
+use Rattle.device.specs.Record.{underWay, removedNumber, see}
 use Rattle.device.specs.declared.Device.{Device}
 use Rattle.paper.specs.Elements.{removedHealth}
 use Rattle.paper.specs.Registers.{Registers, low48}

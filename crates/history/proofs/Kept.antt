@@ -16,8 +16,9 @@ use Rattle.cells.specs.declared.Position.{Position}
 use Rattle.cells.specs.declared.Removal.{Removal}
 use Rattle.cells.specs.declared.Store.the-variants.{Nothing, Marked}
 use Rattle.conduct.proofs.Shapes.{Kind, Standing, Shape, quiet, clears, notes, advances, winds, Grading, refuses, grades, each}
+use Rattle.device.proofs.Stores.{storeAt}
 use Rattle.device.specs.Machine.{Event, command, step, mediaError, powerCut, comreset, hardwareReset, softwareReset, grade, rule}
-use Rattle.device.specs.Record.{healthAt, carriedOut, see, woundUp, storeAt}
+use Rattle.device.specs.Record.{healthAt, carriedOut, see, woundUp}
 use Rattle.device.specs.declared.Device.{Device}
 use Rattle.paper.specs.Elements.{removedHealth}
 use Rattle.paper.specs.declared.ElementId.{ElementId}

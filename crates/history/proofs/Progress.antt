@@ -13,8 +13,9 @@ use Rattle.cells.specs.declared.Removal.{Removal}
 use Rattle.cells.specs.declared.Store.the-variants.{Marked, Noted}
 use Rattle.cells.specs.declared.Store.{Store}
 use Rattle.conduct.proofs.Shapes.{still, Shape, quiet, clears, notes, Grading, refuses, grades, each, marking-note}
+use Rattle.device.proofs.Stores.{storeAt}
 use Rattle.device.specs.Machine.{Event, command, step, mediaError, powerCut, comreset, hardwareReset, softwareReset, grade, rule, told}
-use Rattle.device.specs.Record.{carriedOut, see, storeAt, woundUp}
+use Rattle.device.specs.Record.{carriedOut, see, woundUp}
 use Rattle.device.specs.declared.Device.{Device}
 use Rattle.paper.specs.declared.ElementId.{ElementId}
 use Rattle.steps.specs.Steps.{nextOf, ruleStep, ruleStop}

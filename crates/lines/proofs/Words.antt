@@ -9,7 +9,8 @@ use lib.Dec.{eqb}
 use lib.ListN.{length, take, drop, getD, length-append, length-drop, drop-of-length-le}
 use lib.Seq.{drop-cons, take-append-seam}
 use borrow.Author.Tests.{eq-eqb, ne-eqb, not-true, not-false}
-use Rattle.lines.specs.Parts.{isSpace, isOther, dropWhile, takeWhile, spaceOr, fromWord, wordAt, isEmpty, same, named, isPassed}
+use Rattle.lines.specs.Parts.{isSpace, isOther, dropWhile, takeWhile, fromWord, wordAt, isEmpty, same, named, isPassed}
+use Rattle.lines.specs.Private.{spaceOr}
 
 -- ## Skipped while a test holds
 

@@ -19,10 +19,6 @@ isSpace b = eqb b 32
 abbrev pub isOther : ℕ → Bool
 isOther b = not (isSpace b)
 
-abbrev pub spaceOr : Bool → ℕ → Bool
-spaceOr true = isSpace
-spaceOr false = isOther
-
 -- a line from its word k on, the first being word 0
 abbrev pub fromWord : ℕ → List ℕ → List ℕ
 fromWord zero l = dropWhile isSpace l

@@ -14,8 +14,9 @@ use Rattle.paper.specs.Told.{Told, tells}
 use Rattle.slices.specs.Lists.{all}
 use Rattle.table.proofs.Ascending.{both}
 use Rattle.table.specs.Elements.{ascending}
-use Rattle.offer.specs.Check.{sized, shaped, healthy, summed, good, checkOf, verdict, mayFollow, walkFrom}
+use Rattle.offer.specs.Check.{sized, shaped, healthy, summed, good, checkOf, verdict}
 use Rattle.offer.specs.Elements.{offered, blank, elementIds, blockSum}
+use Rattle.offer.specs.Private.{mayFollow, walkFrom}
 use Rattle.offer.specs.Promises.{Verdict-injective}
 use Rattle.offer.specs.declared.Checked.the-variants.{Refused, Blocks}
 use Rattle.offer.specs.declared.Checked.{Checked}

@@ -9,8 +9,9 @@ use borrow.Author.Tests.{eq-eqb, ne-eqb}
 use Rattle.table.proofs.Search.{hits-there, hits-member, seek-pass, seek-hits, seek-at, end-hits}
 use Rattle.table.specs.Search.{place, hits}
 use Rattle.offer.specs.Elements.{blank, elementIds}
+use Rattle.offer.specs.Private.{stopped}
 use Rattle.offer.specs.Promises.{Find-sound, Find-member}
-use Rattle.offer.specs.Search.{find, stopped}
+use Rattle.offer.specs.Search.{find}
 use Rattle.offer.specs.declared.Element.{Element}
 use Rattle.offer.specs.declared.Found.the-variants.{Missing, One}
 use Rattle.offer.specs.declared.Found.{Found}

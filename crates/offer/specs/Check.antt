@@ -1,8 +1,8 @@
 -- Document 01, "Table and cells": which tables are good. "Any other table is refused (8)."
-use Prim.Native.Nat.{ℕ, _+_, _^_}
+use Prim.Native.Nat.{ℕ, _^_}
 use mathlib.Core.Bool.{Bool, cond, _&&_, _||_}
 use mathlib.Core.List.{List, [], _∷_}
-use lib.Dec.{eqb, leb, ltb}
+use lib.Dec.{eqb, leb}
 use Rattle.paper.specs.Elements.{storageType, gradedHealth}
 use Rattle.paper.specs.Told.{Told, tells}
 use Rattle.slices.specs.Lists.{all}
@@ -45,13 +45,3 @@ checkOf o = cond (good (o .count) (offered o) (o .limit)) (tells 0 (blockSum (of
 abbrev pub verdict : Checked → Told (List ℕ)
 verdict Refused = tells 8 []
 verdict (Blocks n) = tells 0 (n ∷ [])
-
--- ## The same, element by element, as the code goes (proofs/Check, `walk-checks`)
-
--- an element may follow an identifier `last` and `total` blocks
-abbrev pub mayFollow : ℕ → ℕ → Element → Bool
-mayFollow last total e = ltb last (e .id .0) && (shaped e && (healthy e && leb (total + e .blocks) (2 ^ 48)))
-
-abbrev pub walkFrom : ℕ → ℕ → List Element → Checked
-walkFrom last total [] = cond (leb 2 total) (Blocks total) Refused
-walkFrom last total (e ∷ es) = cond (mayFollow last total e) (walkFrom (e .id .0) (total + e .blocks) es) Refused

@@ -2,5 +2,6 @@
 pub mod Check
 pub mod Elements
 pub mod Examples
+pub mod Private
 pub mod Promises
 pub mod Search

@@ -3,7 +3,6 @@
 use Prim.Native.Nat.{ℕ}
 use mathlib.Core.Bool.{cond}
 use mathlib.Core.List.{List}
-use lib.Dec.{eqb}
 use lib.ListN.{getD}
 use Rattle.table.specs.Search.{place, hits}
 use Rattle.offer.specs.Elements.{blank, elementIds}
@@ -14,9 +13,3 @@ use Rattle.offer.specs.declared.Found.{Found}
 -- the element of an identifier in an offered list
 unfoldable pub find : ℕ → List Element → Found
 find id es = cond (hits id (elementIds es)) (One (getD es (place id (elementIds es)) blank)) Missing
-
--- ## For the promises of private functions
-
--- what `find` finds, where the search stops at an element
-abbrev pub stopped : ℕ → Element → Found
-stopped id e = cond (eqb (e .id .0) id) (One e) Missing

@@ -4,9 +4,10 @@ ghost use Prim.Native.Nat.{_-_, _≤_, _^_};
 ghost use mathlib.Core.List.{_++_, map};
 ghost use lib.ListN.{take, replicate};
 ghost use Rattle.table.specs.Elements.{blankPart};
-ghost use Rattle.offer.specs.Check.{sized, shaped, healthy, mayFollow, walkFrom, checkOf, verdict};
+ghost use Rattle.offer.specs.Check.{sized, shaped, healthy, checkOf, verdict};
 ghost use Rattle.offer.specs.Elements as elements;
 ghost use Rattle.offer.specs.Elements.{offered, partOf};
+ghost use Rattle.offer.specs.Private as private;
 ghost use Rattle.offer.specs.Search as search;
 use paper::ElementId;
 use table::Part;
@@ -106,7 +107,7 @@ fn is_healthy(e: Element) -> bool
 // Whether an element may follow: above the last identifier, shaped, healthy, and with the blocks so far at most 2^48.
 fn may_follow(e: Element, last: u32, total: u64) -> bool
     requires { ⌜ total ≤ 2 ^ 48 ⌝ }
-    ensures { λ r. ⌜ r ≡ mayFollow last total e ⌝ }
+    ensures { λ r. ⌜ r ≡ private.mayFollow last total e ⌝ }
 {
     if e.id.0 <= last {
         return false;
@@ -123,7 +124,7 @@ fn may_follow(e: Element, last: u32, total: u64) -> bool
 // The first n elements, checked one after the other.
 fn walk(es: [Element; 128], n: usize) -> Checked
     requires { ⌜ n ≤ 128 ⌝ }
-    ensures { λ r. ⌜ r ≡ walkFrom 0 0 (take n es) ⌝ }
+    ensures { λ r. ⌜ r ≡ private.walkFrom 0 0 (take n es) ⌝ }
 {
     let mut i: usize = 0;
     let mut last: u32 = 0;
@@ -147,7 +148,7 @@ fn walk(es: [Element; 128], n: usize) -> Checked
 
 // What the search comes to where it stops.
 fn stopped(e: Element, want: u32) -> Found
-    ensures { λ r. ⌜ r ≡ search.stopped want e ⌝ }
+    ensures { λ r. ⌜ r ≡ private.stopped want e ⌝ }
 {
     if e.id.0 == want {
         return Found::One(e);

@@ -27,7 +27,7 @@ use Rattle.table.specs.declared.Part.{Part}
 use Rattle.view.specs.Shown.{shownOf, asks, busyOf}
 use Rattle.words.specs.declared.Order.the-variants.{Little}
 use Rattle.status.specs.Page.{shownAt, shownAll, listOf, headed, headerOf, pageOf, shown}
-use Rattle.status.specs.Places.{shownIn, shownThere}
+use Rattle.status.specs.Private.{shownIn, shownThere}
 use Rattle.status.specs.Promises.{Keeps-identifier}
 use Rattle.status.proofs.Places.{length-there, at-place, take-there, Listed, list-turn, all-listed}
 

@@ -20,7 +20,7 @@ use Rattle.table.specs.Elements.{live, blankPart, size}
 use Rattle.table.specs.declared.Part.{Part}
 use Rattle.view.specs.Shown.{shownOf, asks}
 use Rattle.status.specs.Page.{shownAt, listOf}
-use Rattle.status.specs.Places.{Slots, shownIn, shownThere}
+use Rattle.status.specs.Private.{Slots, shownIn, shownThere}
 
 take-map : {A B : Type 0} (f : A → B) (n : ℕ) (l : List A) → take n (map f l) ≡ map f (take n l)
 take-map f zero l = refl

@@ -9,7 +9,7 @@ ghost use Rattle.paper.specs.Told.{said};
 ghost use Rattle.request.specs.Requests.{pagesOf};
 ghost use Rattle.slices.specs.Lists.{flat, stored};
 ghost use Rattle.status.specs.Page.{headed, pageOf, shown};
-ghost use Rattle.status.specs.Places.{Slots, shownThere};
+ghost use Rattle.status.specs.Private as private;
 use device::Device;
 use layout::Header;
 use paper::Answer;
@@ -52,8 +52,8 @@ fn put_zeros(returned: usize, count: PageCount, buf: &mut [u8])
 
 // Stores the descriptors of the elements at the first of the places.
 fn put_list(ps: [Part; 128], hs: [u8; 128], places: [u8; 128], returned: usize, buf: &mut [u8])
-    requires { ⌜ (returned ≤ 128) × (32 + 32 * returned ≤ length (now buf)) × Slots places ⌝ }
-    ensures { λ _. ⌜ now (buf .exit) ≡ stored (now (buf .entry)) 32 (flat (descriptorBytes Order.Little) (shownThere ps hs places returned)) ⌝ }
+    requires { ⌜ (returned ≤ 128) × (32 + 32 * returned ≤ length (now buf)) × private.Slots places ⌝ }
+    ensures { λ _. ⌜ now (buf .exit) ≡ stored (now (buf .entry)) 32 (flat (descriptorBytes Order.Little) (private.shownThere ps hs places returned)) ⌝ }
 {
     let mut k: usize = 0;
     while k < returned {

@@ -15,7 +15,8 @@ use Rattle.cells.specs.declared.Store.the-variants.{Nothing, Marked, Graded}
 use Rattle.cells.specs.declared.Store.{Store}
 use Rattle.paper.specs.declared.ElementId.{ElementId}
 use Rattle.table.specs.declared.Table.{Table}
-use Rattle.steps.specs.Steps.{woundTo, marking, storeFrom, Alike, Blind, nextOf, ruleStep, ruleStop, gradeSeen, ruleGrade}
+use Rattle.steps.specs.Private.{Alike, Blind}
+use Rattle.steps.specs.Steps.{woundTo, marking, storeFrom, nextOf, ruleStep, ruleStop, gradeSeen, ruleGrade}
 
 -- ## What a step looks at
 

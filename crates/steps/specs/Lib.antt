@@ -1,2 +1,3 @@
 -- The steps of a removal, winding up, and grades.
+pub mod Private
 pub mod Steps

@@ -1,7 +1,6 @@
 -- Document 01: "Work steps", "Winding up" and "Grade".
 use Prim.Native.Nat.{ℕ}
 use mathlib.Core.Bool.{cond, not, _||_}
-use mathlib.Core.Path.{_≡_}
 use Rattle.paper.specs.Elements.{removedHealth, gradedHealth}
 use Rattle.paper.specs.declared.ElementId.{ElementId}
 use Rattle.paper.specs.declared.Lba.{Lba}
@@ -69,13 +68,3 @@ gradeSeen p h s = cond (not (s .hit) || (removedHealth (s .health) || not (grade
 
 abbrev pub ruleGrade : Table → Cells → Position → ElementId → ℕ → Ruled
 ruleGrade t c p id h = gradeSeen p h (seeIn t c id)
-
--- ## What the code need not look at
-
--- the step's store is the same from either
-abbrev pub Alike : Position → Seen → Seen → Type 0
-Alike p x y = (w : Removal) → storeFrom x w p ≡ storeFrom y w p
-
--- the step need not look at the noted element
-abbrev pub Blind : Position → Type 0
-Blind p = (x y : Seen) → Alike p x y

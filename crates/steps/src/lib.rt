@@ -4,6 +4,7 @@ ghost use mathlib.Core.Bool.{false};
 ghost use Rattle.cells.specs.Rulings.{ruled};
 ghost use Rattle.cells.specs.Sights.{seeIn};
 ghost use Rattle.paper.specs.Answers.{numberOf};
+ghost use Rattle.steps.specs.Private as private;
 ghost use Rattle.steps.specs.Steps as steps;
 use cells::Cells;
 use cells::Mark;
@@ -39,7 +40,7 @@ fn next_of(at: Position) -> Position
 
 // Whether a step looks at the noted element: the marking one, and the first two of winding up.
 fn does_look(at: Position) -> bool
-    ensures { λ r. ⌜ (r ≡ false → steps.Blind at) ⌝ }
+    ensures { λ r. ⌜ (r ≡ false → private.Blind at) ⌝ }
 {
     match at {
         Position::Work1 => false,
@@ -97,7 +98,7 @@ fn store_from(s: Seen, w: Removal, at: Position) -> Store
 
 // What a step sees of the noted element, or something blank where it need not look.
 fn look(t: Table, c: Cells, id: ElementId, at: Position) -> Seen
-    ensures { λ r. ⌜ steps.Alike at r (seeIn t c id) ⌝ }
+    ensures { λ r. ⌜ private.Alike at r (seeIn t c id) ⌝ }
 {
     if does_look(at) {
         return cells::see(t, c, id);

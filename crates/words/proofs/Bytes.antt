@@ -9,7 +9,8 @@ use native.Mathlib.Omega.{arith}
 use lib.Dec.{lit<}
 use lib.ListN.{length, getD, drop, length-reverse}
 use lib.Seq.{drop-drop, getD-drop}
-use Rattle.words.specs.Bytes.{lowBytes, value, ordered, bytesOf, number, front, numberAt, joined}
+use Rattle.words.specs.Bytes.{lowBytes, value, ordered, bytesOf, number, front, numberAt}
+use Rattle.words.specs.Private.{joined}
 use Rattle.words.specs.declared.Order.the-variants.{Little, Big}
 use Rattle.words.specs.declared.Order.{Order}
 

@@ -36,8 +36,3 @@ front (suc w) s = getD s 0 0 ∷ front w (drop 1 s)
 -- the number of the w bytes at a place
 abbrev pub numberAt : Order → ℕ → List ℕ → ℕ → ℕ
 numberAt o w s at = number o (front w (drop at s))
-
--- two halves joined: the high one times m
-abbrev pub joined : Order → ℕ → ℕ → ℕ → ℕ
-joined Little m a b = b * m + a
-joined Big m a b = a * m + b

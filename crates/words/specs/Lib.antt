@@ -1,2 +1,3 @@
 -- Numbers as bytes, in either order.
 pub mod Bytes
+pub mod Private

@@ -1,6 +1,7 @@
 // Numbers as bytes, in either order, at widths 2, 4 and 8. Any place will do: past the end a byte is 0.
 ghost use mathlib.Core.Path.{_≡_};
-ghost use Rattle.words.specs.Bytes.{bytesOf, numberAt, joined};
+ghost use Rattle.words.specs.Bytes.{bytesOf, numberAt};
+ghost use Rattle.words.specs.Private as private;
 use slices::byte_at;
 use slices::tail;
 
@@ -73,7 +74,7 @@ pub fn number8(s: &[u8], at: usize, o: Order) -> u64
 }
 
 fn join2(a: u8, b: u8, o: Order) -> u16
-    ensures { λ r. ⌜ r ≡ joined o 256 a b ⌝ }
+    ensures { λ r. ⌜ r ≡ private.joined o 256 a b ⌝ }
 {
     match o {
         Order::Little => (b as u16) * 256 + (a as u16),
@@ -82,7 +83,7 @@ fn join2(a: u8, b: u8, o: Order) -> u16
 }
 
 fn join4(a: u16, b: u16, o: Order) -> u32
-    ensures { λ r. ⌜ r ≡ joined o 65536 a b ⌝ }
+    ensures { λ r. ⌜ r ≡ private.joined o 65536 a b ⌝ }
 {
     match o {
         Order::Little => (b as u32) * 65536 + (a as u32),
@@ -91,7 +92,7 @@ fn join4(a: u16, b: u16, o: Order) -> u32
 }
 
 fn join8(a: u32, b: u32, o: Order) -> u64
-    ensures { λ r. ⌜ r ≡ joined o 4294967296 a b ⌝ }
+    ensures { λ r. ⌜ r ≡ private.joined o 4294967296 a b ⌝ }
 {
     match o {
         Order::Little => (b as u64) * 4294967296 + (a as u64),

@@ -4,7 +4,7 @@ use mathlib.Core.Path.{_≡_}
 use lib.ListN.{length}
 use borrow.Author.Needs.{needs}
 use Rattle.compare.specs.Walk.{first, ahead}
-use Rattle.comparison.specs.Comparison.{linesFrom}
+use Rattle.comparison.specs.Private.{linesFrom}
 use Rattle.comparison.proofs.Comparison.{measure-first, measure-end, measure-next, measure-room, found-less}
 use Rattle.comparison.proofs.measure.Statement.{statement}
 use Rattle.comparison.proofs.measure.Tie as tie

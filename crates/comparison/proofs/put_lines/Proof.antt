@@ -7,7 +7,7 @@ use borrow.Author.Needs.{needs}
 use Rattle.compare.specs.Walk.{first, ahead}
 use Rattle.slices.proofs.Lists.{stored-none}
 use Rattle.slices.specs.Lists.{stored}
-use Rattle.comparison.specs.Comparison.{linesFrom}
+use Rattle.comparison.specs.Private.{linesFrom}
 use Rattle.comparison.proofs.Comparison.{lines-first, put-end, put-next, put-rest, put-inside, put-room, found-less}
 use Rattle.comparison.proofs.put_lines.Statement.{statement}
 use Rattle.comparison.proofs.put_lines.Tie as tie

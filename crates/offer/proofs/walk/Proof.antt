@@ -4,7 +4,7 @@ use mathlib.Core.Path.{_≡_, refl}
 use lib.ListN.{length, take, drop}
 use borrow.Author.Needs.{needs}
 use borrow.Author.Tests.{not-true, not-false}
-use Rattle.offer.specs.Check.{walkFrom}
+use Rattle.offer.specs.Private.{walkFrom}
 use Rattle.offer.proofs.Check.{walk-bad, walk-on, walk-few, walk-end, follow-fits, follow-u64}
 use Rattle.offer.proofs.walk.Statement.{statement}
 use Rattle.offer.proofs.walk.Tie as tie

@@ -6,7 +6,7 @@ use lib.ListN.{length, take}
 use borrow.Author.Needs.{needs}
 use Rattle.slices.proofs.Lists.{stored-none}
 use Rattle.slices.specs.Lists.{flat, stored}
-use Rattle.status.specs.Places.{shownThere}
+use Rattle.status.specs.Private.{shownThere}
 use Rattle.status.proofs.Page.{bytesOf, put-next, put-all}
 use Rattle.status.proofs.Places.{slot-below, slot-fits, slot-times}
 use Rattle.status.proofs.put_list.Statement.{statement}

@@ -1,4 +1,4 @@
--- What the code goes by where it puts a list down as places of the table.
+-- For the promises of private functions: no reader has to believe it. What the code goes by where it puts a list down as places of the table.
 use Prim.Native.Nat.{ℕ, _<_}
 use mathlib.Core.List.{List, map}
 use lib.ListN.{getD, take}
