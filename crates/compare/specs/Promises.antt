@@ -6,7 +6,9 @@ use mathlib.Core.Path.{_≡_}
 use Rattle.paper.specs.declared.ElementId.{ElementId}
 use Rattle.reach.specs.Opening.{accepted}
 use Rattle.reach.specs.Pages.{countOf, elementAt}
+use Rattle.reader.specs.Reserved.{Looks-alike}
 use Rattle.request.specs.declared.Request.{Request}
+use Rattle.words.specs.declared.Order.the-variants.{Little}
 use Rattle.compare.specs.Differences.{absent, stands, standing, differencesOf}
 use Rattle.compare.specs.Walk.{first, nextOf, after, walkFrom}
 use Rattle.compare.specs.declared.Cursor.{Cursor}
@@ -46,3 +48,11 @@ Walk-ends = (s t : List ℕ) (c : Cursor) → walkFrom s t c ≡ after (nextOf s
 -- over two accepted pages it gives exactly the differences
 abbrev pub Walk-gives : Type 0
 Walk-gives = (s t : List ℕ) (q : Request) → accepted s q ≡ true → accepted t q ≡ true → walkFrom s t first ≡ differencesOf s t
+
+-- ## "Reserved bytes are not looked at"
+
+-- pages that look alike are compared alike; s and t look like s′ and t′
+abbrev pub Reserved-uncompared : Type 0
+Reserved-uncompared =
+    (s s′ t t′ : List ℕ) → Looks-alike Little s s′ → Looks-alike Little t t′
+    → (differencesOf s t ≡ differencesOf s′ t′) × ((c : Cursor) → nextOf s t c ≡ nextOf s′ t′ c)

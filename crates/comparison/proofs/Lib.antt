@@ -3,3 +3,4 @@ pub mod Accepted
 pub mod Comparison
 pub mod EveryComparison
 pub mod Lengths
+pub mod Reserved

@@ -6,6 +6,8 @@ use lib.ListN.{length}
 use Rattle.compare.specs.Differences.{differencesOf}
 use Rattle.listing.specs.Listing.{printed}
 use Rattle.reach.specs.Opening.{judged}
+use Rattle.reader.specs.Reserved.{Looks-alike}
+use Rattle.words.specs.declared.Order.the-variants.{Little}
 use Rattle.comparison.specs.Comparison.{comparisonOf, statusFor, statusOf}
 
 -- No second answer fits a text, and a refusal writes nothing: `listing`'s `One-printing` and `Refusal-writes-nothing`, of any text.
@@ -17,3 +19,7 @@ Enough = (s t out : List ℕ) → 160000 ≤ length out → printed (comparisonO
 -- the text tells the exit status
 abbrev pub Tells-status : Type 0
 Tells-status = (s t : List ℕ) → statusOf (comparisonOf s t) ≡ statusFor (judged s t .state) (differencesOf s t)
+
+-- "Reserved bytes are not looked at": of pages that look alike the text is one; s and t look like s′ and t′
+abbrev pub Reserved-unwritten : Type 0
+Reserved-unwritten = (s s′ t t′ : List ℕ) → Looks-alike Little s s′ → Looks-alike Little t t′ → comparisonOf s t ≡ comparisonOf s′ t′

@@ -1,3 +1,4 @@
 -- What is proved of `layout`'s definitions, and of its functions.
 pub mod Bytes
 pub mod Examples
+pub mod Reserved

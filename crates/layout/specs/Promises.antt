@@ -1,9 +1,11 @@
--- What is laid is read back, whatever follows it. Each is a statement; proofs/ has the proof under the same name in lower case.
+-- What is laid is read back, whatever follows it, and no reserved byte is looked at. Each is a statement; proofs/ has the proof under the
+-- same name in lower case.
 use Prim.Native.Nat.{ℕ, _^_, _<_}
 use mathlib.Core.List.{List, _++_}
 use mathlib.Core.Path.{_≡_}
 use Rattle.words.specs.declared.Order.{Order}
 use Rattle.layout.specs.Bytes.{headerBytes, headerIn, descriptorBytes, descriptorIn}
+use Rattle.layout.specs.Reserved.{Headers-alike, Descriptors-alike}
 use Rattle.layout.specs.declared.Descriptor.{Descriptor}
 use Rattle.layout.specs.declared.Header.{Header}
 
@@ -26,3 +28,10 @@ Header-back = (o : Order) (h : Header) (rest : List ℕ) → HeaderFits h → he
 
 abbrev pub Descriptor-back : Type 0
 Descriptor-back = (o : Order) (d : Descriptor) (rest : List ℕ) → DescriptorFits d → descriptorIn o (descriptorBytes o d ++ rest) ≡ d
+
+-- "Reserved bytes are not looked at": alike headers are read alike, and so are alike descriptors
+abbrev pub Header-reserved : Type 0
+Header-reserved = (o : Order) (s t : List ℕ) → Headers-alike s t → headerIn o s ≡ headerIn o t
+
+abbrev pub Descriptor-reserved : Type 0
+Descriptor-reserved = (o : Order) (s t : List ℕ) → Descriptors-alike s t → descriptorIn o s ≡ descriptorIn o t

@@ -3,3 +3,4 @@ pub mod EveryListing
 pub mod Examples
 pub mod Listing
 pub mod Printing
+pub mod Reserved

@@ -5,7 +5,9 @@ use mathlib.Core.Path.{_≡_}
 use lib.ListN.{length}
 use Rattle.paper.specs.Told.{said}
 use Rattle.paper.specs.declared.Answer.{Answer}
-use Rattle.listing.specs.Listing.{output, printed, listed}
+use Rattle.reader.specs.Reserved.{Looks-alike}
+use Rattle.words.specs.declared.Order.the-variants.{Little}
+use Rattle.listing.specs.Listing.{listingOf, output, printed, listed}
 
 -- no second answer fits a text, no second number of bytes and no second buffer
 abbrev pub One-printing : Type 0
@@ -20,3 +22,7 @@ Refusal-writes-nothing = (text out : List ℕ) → (printed text out .number ≡
 -- room for every listing
 abbrev pub Enough : Type 0
 Enough = (s out : List ℕ) → 80000 ≤ length out → listed s out .number ≡ 0
+
+-- "Reserved bytes are not looked at": pages that look alike are listed alike
+abbrev pub Reserved-unlisted : Type 0
+Reserved-unlisted = (s t : List ℕ) → Looks-alike Little s t → listingOf s ≡ listingOf t

@@ -1,11 +1,11 @@
 -- What holds of every part (specs/Promises).
-use Prim.Native.Nat.{ℕ, zero, suc, _+_, _*_, _≤_, _<_}
+use Prim.Native.Nat.{ℕ, zero, suc, _*_, _≤_}
 use mathlib.Core.Bool.{Bool, true, false, cond}
 use mathlib.Core.List.{List, [], _∷_, _++_}
-use mathlib.Core.Path.{_≡_, refl, sym, ap, _∙_}
+use mathlib.Core.Path.{_≡_, refl, ap, _∙_}
 use native.Mathlib.Omega.{arith}
-use lib.ListN.{length, take, drop, getD, length-drop}
-use lib.Seq.{length-take-le, getD-take, getD-drop, drop-drop}
+use lib.ListN.{length, take, drop, length-drop}
+use lib.Seq.{length-take-le}
 use borrow.Author.Tests.{lt-ltb, le-ltb}
 use Rattle.compare.proofs.Ascending.{is-taken, count-room}
 use Rattle.compare.proofs.EveryComparison.{stands-for}
@@ -13,6 +13,7 @@ use Rattle.compare.specs.Differences.{alike, Standing, absent, stands, standing
 use Rattle.compare.specs.Promises.{idOf}
 use Rattle.compare.specs.declared.Line.the-variants.{OnlyOlder, OnlyNewer, Changed}
 use Rattle.compare.specs.declared.Line.{Line}
+use Rattle.layout.proofs.Reserved.{part-read}
 use Rattle.layout.specs.Bytes.{descriptorIn}
 use Rattle.layout.specs.declared.Descriptor.{Descriptor}
 use Rattle.offences.specs.Checks.{baseOf}
@@ -22,35 +23,9 @@ use Rattle.reach.specs.Pages.{countOf, elementAt, boundOf, endOf}
 use Rattle.request.specs.Requests.{pagesOf}
 use Rattle.request.specs.declared.Request.{Request}
 use Rattle.slices.specs.Lists.{Every}
-use Rattle.words.specs.Bytes.{number, front, numberAt}
 use Rattle.words.specs.declared.Order.the-variants.{Little}
-use Rattle.words.specs.declared.Order.{Order}
 use Rattle.parts.specs.Parts.{descriptorPart, partOf}
 use Rattle.parts.specs.Promises.{Hands-out, Hands-out-each}
-
-module _ (n : ℕ) (l : List ℕ) where
-  byte-part : (at : ℕ) → at < n → getD (take n l) at 0 ≡ getD l at 0
-  byte-part at h = getD-take n l at 0 h
-
-  front-part : (w at : ℕ) → at + w ≤ n → front w (drop at (take n l)) ≡ front w (drop at l)
-  front-part zero at h = refl
-  front-part (suc w) at h =
-      let first : getD (drop at (take n l)) 0 0 ≡ getD (drop at l) 0 0 =
-      getD-drop at (take n l) 0 0 ∙ byte-part (at + 0) (omega (arith, h)) ∙ sym (getD-drop at l 0 0) in
-      rw (first, drop-drop 1 at (take n l), drop-drop 1 at l, front-part w (at + 1) (omega (arith, h)))
-
-  number-part : (o : Order) (w at : ℕ) → at + w ≤ n → numberAt o w (take n l) at ≡ numberAt o w l at
-  number-part o w at h = ap (number o) (front-part w at h)
-
-descriptor-part : (o : Order) (l : List ℕ) → descriptorIn o (take 32 l) ≡ descriptorIn o l
-descriptor-part o l =
-    rw (
-      number-part 32 l o 4 4 (omega arith),
-      byte-part 32 l 13 (omega arith),
-      byte-part 32 l 14 (omega arith),
-      byte-part 32 l 15 (omega arith),
-      number-part 32 l o 8 16 (omega arith),
-    )
 
 pub hands-out : Hands-out
 unfolding descriptorPart elementAt
@@ -59,7 +34,7 @@ hands-out s q k is-accepted l =
     let room : 32 ≤ length (drop (baseOf k) s) = omega (arith, l, long, count-room s q is-accepted, length-drop (baseOf k) s) in
     let whole : descriptorPart s k ≡ take 32 (drop (baseOf k) s) = rw (lt-ltb k (countOf s) l, le-ltb (length (drop (baseOf k) s)) 32 room) in (
       ap length whole ∙ length-take-le 32 (drop (baseOf k) s) room,
-      ap (descriptorIn Little) whole ∙ descriptor-part Little (drop (baseOf k) s),
+      ap (descriptorIn Little) whole ∙ part-read Little (drop (baseOf k) s),
     )
 
 module _ (s t : List ℕ) (q : Request) (of-s : accepted s q ≡ true) (of-t : accepted t q ≡ true) where

@@ -2,3 +2,4 @@
 pub mod EveryPart
 pub mod Examples
 pub mod Portions
+pub mod Reserved

@@ -1,20 +1,21 @@
--- A page that was cut bounds the comparison at an identifier (specs/Promises).
-use Prim.Native.Nat.{ℕ, zero, suc, _≤_, _<_}
+-- A page that was cut bounds the comparison at its last identifier (specs/Promises).
+use Prim.Native.Nat.{ℕ, zero, suc, _-_, _≤_, _<_}
 use mathlib.Core.Bool.{Bool, true, false}
 use mathlib.Core.List.{List}
-use mathlib.Core.Path.{_≡_, refl, _∙_}
+use mathlib.Core.Path.{_≡_, refl, ap, _∙_}
 use native.Mathlib.Nat.{min-eq-left, min-eq-right}
 use native.Mathlib.Omega.{arith}
 use lib.Dec.{leb}
 use borrow.Author.Tests.{lt-ltb, leb-true, leb-false, eqb-true}
 use Rattle.layout.specs.Bytes.{headerIn, roomOf}
-use Rattle.offences.specs.Checks.{lastBefore}
+use Rattle.offences.specs.Checks.{descriptorAt, lastBefore}
 use Rattle.reader.proofs.Taken.{Taken, taken}
 use Rattle.request.specs.Requests.{pagesOf}
 use Rattle.request.specs.declared.Request.{Request}
 use Rattle.words.specs.declared.Order.the-variants.{Little}
 use Rattle.reach.specs.Opening.{accepted}
-use Rattle.reach.specs.Pages.{reachOf}
+use Rattle.reach.specs.Pages.{countOf, elementAt, reachOf}
+use Rattle.reach.specs.declared.Bound.the-variants.{UpTo}
 use Rattle.reach.specs.Promises.{Cut-bounds}
 
 module _ (s : List ℕ) (q : Request) (page : Taken Little s q) (cut : headerIn Little s .returned < headerIn Little s .number) where
@@ -28,19 +29,23 @@ module _ (s : List ℕ) (q : Request) (page : Taken Little s q) (cut : headerIn 
       let all : returned ≡ headerIn Little s .number = page .returned ∙ min-eq-left (omega (arith, few)) in
       absurd (omega (arith, all, cut))
 
-  -- the last descriptor has an identifier
-  last : (n : ℕ) → n ≡ returned → 1 ≤ n → 1 ≤ lastBefore Little s n
-  last zero e some = absurd (omega (arith, some))
-  last (suc k) e some = page .list k (omega (arith, e)) .some
-
   some : 1 ≤ returned
   some = omega (arith, full (leb (roomOf (pagesOf q)) (headerIn Little s .number)) refl, page .asked .2)
 
+  -- the last descriptor, and that it has an identifier
+  last : (n : ℕ) → n ≡ returned → (lastBefore Little s n ≡ descriptorAt Little s (n - 1) .id .0) × (1 ≤ descriptorAt Little s (n - 1) .id .0)
+  last zero e = absurd (omega (arith, e, some))
+  last (suc k) e =
+      let one-less : suc k - 1 ≡ k = omega arith in
+      rw one-less (refl, page .list k (omega (arith, e)) .some)
+
 pub cut-bounds : Cut-bounds
-unfolding accepted reachOf
+unfolding accepted countOf elementAt reachOf
 cut-bounds s q ok cut =
     let page : Taken Little s q = taken Little s q (eqb-true _ _ ok) in
-    let n : ℕ = headerIn Little s .returned in (
+    let n : ℕ = headerIn Little s .returned in
+    let at-last = last s q page cut n refl in (
       full s q page cut (leb (roomOf (pagesOf q)) (headerIn Little s .number)) refl,
-      (record { 0 = lastBefore Little s n }, rw (lt-ltb n (headerIn Little s .number) cut), last s q page cut n refl (some s q page cut)),
+      rw (lt-ltb n (headerIn Little s .number) cut) (ap (λ (id : ℕ). UpTo (record { 0 = id })) (at-last .0)),
+      at-last .1,
     )

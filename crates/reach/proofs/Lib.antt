@@ -2,3 +2,4 @@
 pub mod Bounds
 pub mod Cut
 pub mod Once
+pub mod Reserved

@@ -1,15 +1,16 @@
 -- The definitions tried: G1's page is read, and each offence is found at its place, the first before the others.
 use Prim.Native.Nat.{ℕ}
-use mathlib.Core.Bool.{Bool, true, false}
+use mathlib.Core.Bool.{Bool, true, false, _&&_}
 use mathlib.Core.List.{List, [], _∷_, _++_}
 use mathlib.Core.Path.{_≡_, refl}
 use lib.Dec.{eqb}
-use lib.ListN.{set, take}
+use lib.ListN.{getD, set, take, drop, replicate}
 use Rattle.layout.specs.Examples.{zeros, headerG1, elementG1, frontG1, pageG1}
+use Rattle.layout.specs.Reserved.{inHeader, inDescriptor}
 use Rattle.paper.specs.Told.{tells}
 use Rattle.request.specs.Requests.{refused, takesHealth}
 use Rattle.request.specs.declared.Request.{Request}
-use Rattle.slices.specs.Lists.{all}
+use Rattle.slices.specs.Lists.{all, upTo}
 use Rattle.words.specs.declared.Order.the-variants.{Little, Big}
 use Rattle.reader.specs.Judgement.{Values, header, place, readOf, slotOf}
 use Rattle.reader.specs.declared.Slot.the-variants.{Outside, Holds}
@@ -68,7 +69,21 @@ padding : readOf Little (frontG1 ++ zeros 447 ++ (7 ∷ [])) (request 0x4100 1 0
 unfolding refused takesHealth
 padding = refl
 
--- reserved bytes are not
-reserved : readOf Little (set (set frontG1 16 7) 45 2 ++ zeros 448) (request 0x4100 1 0) .number ≡ 0
+-- ## "Reserved bytes are not looked at"
+
+abbrev ones : ℕ → List ℕ
+ones n = replicate n 0xFF
+
+-- G1's page with each reserved byte FFh, and each reserved bit of byte 13 set
+abbrev wild : List ℕ
+wild = take 16 frontG1 ++ ones 20 ++ take 4 (drop 36 frontG1) ++ ones 5 ++ (0xFE ∷ take 10 (drop 46 frontG1)) ++ ones 8 ++ zeros 448
+
+reserved : (readOf Little wild (request 0x4100 1 0) ≡ tells 0 (header headerG1)) × (slotOf Little wild 0 ≡ Holds elementG1)
 unfolding refused takesHealth
-reserved = refl
+reserved = (refl, refl)
+
+-- it looks like G1's page: header and descriptor are alike
+wild-alike : all (λ at. eqb (inHeader at (getD wild at 0)) (inHeader at (getD pageG1 at 0))) (upTo 32)
+    && all (λ at. eqb (inDescriptor at (getD (drop 32 wild) at 0)) (inDescriptor at (getD (drop 32 pageG1) at 0))) (upTo 32)
+    ≡ true
+wild-alike = refl

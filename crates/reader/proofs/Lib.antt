@@ -4,5 +4,6 @@ pub mod Examples
 pub mod LayoutTheorem
 pub mod Once
 pub mod Page
+pub mod Reserved
 pub mod Rules
 pub mod Taken

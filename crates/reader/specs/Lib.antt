@@ -4,3 +4,4 @@ pub mod Judgement
 pub mod Layout
 pub mod Page
 pub mod Promises
+pub mod Reserved

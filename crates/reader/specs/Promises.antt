@@ -6,8 +6,9 @@ use Rattle.layout.specs.Bytes.{headerIn}
 use Rattle.paper.specs.Told.{tells}
 use Rattle.request.specs.declared.Request.{Request}
 use Rattle.words.specs.declared.Order.{Order}
-use Rattle.reader.specs.Judgement.{header, place, heard, readOf}
+use Rattle.reader.specs.Judgement.{header, place, heard, readOf, slotOf}
 use Rattle.reader.specs.Layout.{Each, FirstBroken, pageRules}
+use Rattle.reader.specs.Reserved.{Looks-alike}
 use Rattle.reader.specs.declared.Judgement.{Judgement}
 
 -- no second answer fits
@@ -27,3 +28,11 @@ abbrev pub Refuses-exactly : Type 0
 Refuses-exactly =
     (o : Order) (s : List ℕ) (q : Request) (p : ℕ)
     → (readOf o s q ≡ tells 9 (place p) → FirstBroken (pageRules o s q) p) × (FirstBroken (pageRules o s q) p → readOf o s q ≡ tells 9 (place p))
+
+-- ## "Reserved bytes are not looked at"
+
+-- of pages that look alike the reader says the same, for every request, and holds the same descriptor at every number
+abbrev pub Reserved-unseen : Type 0
+Reserved-unseen =
+    (o : Order) (s t : List ℕ) → Looks-alike o s t
+    → ((q : Request) → readOf o s q ≡ readOf o t q) × ((k : ℕ) → slotOf o s k ≡ slotOf o t k)

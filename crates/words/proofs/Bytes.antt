@@ -1,10 +1,11 @@
 -- Laws of numbers as bytes, each over the width and the order.
 --     number-bytesOf   a number that fits is read back from its bytes
 --     number-halves    a number of two halves, as the code reads it
+--     number-same      the number at a place goes by its bytes alone
 use Prim.Native.Nat.{ℕ, zero, suc, _+_, _*_, _/_, _%_, _^_, _<_}
 use mathlib.Core.List.{List, [], _∷_, _++_, reverse, reverse-append, reverse-reverse}
 use mathlib.Core.Path.{_≡_, refl, sym, ap, _∙_}
-use native.Mathlib.Nat.{pow-suc, zero-add, suc-add, add-mul, mul-assoc, add-assoc, div-add-mod', div-lt-iff-lt-mul}
+use native.Mathlib.Nat.{pow-suc, zero-add, add-zero, suc-add, add-mul, mul-assoc, add-assoc, div-add-mod', div-lt-iff-lt-mul}
 use native.Mathlib.Omega.{arith}
 use lib.Dec.{lit<}
 use lib.ListN.{length, getD, drop, length-reverse}
@@ -72,3 +73,19 @@ number-one Big b = omega arith
 pub number-bytes : (o : Order) (s t : List ℕ) (at x y r : ℕ) → t ≡ drop at s → x ≡ getD t 0 0 → y ≡ getD t 1 0 → r ≡ joined o 256 x y → r ≡ numberAt o 2 s at
 number-bytes o s t at x y r e p q j =
     number-halves 1 o s t at x y r e (p ∙ number-one o (getD t 0 0)) (q ∙ sym (getD-drop 1 t 0 0) ∙ number-one o (getD (drop 1 t) 0 0)) j
+
+-- ## In two lists
+
+module _ (s t : List ℕ) where
+  -- the w bytes at a place, each the same in both
+  abbrev pub Same-bytes : ℕ → ℕ → Type 0
+  Same-bytes zero at = Unit {0}
+  Same-bytes (suc w) at = (getD s at 0 ≡ getD t at 0) × Same-bytes w (at + 1)
+
+  front-same : (w at : ℕ) → Same-bytes w at → front w (drop at s) ≡ front w (drop at t)
+  front-same zero at same = refl
+  front-same (suc w) at (first, rest) =
+      rw (getD-drop at s 0 0, getD-drop at t 0 0, add-zero at, first, drop-drop 1 at s, drop-drop 1 at t, front-same w (at + 1) rest)
+
+  pub number-same : (o : Order) (w at : ℕ) → Same-bytes w at → numberAt o w s at ≡ numberAt o w t at
+  number-same o w at same = ap (number o) (front-same w at same)
