@@ -1,28 +1,28 @@
 -- A list and its offer: with at most 128 records the elements that count are the list's, and with more both are refused.
 use Prim.Native.Nat.{ℕ, _-_, _≤_, _<_, min}
 use mathlib.Core.Bool.{Bool, true, false, cond, and-false}
-use mathlib.Core.List.{List, [], _∷_, _++_, map}
+use mathlib.Core.List.{List, [], _∷_, _++_}
 use mathlib.Core.Path.{_≡_, refl, sym, _∙_}
 use native.Mathlib.Nat.{min-comm}
 use native.Mathlib.Omega.{arith}
 use lib.Dec.{leb}
-use lib.ListN.{length, take, replicate, length-map}
+use lib.ListN.{length, take, replicate}
 use lib.Seq.{take-all, take-at}
 use borrow.Author.Tests.{leb-true, leb-false, le-leb, lt-leb}
 use Rattle.conduct.specs.Promises.{Leaves}
 use Rattle.making.specs.Making.{fresh, madeOf}
-use Rattle.offer.proofs.Laws.{good-count}
+use Rattle.offer.proofs.Laws.{good-ascending, good-count}
+use Rattle.offer.proofs.Search.{find-sound, find-member}
 use Rattle.offer.specs.Check.{good, checkOf}
-use Rattle.offer.specs.Elements.{offered, blank, partOf, healthOf, blockSum}
+use Rattle.offer.specs.Elements.{offered, blank, blockSum}
 use Rattle.offer.specs.Search.{find}
 use Rattle.offer.specs.declared.Element.{Element}
 use Rattle.offer.specs.declared.Found.the-variants.{Missing}
 use Rattle.offer.specs.declared.Found.{Found}
 use Rattle.paper.specs.Told.{tells}
 use Rattle.slices.proofs.Lists.{take-min}
-use Rattle.table.specs.Elements.{blankPart}
 use Rattle.calls.specs.Offered.{checkList, findList, arrayOf, offerOf, madeFrom}
-use Rattle.calls.specs.Promises.{Long-list-refused, Refused-list-leaves, Made-alike, Copied-whole}
+use Rattle.calls.specs.Promises.{Long-list-refused, Refused-list-leaves, Made-alike, Finds-exactly}
 
 -- ## The array
 
@@ -93,13 +93,8 @@ refused-list-leaves d es limit = go (good (length es) es limit)
     go true z = absurd (z refl)
     go false z = refl
 
--- what the device has of each record
-held : {B : Type 0} (f : Element → B) (z : B) (es : List Element) → length es ≤ 128
-    → take (length es) (map f (take (length es) (arrayOf es)) ++ replicate (128 - length es) z) ≡ map f es
-held f z es few = rw (taken es few) (take-at (map f es) (replicate (128 - length es) z) (length es) (length-map es f))
-
-pub copied-whole : Copied-whole
-unfolding madeFrom
-copied-whole d es limit g =
-    let few : length es ≤ 128 = good-count (length es) es limit g in
-    rw g (held partOf blankPart es few, held healthOf 0 es few)
+pub finds-exactly : Finds-exactly
+unfolding findList
+finds-exactly es limit g =
+    let few : leb (length es) 128 ≡ true = le-leb (length es) 128 (good-count (length es) es limit g) in
+    rw few (λ i h. find-member 0 es i (good-ascending (length es) es limit g) h, λ id e. find-sound id es e)

@@ -1,26 +1,25 @@
 -- What holds of the lent calls. Each is a statement; proofs/ has the proof under the same name in lower case.
 use Prim.Native.Nat.{ℕ, _<_}
 use mathlib.Core.Bool.{true}
-use mathlib.Core.List.{List, [], map}
+use mathlib.Core.List.{List, []}
 use mathlib.Core.Path.{_≡_}
-use lib.ListN.{length, take}
-use Rattle.conduct.specs.Promises.{One-answer, Leaves, Refusal-leaves, But-position}
+use lib.ListN.{length, getD}
+use Rattle.conduct.specs.Promises.{One-answer, Leaves, But-position}
 use Rattle.device.specs.Machine.{command, told}
 use Rattle.device.specs.declared.Device.{Device}
 use Rattle.making.specs.Making.{madeOf}
 use Rattle.offer.specs.Check.{verdict, good}
-use Rattle.offer.specs.Elements.{partOf, healthOf}
+use Rattle.offer.specs.Elements.{blank}
 use Rattle.offer.specs.declared.Checked.{Checked}
 use Rattle.offer.specs.declared.Element.{Element}
-use Rattle.offer.specs.declared.Found.the-variants.{Missing}
+use Rattle.offer.specs.declared.Found.the-variants.{Missing, One}
 use Rattle.offer.specs.declared.Found.{Found}
 use Rattle.paper.specs.Registers.{Registers}
 use Rattle.paper.specs.Told.{tells, said}
 use Rattle.paper.specs.declared.Answer.{Answer}
 use Rattle.paper.specs.declared.Security.{Security}
 use Rattle.status.specs.Lent.{lent}
-use Rattle.status.specs.Promises.{One-page, Refusal-leaves-bytes}
-use Rattle.table.specs.Elements.{live}
+use Rattle.status.specs.Promises.{One-page}
 use Rattle.calls.specs.Offered.{checkList, findList, offerOf, madeFrom}
 
 -- ## No second answer fits, no second device and no second buffer
@@ -64,11 +63,12 @@ Long-list-refused =
 abbrev pub Made-alike : Type 0
 Made-alike = (d : Device) (es : List Element) (limit : ℕ) → madeFrom d es limit ≡ madeOf d (offerOf es limit)
 
--- "then copied into the device": the parts of a new device, and the healths at their places, are those of the records of its list
-abbrev pub Copied-whole : Type 0
-Copied-whole =
-    (d : Device) (es : List Element) (limit : ℕ) → good (length es) es limit ≡ true
-    → (live (madeFrom d es limit .state .table) ≡ map partOf es) × (take (length es) (madeFrom d es limit .state .cells .healths) ≡ map healthOf es)
+-- in a list that is accepted the search finds exactly its records
+abbrev pub Finds-exactly : Type 0
+Finds-exactly =
+    (es : List Element) (limit : ℕ) → good (length es) es limit ≡ true
+    → ((i : ℕ) → i < length es → findList (getD es i blank .id .0) es ≡ One (getD es i blank))
+    × ((id : ℕ) (e : Element) → findList id es ≡ One e → (i : ℕ) × (i < length es) × (getD es i blank ≡ e) × (e .id .0 ≡ id))
 
 -- ## "Only the position in the step list is lost with power."
 
@@ -76,9 +76,9 @@ Copied-whole =
 abbrev pub Position-unshown : Type 0
 Position-unshown = (d x : Device) → But-position d x → (s : Security) (r : Registers) (buf : List ℕ) → lent d s r buf ≡ lent x s r buf
 
--- ## Demand 1: "A refusal has the number of document 01 and changes neither the device nor a byte lent to us."
+-- ## A refusal
 
--- the front call
+-- of the front call, it leaves the device and every byte of the lent buffer
 abbrev pub Refusal-leaves-both : Type 0
 Refusal-leaves-both =
     (d : Device) (s : Security) (r : Registers) (buf : List ℕ) → (told d (command s r (length buf)) .number ≡ 0 → ⊥)
@@ -86,10 +86,3 @@ Refusal-leaves-both =
 
 abbrev pub Refused-list-leaves : Type 0
 Refused-list-leaves = (d : Device) (es : List Element) (limit : ℕ) → Leaves d (madeFrom d es limit)
-
--- of every lent call
-pub record Demand-1 : Type 0 where
-  pub changing : Refusal-leaves
-  pub command : Refusal-leaves-both
-  pub showing : Refusal-leaves-bytes
-  pub making : Refused-list-leaves

@@ -8,6 +8,7 @@ ghost use Rattle.device.specs.Machine.{told};
 ghost use Rattle.open.specs.Open.{isOpen};
 ghost use Rattle.paper.specs.Answers.{numberOf};
 ghost use Rattle.paper.specs.Told.{said};
+ghost use Rattle.request.specs.Requests as requests;
 ghost use Rattle.slices.specs.Lists.{oneOf};
 use cells::Mark;
 use device::Device;
@@ -109,7 +110,7 @@ fn other_answer(d: Device, code: u8, feature: u16, count: u16, lba: Lba) -> Answ
 
 // What 12h asks for.
 pub fn asked(feature: u16, count: u16, lba: Lba) -> Request
-    ensures { λ r. ⌜ r ≡ record { feature = feature; count = record { 0 = count }; lba = lba } ⌝ }
+    ensures { λ r. ⌜ r ≡ requests.asked (record { code = 0x12; feature = feature; count = count; lba = lba }) ⌝ }
 {
     Request {
         feature,

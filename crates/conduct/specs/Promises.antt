@@ -80,10 +80,11 @@ At-most-one-cell = (d : Device) (e : Event) → One-cell d (told d e .state)
 
 -- ## "Only the position in the step list is lost with power."
 
--- an error or a cut "makes no store", and a reset changes nothing
+-- an error or a cut "makes no store"
 abbrev pub Stop-keeps-cells : Type 0
 Stop-keeps-cells = (d : Device) → (told d powerCut .state .cells ≡ d .cells) × (told d mediaError .state .cells ≡ d .cells)
 
+-- "COMRESET, hardware reset and software reset answer 0 and change nothing (002)."
 abbrev pub Reset-changes-nothing : Type 0
 Reset-changes-nothing = (d : Device) → (told d comreset ≡ tells 0 d) × (told d hardwareReset ≡ tells 0 d) × (told d softwareReset ≡ tells 0 d)
 

@@ -17,16 +17,15 @@ use Rattle.device.specs.declared.Device.{Device}
 use Rattle.history.proofs.Places.{table-kept}
 use Rattle.history.proofs.Runs.{runs-are-scripts}
 use Rattle.history.specs.Runs.{Script, begin, _▸_, after}
-use Rattle.layout.specs.Bytes.{headerIn, returnedOf}
 use Rattle.layout.specs.declared.Header.{Header}
 use Rattle.listing.specs.Listing.{judged}
 use Rattle.paper.specs.Registers.{Registers}
 use Rattle.paper.specs.Told.{Told, tells}
 use Rattle.paper.specs.declared.Security.{Security}
-use Rattle.reader.proofs.Taken.{Taken, taken, takes}
-use Rattle.reader.specs.Judgement.{Values, header, readOf}
+use Rattle.reader.proofs.Ignored.{ignored-unread}
+use Rattle.reader.specs.Judgement.{header, readOf}
 use Rattle.request.proofs.Requests.{accepted}
-use Rattle.request.specs.Requests.{asked, filterOf, reportTypeOf, pagesOf, startOf, refused, requestFor, requestOf}
+use Rattle.request.specs.Requests.{Same-fields, asked, filterOf, reportTypeOf, pagesOf, startOf, refused, requestOf}
 use Rattle.request.specs.declared.Request.{Request}
 use Rattle.status.proofs.EveryPage.{three-answers, shown-alike, whole-pages}
 use Rattle.status.specs.Lent.{lent}
@@ -35,7 +34,7 @@ use Rattle.table.specs.Elements.{identifiers, ascending}
 use Rattle.table.specs.declared.Table.{Table}
 use Rattle.words.specs.declared.Order.the-variants.{Little}
 use Rattle.demands.specs.GivesBack.{Given-back, Gives-back}
-use Rattle.demands.proofs.Starts.{made}
+use Rattle.demands.proofs.Starts.{listed-starts}
 
 -- ## A run
 
@@ -71,45 +70,17 @@ module _ (d : Device) (s : Security) (r : Registers) (buf : List ℕ) (is-12 : r
 
 -- ## The listing's request
 
--- a page is taken for every request of the same fields
-module _ (s : List ℕ) (p q : Request) (filter : filterOf p ≡ filterOf q) (report : reportTypeOf p ≡ reportTypeOf q) (pages : pagesOf p ≡ pagesOf q)
-    (start : startOf p ≡ startOf q) where
-  as-taken : Taken Little s p → Taken Little s q
-  as-taken t =
-      record {
-        asked = (rw (← filter) (t .asked .0), rw (← report) (t .asked .1), rw (← pages) (t .asked .2));
-        long = t .long ∙ ap (λ (n : ℕ). 512 * n) pages;
-        returned = t .returned ∙ ap (returnedOf (headerIn Little s .number)) pages;
-        list = λ k l.
-            let e = t .list k l in
-            record {
-              some = e .some;
-              started = rw (← start) (e .started);
-              rises = e .rises;
-              earned = e .earned;
-              typed = λ is-1. e .typed (report ∙ is-1);
-              filtered = λ is-1. e .filtered (filter ∙ is-1);
-            };
-        padding = t .padding;
-      }
-
 pages-in : (p : ℕ) → 512 * p / 512 ≡ p
 pages-in p = omega arith
 
--- so the listing takes it for its own
+-- it has the same fields, so the listing takes the page for its own
 module _ (s : List ℕ) (q : Request) (h : Header) (filter : filterOf q ≡ 0) (report : reportTypeOf q ≡ 0) (start : startOf q ≡ 0) (few : pagesOf q ≤ 128)
-    (read : readOf Little s q ≡ tells 0 (header h)) where
-  is-taken : Taken Little s q
-  is-taken = taken Little s q (ap (λ (t : Told Values). t .number) read)
-
-  own : requestOf s ≡ requestFor (pagesOf q)
-  own = ap requestFor (ap (λ (n : ℕ). n / 512) (is-taken .long) ∙ pages-in (pagesOf q))
+    (long : length s ≡ 512 * pagesOf q) (read : readOf Little s q ≡ tells 0 (header h)) where
+  own : Same-fields (requestOf s) q
+  own = record { filter = sym filter; report = sym report; pages = ap (λ (n : ℕ). n / 512) long ∙ pages-in (pagesOf q); start = sym start }
 
   listing-takes : judged s ≡ tells 0 (header h)
-  listing-takes =
-      let short : ltb 65536 (length s) ≡ false = le-ltb 65536 (length s) (omega (arith, is-taken .long, few)) in
-      let same : Taken Little s (requestFor (pagesOf q)) = as-taken s q (requestFor (pagesOf q)) filter report refl start is-taken in
-      rw short (ap (readOf Little s) own ∙ takes Little s (requestFor (pagesOf q)) same ∙ sym (takes Little s q is-taken) ∙ read)
+  listing-takes = rw (le-ltb 65536 (length s) (omega (arith, long, few))) (ignored-unread Little s (requestOf s) q own ∙ read)
 
 -- ## The whole
 
@@ -117,11 +88,13 @@ module _ (d : Device) (fits : Fits d) (asc : ascending 0 (identifiers (d .table)
     (is-12 : r .code ≡ 0x12) (done : told d (command s r (length buf)) .number ≡ 0) where
   page-given : Given-back d (asked r) (pageOf d (asked r))
   page-given =
-      let both = agrees d (asked r) fits asc (unrefused d s r buf is-12 done) in
+      let ok = unrefused d s r buf is-12 done in
+      let both = agrees d (asked r) fits asc ok in
       record {
         taken = both .0;
         elements = both .1;
-        listed = λ f t z few. listing-takes (pageOf d (asked r)) (asked r) (headerOf d (asked r)) f t z few (both .0);
+        listed = λ f t z few.
+            listing-takes (pageOf d (asked r)) (asked r) (headerOf d (asked r)) f t z few (whole-pages d (asked r) (accepted (asked r) ok .2)) (both .0);
       }
 
   given : Given-back d (asked r) (take (512 * pagesOf (asked r)) (lent d s r buf))
@@ -132,6 +105,6 @@ gives-back there es limit a d (is-made, fits) z s ns x ran security r buf out b 
     let same : x ≡ after d s = runs-are-scripts d s ns x ran .0 in
     let fit : Fits x = subst⁻¹ Fits same (fits-after d fits s) in
     let asc : ascending 0 (identifiers (x .table)) ≡ true =
-    subst⁻¹ (λ (v : Device). ascending 0 (identifiers (v .table)) ≡ true) same (ordered-after d (made there es limit a d is-made z .startable .ids) s) in
+    subst⁻¹ (λ (v : Device). ascending 0 (identifiers (v .table)) ≡ true) same (ordered-after d (listed-starts there es limit a d is-made .0 z .1 .startable .ids) s) in
     let zero : told x (command security r (length buf)) .number ≡ 0 = ap (λ (t : Told Device). t .number) (sym is-told) ∙ done in
     subst⁻¹ (λ (bytes : List ℕ). Given-back x (asked r) (take (512 * pagesOf (asked r)) bytes)) is-out (given x fit asc security r buf is-12 zero)

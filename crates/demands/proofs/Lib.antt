@@ -1,3 +1,4 @@
 -- What is proved of the demands.
+pub mod Demand1
 pub mod GivesBack
 pub mod Starts

@@ -1,3 +1,4 @@
--- Demand 3, from the lent making on, and of every page that the front call then leaves.
+-- The demands, of the lent calls: a refusal changes nothing, the reader gives back what was written, and demand 3 from the lent making on.
+pub mod Demand1
 pub mod GivesBack
 pub mod Starts

@@ -16,7 +16,8 @@ use Rattle.device.specs.declared.Device.{Device}
 abbrev pub isMedia : ℕ → Bool
 isMedia code = oneOf code (0x24 ∷ 0x25 ∷ 0x34 ∷ 0x35 ∷ 0x42 ∷ [])
 
--- "ECh; E1h; 2Fh and 47h (log address LBA 7:0); 0Bh; F2h; EFh and B0h (subcommand FEATURE 7:0)"
+-- "ECh; E1h; 2Fh and 47h (log address LBA 7:0); 0Bh; F2h; EFh and B0h (subcommand FEATURE 7:0)"; 7Ch and 12h have rules of their own
+-- (specs/Machine) and do not come here
 abbrev pub isNamed : ℕ → Bool
 isNamed code = isMedia code || oneOf code (0xEC ∷ 0xE1 ∷ 0x2F ∷ 0x47 ∷ 0x0B ∷ 0xF2 ∷ 0xEF ∷ 0xB0 ∷ [])
 

@@ -3,8 +3,9 @@ use Prim.Native.Nat.{ℕ, zero, suc, _-_, _≤_, _<_}
 use mathlib.Core.Bool.{Bool, true, false, cond, or-true, false≢true}
 use mathlib.Core.List.{List, [], _∷_, map}
 use mathlib.Core.Path.{_≡_, refl, sym, ap, _∙_, subst}
+use native.Mathlib.Nat.{min-eq-left}
 use native.Mathlib.Omega.{arith}
-use lib.ListN.{length, getD, replicate, length-map, length-append, List·getD-append}
+use lib.ListN.{length, getD, replicate, length-map, length-append, length-take, List·getD-append}
 use borrow.Author.Tests.{leb-true, ne-eqb}
 use Rattle.cells.specs.Cells.{isSet}
 use Rattle.device.specs.Record.{healthAt}
@@ -48,7 +49,7 @@ module _ (o : Offer) (full : length (o .elements) ≡ 128) (g : good (o .count) 
   standing i h =
       ne-eqb (healthAt (fresh o) i) 0xFF (λ q. let low : healthAt (fresh o) i ≤ 0xCF = leb-true (healthAt (fresh o) i) 0xCF (graded i h) in omega arith)
 
-  made-of : Made-of o (fresh o)
+  made-of : Made-of (offered o) (o .limit) (fresh o)
   unfolding isSet
   made-of = record {
     startable = record {
@@ -59,7 +60,7 @@ module _ (o : Offer) (full : length (o .elements) ≡ 128) (g : good (o .count) 
     };
     parts = split-front o full few partOf blankPart;
     healths = split-front o full few healthOf 0;
-    count = refl;
+    count = sym (rw (length-take, full) (min-eq-left few));
     limit = refl;
     rests = refl;
     native-max = refl;
@@ -73,7 +74,7 @@ pub accepted-starts : Accepted-starts
 unfolding madeOf
 accepted-starts there o a d full said-so = go (good (o .count) (offered o) (o .limit)) refl said-so
   where
-    go : (b : Bool) → good (o .count) (offered o) (o .limit) ≡ b → said a d ≡ cond b (tells 0 (fresh o)) (tells 8 there) → (numberOf a ≡ 0 → (b ≡ true) × Made-of o d) × (b ≡ true → numberOf a ≡ 0)
-    go true g q = (λ _. (refl, subst (Made-of o) (sym (ap (λ (u : Told Device). u .state) q)) (made-of o full g)), λ _. ap (λ (u : Told Device). u .number) q)
+    go : (b : Bool) → good (o .count) (offered o) (o .limit) ≡ b → said a d ≡ cond b (tells 0 (fresh o)) (tells 8 there) → (numberOf a ≡ 0 → (b ≡ true) × Made-of (offered o) (o .limit) d) × (b ≡ true → numberOf a ≡ 0)
+    go true g q = (λ _. (refl, subst (Made-of (offered o) (o .limit)) (sym (ap (λ (u : Told Device). u .state) q)) (made-of o full g)), λ _. ap (λ (u : Told Device). u .number) q)
     go false g q =
         (λ z. absurd (let e : numberOf a ≡ 8 = ap (λ (u : Told Device). u .number) q in omega arith), λ z. absurd (false≢true z))

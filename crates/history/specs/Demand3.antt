@@ -27,16 +27,17 @@ pub record Demand-3 : Type 0 where
   -- "From any accepted table", and from any state that a cut leaves
   pub accepted-starts : Accepted-starts
   pub cut-starts : Cut-starts
-  -- "after any sequence .. a cut after any single store included": the code's own runs are the scripts, and an event makes at most one store
+  -- "after any sequence .. a cut after any single store included": the code's own runs are the scripts, and an event changes at most one cell
   pub runs-are-scripts : Runs-are-scripts
   pub at-most-one-cell : At-most-one-cell
   -- "whenever no removal is under way"
   pub kept : (start : Device) → Startable start → (s : Script) → Kept-by-runs start (history start s) (after start s)
-  -- "Undisturbed, a removal makes its marking store at the third step and ends at the fifth."
+  -- "the one accepted with the latest such store": what is accepted, and which events make these stores
   pub acceptance : Acceptance
   pub clearance : Clearance
   pub noting-store : Noting-store
   pub marking-store : Marking-store
+  -- "Undisturbed, a removal makes its marking store at the third step and ends at the fifth."
   pub five-steps : Five-steps
   pub fifth-ends : Fifth-ends
   -- "After a cut during a removal, four undisturbed steps bring that about."

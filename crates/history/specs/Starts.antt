@@ -1,7 +1,7 @@
 -- Where a run may start, and that every accepted table makes such a start.
 use Prim.Native.Nat.{ℕ, _-_, _<_, _≤_}
 use mathlib.Core.Bool.{Bool, true, false, _||_}
-use mathlib.Core.List.{map}
+use mathlib.Core.List.{List, map}
 use mathlib.Core.Path.{_≡_}
 use lib.ListN.{length, take}
 use Rattle.cells.specs.declared.Note.the-variants.{Empty, Full}
@@ -13,6 +13,7 @@ use Rattle.device.specs.declared.Device.{Device}
 use Rattle.making.specs.Making.{madeOf}
 use Rattle.offer.specs.Check.{good}
 use Rattle.offer.specs.Elements.{offered, partOf, healthOf, blockSum}
+use Rattle.offer.specs.declared.Element.{Element}
 use Rattle.offer.specs.declared.Offer.{Offer}
 use Rattle.paper.specs.Answers.{numberOf}
 use Rattle.paper.specs.Elements.{removedHealth, gradedHealth}
@@ -44,17 +45,17 @@ pub record Startable (d : Device) : Type 0 where
   pub healths : (place : ℕ) → place < size (d .table) → fit (healthAt d place) ≡ true
   pub begins : Begins d (d .cells .note)
 
--- a device that was made of a table: its elements, "the starting maximum address is the sum minus 1", no note, nothing marked, no failed mark
-pub record Made-of (o : Offer) (d : Device) : Type 0 where
+-- a device that was made of elements and a limit: its elements, "the starting maximum address is the sum minus 1", no note, nothing marked, no failed mark
+pub record Made-of (es : List Element) (most : ℕ) (d : Device) : Type 0 where
   pub startable : Startable d
-  pub parts : live (d .table) ≡ map partOf (offered o)
-  pub healths : take (d .table .count) (d .cells .healths) ≡ map healthOf (offered o)
-  pub count : d .table .count ≡ o .count
-  pub limit : d .table .limit ≡ o .limit
+  pub parts : live (d .table) ≡ map partOf es
+  pub healths : take (d .table .count) (d .cells .healths) ≡ map healthOf es
+  pub count : d .table .count ≡ length es
+  pub limit : d .table .limit ≡ most
   pub rests : d .cells .note ≡ Empty
-  pub native-max : d .cells .native .0 ≡ blockSum (offered o) - 1
-  pub accessible-max : d .cells .accessible .0 ≡ blockSum (offered o) - 1
-  pub first : address d empty ≡ blockSum (offered o) - 1
+  pub native-max : d .cells .native .0 ≡ blockSum es - 1
+  pub accessible-max : d .cells .accessible .0 ≡ blockSum es - 1
+  pub first : address d empty ≡ blockSum es - 1
   pub unmarked : (id : ℕ) → marked d empty id ≡ false
   pub sound : failedIn d empty ≡ false
 
@@ -62,7 +63,7 @@ pub record Made-of (o : Offer) (d : Device) : Type 0 where
 abbrev pub Accepted-starts : Type 0
 Accepted-starts =
     (there : Device) (o : Offer) (a : Answer) (d : Device) → length (o .elements) ≡ 128 → said a d ≡ madeOf there o
-    → (numberOf a ≡ 0 → (good (o .count) (offered o) (o .limit) ≡ true) × Made-of o d) × (good (o .count) (offered o) (o .limit) ≡ true → numberOf a ≡ 0)
+    → (numberOf a ≡ 0 → (good (o .count) (offered o) (o .limit) ≡ true) × Made-of (offered o) (o .limit) d) × (good (o .count) (offered o) (o .limit) ≡ true → numberOf a ≡ 0)
 
 -- what is left after a cut is such a start too
 abbrev pub Cut-starts : Type 0

@@ -12,7 +12,7 @@ use lib.Seq.{drop-cons}
 use borrow.Author.Tests.{eq-eqb, ne-eqb}
 use Rattle.slices.specs.Lists.{any}
 use Rattle.open.specs.Open.{isOpen}
-use Rattle.open.specs.Rows.{leaves, rowFits, anyFits}
+use Rattle.open.specs.Private.{leaves, rowFits, anyFits}
 use Rattle.open.specs.declared.Row.{Row}
 
 -- ## The forms of a register

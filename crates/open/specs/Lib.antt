@@ -1,3 +1,3 @@
 -- What is open during a removal, and how a row of its table fits a command.
 pub mod Open
-pub mod Rows
+pub mod Private

@@ -1,7 +1,7 @@
 // What is open during a removal (002): a constant table of opcodes, subcommands and log addresses, and its search.
 ghost use mathlib.Core.Path.{_≡_};
 ghost use Rattle.open.specs.Open.{isOpen};
-ghost use Rattle.open.specs.Rows.{rowFits, anyFits};
+ghost use Rattle.open.specs.Private as private;
 
 // A form of a command: its code, and for FEATURE and LBA a mask and what it must leave. Mask 0: any; FFh: bits 7:0.
 struct Row {
@@ -128,7 +128,7 @@ const OPEN: [Row; 16] = [
 ];
 
 fn does_fit(row: Row, code: u8, feature: u16, lba: u64) -> bool
-    ensures { λ r. ⌜ r ≡ rowFits row code feature lba ⌝ }
+    ensures { λ r. ⌜ r ≡ private.rowFits row code feature lba ⌝ }
 {
     if code != row.code {
         return false;
@@ -140,7 +140,7 @@ fn does_fit(row: Row, code: u8, feature: u16, lba: u64) -> bool
 }
 
 fn any_fits(rows: [Row; 16], code: u8, feature: u16, lba: u64) -> bool
-    ensures { λ r. ⌜ r ≡ anyFits rows code feature lba ⌝ }
+    ensures { λ r. ⌜ r ≡ private.anyFits rows code feature lba ⌝ }
 {
     let mut i: usize = 0;
     while i < 16 {

@@ -21,7 +21,7 @@ abbrev pub One-judgement : Type 0
 One-judgement = (s t : List ℕ) (a b : Opening) → heard a ≡ judged s t → heard b ≡ judged s t → a ≡ b
 
 -- "If a page was cut short (N above returned)": an accepted one has "16p - 1" descriptors, and bounds the comparison at the last one's
--- identifier
+-- identifier, which is a real one
 abbrev pub Cut-bounds : Type 0
 Cut-bounds =
     (s : List ℕ) (q : Request) → accepted s q ≡ true → headerIn Little s .returned < headerIn Little s .number

@@ -1,6 +1,7 @@
 -- What is proved of the reader.
 
 pub mod Examples
+pub mod Ignored
 pub mod LayoutTheorem
 pub mod Once
 pub mod Page

@@ -4,6 +4,7 @@ use mathlib.Core.List.{List}
 use mathlib.Core.Path.{_≡_}
 use Rattle.layout.specs.Bytes.{headerIn}
 use Rattle.paper.specs.Told.{tells}
+use Rattle.request.specs.Requests.{Same-fields}
 use Rattle.request.specs.declared.Request.{Request}
 use Rattle.words.specs.declared.Order.{Order}
 use Rattle.reader.specs.Judgement.{header, place, heard, readOf, slotOf}
@@ -28,6 +29,12 @@ abbrev pub Refuses-exactly : Type 0
 Refuses-exactly =
     (o : Order) (s : List ℕ) (q : Request) (p : ℕ)
     → (readOf o s q ≡ tells 9 (place p) → FirstBroken (pageRules o s q) p) × (FirstBroken (pageRules o s q) p → readOf o s q ≡ tells 9 (place p))
+
+-- ## What of a request is ignored
+
+-- it is read as the answer to either
+abbrev pub Ignored-unread : Type 0
+Ignored-unread = (o : Order) (s : List ℕ) (p q : Request) → Same-fields p q → readOf o s p ≡ readOf o s q
 
 -- ## "Reserved bytes are not looked at"
 

@@ -2,6 +2,7 @@
 use Prim.Native.Nat.{ℕ, _*_, _/_, _%_, _^_}
 use mathlib.Core.Bool.{Bool, cond, not, _||_}
 use mathlib.Core.List.{List}
+use mathlib.Core.Path.{_≡_}
 use lib.Dec.{leb, ltb, eqb}
 use lib.ListN.{length}
 use Rattle.paper.specs.Elements.{storageType, removedHealth, slow}
@@ -29,6 +30,13 @@ pagesOf q = q .count .0
 -- "LBA = starting element, all 48 bits compared"
 abbrev pub startOf : Request → ℕ
 startOf q = low48 (q .lba) .0
+
+-- two requests that differ in bits that are ignored alone: "the other bits ignored", and "those above bit 47"
+pub record Same-fields (p q : Request) : Type 0 where
+  pub filter : filterOf p ≡ filterOf q
+  pub report : reportTypeOf p ≡ reportTypeOf q
+  pub pages : pagesOf p ≡ pagesOf q
+  pub start : startOf p ≡ startOf q
 
 -- FEATURE's two fields
 abbrev pub fieldsRefused : Request → Bool

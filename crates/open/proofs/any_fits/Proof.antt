@@ -3,7 +3,7 @@ use Prim.Native.Nat.{_-_, _≤_}
 use mathlib.Core.Path.{_≡_, refl}
 use lib.ListN.{length, drop}
 use borrow.Author.Needs.{needs}
-use Rattle.open.specs.Rows.{anyFits}
+use Rattle.open.specs.Private.{anyFits}
 use Rattle.open.proofs.Rows.{any-hit, any-pass, any-none}
 use Rattle.open.proofs.any_fits.Statement.{statement}
 use Rattle.open.proofs.any_fits.Tie as tie

@@ -1,12 +1,12 @@
--- What lies above bit 47 of LBA is not looked at: each rule drops it, or goes by lower bits.
-use Prim.Native.Nat.{ℕ, _+_, _*_, _%_, _^_}
+-- A page goes by a request's four fields alone; and what lies above bit 47 of LBA is not looked at: each rule drops it, or goes by lower bits.
+use Prim.Native.Nat.{ℕ, _+_, _%_, _^_}
 use mathlib.Core.Bool.{cond, _&&_}
-use mathlib.Core.List.{List, _++_}
-use mathlib.Core.Path.{_≡_, sym, ap}
+use mathlib.Core.List.{List}
+use mathlib.Core.Path.{_≡_, refl, sym, ap}
 use native.Mathlib.Nat.{mod-mod}
 use native.Mathlib.Omega.{arith}
 use lib.Dec.{eqb, leb, ltb}
-use lib.ListN.{length, drop}
+use lib.ListN.{length}
 use Rattle.cells.specs.Cells.{isSet, failedNumber}
 use Rattle.cells.specs.declared.Mark.{Mark}
 use Rattle.device.specs.Commands.{sectorsOf, mediaNumber, otherNumber}
@@ -16,14 +16,39 @@ use Rattle.device.specs.declared.Device.{Device}
 use Rattle.layout.specs.declared.Descriptor.{Descriptor}
 use Rattle.open.specs.Open.{logOf, isOpen}
 use Rattle.paper.specs.Registers.{Registers, low48}
+use Rattle.paper.specs.Told.{Told}
 use Rattle.paper.specs.declared.Lba.{Lba}
 use Rattle.paper.specs.declared.Security.{Security}
 use Rattle.removal.specs.Remove.{identifierOf, judge}
-use Rattle.request.specs.Requests.{asked, filterOf, reportTypeOf, pagesOf, refused, statusNumber, takesType, takesHealth}
+use Rattle.request.specs.Requests.{Same-fields, asked, refused, statusNumber, takesType, takesHealth}
+use Rattle.request.specs.declared.Request.{Request}
 use Rattle.slices.specs.Lists.{keep}
 use Rattle.view.specs.Shown.{asks}
 use Rattle.status.specs.Page.{shownAll, listOf, pageOf}
-use Rattle.status.specs.Promises.{lowered, High-bits-unseen}
+use Rattle.status.specs.Promises.{Ignored-unshown, lowered, High-bits-unseen}
+
+-- ## The four fields
+
+module _ (p q : Request) (same : Same-fields p q) where
+  number-same : (s : Security) (room : ℕ) → statusNumber s p room ≡ statusNumber s q room
+  unfolding refused
+  number-same s room = rw (same .filter, same .report, same .pages)
+
+  module _ (d : Device) where
+    list-same : listOf d p ≡ listOf d q
+    unfolding listOf asks
+    list-same =
+        λ i. keep (λ (x : Descriptor). leb (same .start i) (x .id .0) && (takesType (same .report i) (x .kind) && takesHealth (same .filter i) (x .health)))
+        (shownAll d)
+
+    page-same : pageOf d p ≡ pageOf d q
+    unfolding pageOf
+    page-same = rw (list-same, same .pages)
+
+pub ignored-unshown : Ignored-unshown
+ignored-unshown d s p q buf same = rw (number-same p q same s (length buf), page-same p q same d, same .pages)
+
+-- ## Above bit 47
 
 once : (lba : Lba) → low48 lba ≡ low48 (low48 lba)
 once lba = λ i. record { 0 = sym (mod-mod (lba .0) (2 ^ 48)) i }
@@ -53,20 +78,11 @@ module _ (d : Device) (s : Security) (r : Registers) where
   rule-low room =
       λ i. cond (eqb (r .code) 0x7C) (judge (d .table) (d .cells) (d .position) s (identifierOf r) (once (r .lba) i)) (says (quiet-low room i) d)
 
-  list-low : listOf d (asked r) ≡ listOf d (asked (lowered r))
-  unfolding listOf asks
-  list-low =
-      ap (λ (n : ℕ). keep (λ (x : Descriptor). leb n (x .id .0) && (takesType (reportTypeOf (asked r)) (x .kind) && takesHealth (filterOf (asked r)) (x .health)))
-      (shownAll d)) (ap (λ (x : Lba). x .0) (once (r .lba)))
-
-  page-low : pageOf d (asked r) ≡ pageOf d (asked (lowered r))
-  unfolding pageOf
-  page-low = rw list-low
+  asked-low : Same-fields (asked r) (asked (lowered r))
+  asked-low = record { filter = refl; report = refl; pages = refl; start = ap (λ (x : Lba). x .0) (once (r .lba)) }
 
 pub high-bits-unseen : High-bits-unseen
-unfolding refused
 high-bits-unseen d s r buf = (
   ap (tell d) (rule-low d s r (length buf)),
-  ap (λ (page : List ℕ). cond (eqb (r .code) 0x12) (cond (eqb (statusNumber s (asked r) (length buf)) 0) (page ++ drop (512 * pagesOf (asked r)) buf) buf) buf)
-      (page-low d s r),
+  ap (λ (t : Told (List ℕ)). cond (eqb (r .code) 0x12) (t .state) buf) (ignored-unshown d s (asked r) (asked (lowered r)) buf (asked-low d s r)),
 )
