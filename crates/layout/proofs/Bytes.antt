@@ -2,11 +2,11 @@
 use Prim.Native.Nat.{ℕ, _%_}
 use mathlib.Core.Bool.{Bool, true, false}
 use mathlib.Core.List.{List, [], _∷_, _++_}
-use mathlib.Core.Path.{_≡_, refl, _∙_}
+use mathlib.Core.Path.{_≡_, refl, sym, ap, _∙_}
 use lib.Dec.{eqb}
 use lib.ListN.{getD, replicate}
 use Rattle.slices.specs.Lists.{stored, one}
-use Rattle.words.proofs.Bytes.{number-bytesOf}
+use Rattle.words.proofs.Bytes.{number-bytesOf, placed, number-placed}
 use Rattle.words.specs.Bytes.{bytesOf, number, numberAt}
 use Rattle.words.specs.declared.Order.the-variants.{Little, Big}
 use Rattle.words.specs.declared.Order.{Order}
@@ -47,6 +47,28 @@ pub descriptor-fields : (o : Order) (s : List ℕ) (i f k h c : ℕ)
     → record { id = record { 0 = i }; restorable = eqb (f % 2) 1; kind = k; health = h; capacity = c } ≡ descriptorIn o s
 descriptor-fields o s i f k h c is-i is-f is-k is-h is-c =
     λ j. record { id = record { 0 = is-i j }; restorable = eqb (is-f j % 2) 1; kind = is-k j; health = is-h j; capacity = is-c j }
+
+-- of 32 bytes, each looked up
+module _ (s : List ℕ) where
+  pub header-whole : (n r b l m : ℕ)
+      → n ≡ number Little (placed 4 s 0) → r ≡ number Little (placed 4 s 4) → b ≡ number Little (placed 4 s 8)
+      → l ≡ number Little (placed 2 s 12) → m ≡ number Little (placed 2 s 14)
+      → record { number = n; returned = r; busy = record { 0 = b }; limit = l; removed = m } ≡ headerIn Little s
+  header-whole n r b l m is-n is-r is-b is-l is-m =
+      header-fields Little s n r b l m (is-n ∙ number-placed Little 4 s 0) (is-r ∙ number-placed Little 4 s 4) (is-b ∙ number-placed Little 4 s 8)
+      (is-l ∙ number-placed Little 2 s 12) (is-m ∙ number-placed Little 2 s 14)
+
+  pub descriptor-whole : (i c : ℕ) → i ≡ number Little (placed 4 s 4) → c ≡ number Little (placed 8 s 16)
+      → record { id = record { 0 = i }; restorable = eqb (getD s 13 0 % 2) 1; kind = getD s 14 0; health = getD s 15 0; capacity = c } ≡ descriptorIn Little s
+  descriptor-whole i c is-i is-c =
+      descriptor-fields Little s i (getD s 13 0) (getD s 14 0) (getD s 15 0) c (is-i ∙ number-placed Little 4 s 4) refl refl refl (is-c ∙ number-placed Little 8 s 16)
+
+-- where a `match` has told the order
+pub header-little : {o : Order} (s : List ℕ) (h : Header) → o ≡ Little → h ≡ headerIn Little s → h ≡ headerIn o s
+header-little s h e so = so ∙ sym (ap (λ (p : Order). headerIn p s) e)
+
+pub descriptor-little : {o : Order} (s : List ℕ) (d : Descriptor) → o ≡ Little → d ≡ descriptorIn Little s → d ≡ descriptorIn o s
+descriptor-little s d e so = so ∙ sym (ap (λ (p : Order). descriptorIn p s) e)
 
 -- ## What was laid is read back, whatever follows it
 

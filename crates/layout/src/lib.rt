@@ -1,5 +1,7 @@
 // What device and reader share of a status page: the header and the descriptor, in either byte order.
 ghost use mathlib.Core.Path.{_≡_};
+ghost use Prim.Native.Nat.{_≤_};
+ghost use lib.ListN.{length};
 ghost use Rattle.layout.specs.Bytes.{headerBytes, headerIn, descriptorBytes, descriptorIn};
 use paper::ElementId;
 use words::Order;
@@ -35,8 +37,20 @@ impl Header {
         b
     }
 
-    // The header that a slice starts with; a byte past its end counts as 0.
+    // The header that a slice starts with; a byte past its end counts as 0. Of 32 bytes in the order of ATA pages none is tested for.
     pub fn read(s: &[u8], o: Order) -> Header
+        ensures { λ r. ⌜ r ≡ headerIn o (now (s .entry)) ⌝ }
+    {
+        if s.len() < 32 {
+            return Header::part(s, o);
+        }
+        match o {
+            Order::Little => Header::whole(s),
+            Order::Big => Header::part(s, o),
+        }
+    }
+
+    fn part(s: &[u8], o: Order) -> Header
         ensures { λ r. ⌜ r ≡ headerIn o (now (s .entry)) ⌝ }
     {
         Header {
@@ -45,6 +59,19 @@ impl Header {
             busy: ElementId(words::number4(s, 8, o)),
             limit: words::number2(s, 12, o),
             removed: words::number2(s, 14, o),
+        }
+    }
+
+    fn whole(s: &[u8]) -> Header
+        requires { ⌜ 32 ≤ length (now s) ⌝ }
+        ensures { λ r. ⌜ r ≡ headerIn Order.Little (now (s .entry)) ⌝ }
+    {
+        Header {
+            number: words::of4(s[0], s[1], s[2], s[3], Order::Little),
+            returned: words::of4(s[4], s[5], s[6], s[7], Order::Little),
+            busy: ElementId(words::of4(s[8], s[9], s[10], s[11], Order::Little)),
+            limit: words::of2(s[12], s[13], Order::Little),
+            removed: words::of2(s[14], s[15], Order::Little),
         }
     }
 }
@@ -64,8 +91,20 @@ impl Descriptor {
         b
     }
 
-    // The descriptor that a slice starts with; a byte past its end counts as 0.
+    // The descriptor that a slice starts with, read as a header is.
     pub fn read(s: &[u8], o: Order) -> Descriptor
+        ensures { λ r. ⌜ r ≡ descriptorIn o (now (s .entry)) ⌝ }
+    {
+        if s.len() < 32 {
+            return Descriptor::part(s, o);
+        }
+        match o {
+            Order::Little => Descriptor::whole(s),
+            Order::Big => Descriptor::part(s, o),
+        }
+    }
+
+    fn part(s: &[u8], o: Order) -> Descriptor
         ensures { λ r. ⌜ r ≡ descriptorIn o (now (s .entry)) ⌝ }
     {
         let flags = slices::byte_at(s, 13);
@@ -75,6 +114,30 @@ impl Descriptor {
             kind: slices::byte_at(s, 14),
             health: slices::byte_at(s, 15),
             capacity: words::number8(s, 16, o),
+        }
+    }
+
+    fn whole(s: &[u8]) -> Descriptor
+        requires { ⌜ 32 ≤ length (now s) ⌝ }
+        ensures { λ r. ⌜ r ≡ descriptorIn Order.Little (now (s .entry)) ⌝ }
+    {
+        let flags = s[13];
+        Descriptor {
+            id: ElementId(words::of4(s[4], s[5], s[6], s[7], Order::Little)),
+            restorable: flags % 2 == 1,
+            kind: s[14],
+            health: s[15],
+            capacity: words::of8(
+                s[16],
+                s[17],
+                s[18],
+                s[19],
+                s[20],
+                s[21],
+                s[22],
+                s[23],
+                Order::Little,
+            ),
         }
     }
 }

@@ -1,6 +1,7 @@
 -- Laws of numbers as bytes, each over the width and the order.
 --     number-bytesOf   a number that fits is read back from its bytes
 --     number-halves    a number of two halves, as the code reads it
+--     number-placed    the number of the bytes at a place
 --     number-same      the number at a place goes by its bytes alone
 use Prim.Native.Nat.{ℕ, zero, suc, _+_, _*_, _/_, _%_, _^_, _<_}
 use mathlib.Core.List.{List, [], _∷_, _++_, reverse, reverse-append, reverse-reverse}
@@ -65,14 +66,47 @@ number-halves w o s t at x y r e p q j =
     ∙ ap (number o) (sym (front-split w w t))
     ∙ ap (λ (u : List ℕ). number o (front (w + w) u)) e
 
-number-one : (o : Order) (b : ℕ) → b ≡ number o (b ∷ [])
-number-one Little b = omega arith
-number-one Big b = omega arith
+-- ## Of bytes that are given
 
--- the halves are bytes
-pub number-bytes : (o : Order) (s t : List ℕ) (at x y r : ℕ) → t ≡ drop at s → x ≡ getD t 0 0 → y ≡ getD t 1 0 → r ≡ joined o 256 x y → r ≡ numberAt o 2 s at
-number-bytes o s t at x y r e p q j =
-    number-halves 1 o s t at x y r e (p ∙ number-one o (getD t 0 0)) (q ∙ sym (getD-drop 1 t 0 0) ∙ number-one o (getD (drop 1 t) 0 0)) j
+pub two-little : (a b : ℕ) → b * 256 + a ≡ number Little (a ∷ b ∷ [])
+two-little a b = omega arith
+
+pub two-big : (a b : ℕ) → a * 256 + b ≡ number Big (a ∷ b ∷ [])
+two-big a b = omega arith
+
+pub in-turn : {o p : Order} (l : List ℕ) (r : ℕ) → o ≡ p → r ≡ number p l → r ≡ number o l
+in-turn l r e so = so ∙ sym (ap (λ (q : Order). number q l) e)
+
+halves-given : (w : ℕ) (o : Order) (a b : List ℕ) (x y r : ℕ) → length a ≡ w → length b ≡ w
+    → x ≡ number o a → y ≡ number o b → r ≡ joined o (256 ^ w) x y → r ≡ number o (a ++ b)
+halves-given w o a b x y r p q is-x is-y is-r = is-r ∙ rw (is-x, is-y) (sym (number-append o w a b p q))
+
+pub four-given : (o : Order) (a b c d x y r : ℕ) → x ≡ number o (a ∷ b ∷ []) → y ≡ number o (c ∷ d ∷ []) → r ≡ joined o 65536 x y
+    → r ≡ number o (a ∷ b ∷ c ∷ d ∷ [])
+four-given o a b c d x y r = halves-given 2 o (a ∷ b ∷ []) (c ∷ d ∷ []) x y r refl refl
+
+pub eight-given : (o : Order) (a b c d e f g h x y r : ℕ) → x ≡ number o (a ∷ b ∷ c ∷ d ∷ []) → y ≡ number o (e ∷ f ∷ g ∷ h ∷ [])
+    → r ≡ joined o 4294967296 x y → r ≡ number o (a ∷ b ∷ c ∷ d ∷ e ∷ f ∷ g ∷ h ∷ [])
+eight-given o a b c d e f g h x y r = halves-given 4 o (a ∷ b ∷ c ∷ d ∷ []) (e ∷ f ∷ g ∷ h ∷ []) x y r refl refl
+
+-- two bytes from a place on
+pub number-bytes : (o : Order) (s t : List ℕ) (at x y r : ℕ) → t ≡ drop at s → x ≡ getD t 0 0 → y ≡ getD t 1 0 → r ≡ number o (x ∷ y ∷ []) → r ≡ numberAt o 2 s at
+number-bytes o s t at x y r e p q is-r =
+    is-r ∙ rw (p, q ∙ sym (getD-drop 1 t 0 0)) (ap (λ (u : List ℕ). number o (front 2 u)) e)
+
+-- ## Bytes at a place
+
+-- the w bytes from a place on
+abbrev pub placed : ℕ → List ℕ → ℕ → List ℕ
+placed zero s at = []
+placed (suc w) s at = getD s at 0 ∷ placed w s (at + 1)
+
+front-placed : (w : ℕ) (s : List ℕ) (at : ℕ) → placed w s at ≡ front w (drop at s)
+front-placed zero s at = refl
+front-placed (suc w) s at = rw (getD-drop at s 0 0, add-zero at, drop-drop 1 at s) (ap (λ (bs : List ℕ). getD s at 0 ∷ bs) (front-placed w s (at + 1)))
+
+pub number-placed : (o : Order) (w : ℕ) (s : List ℕ) (at : ℕ) → number o (placed w s at) ≡ numberAt o w s at
+number-placed o w s at = ap (number o) (front-placed w s at)
 
 -- ## In two lists
 

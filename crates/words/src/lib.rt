@@ -1,6 +1,7 @@
 // Numbers as bytes, in either order, at widths 2, 4 and 8. Any place will do: past the end a byte is 0.
+ghost use mathlib.Core.List.{[], _∷_};
 ghost use mathlib.Core.Path.{_≡_};
-ghost use Rattle.words.specs.Bytes.{bytesOf, numberAt};
+ghost use Rattle.words.specs.Bytes.{bytesOf, number, numberAt};
 ghost use Rattle.words.specs.Private as private;
 use slices::byte_at;
 use slices::tail;
@@ -52,11 +53,33 @@ pub fn bytes8(x: u64, o: Order) -> [u8; 8]
     }
 }
 
+// The number of 2, 4 or 8 bytes, in an order.
+pub fn of2(a: u8, b: u8, o: Order) -> u16
+    ensures { λ r. ⌜ r ≡ number o (a ∷ b ∷ []) ⌝ }
+{
+    match o {
+        Order::Little => (b as u16) * 256 + (a as u16),
+        Order::Big => (a as u16) * 256 + (b as u16),
+    }
+}
+
+pub fn of4(a: u8, b: u8, c: u8, d: u8, o: Order) -> u32
+    ensures { λ r. ⌜ r ≡ number o (a ∷ b ∷ c ∷ d ∷ []) ⌝ }
+{
+    join4(of2(a, b, o), of2(c, d, o), o)
+}
+
+pub fn of8(a: u8, b: u8, c: u8, d: u8, e: u8, f: u8, g: u8, h: u8, o: Order) -> u64
+    ensures { λ r. ⌜ r ≡ number o (a ∷ b ∷ c ∷ d ∷ e ∷ f ∷ g ∷ h ∷ []) ⌝ }
+{
+    join8(of4(a, b, c, d, o), of4(e, f, g, h, o), o)
+}
+
 pub fn number2(s: &[u8], at: usize, o: Order) -> u16
     ensures { λ r. ⌜ r ≡ numberAt o 2 (now (s .entry)) at ⌝ }
 {
     let t = tail(s, at);
-    join2(byte_at(t, 0), byte_at(t, 1), o)
+    of2(byte_at(t, 0), byte_at(t, 1), o)
 }
 
 pub fn number4(s: &[u8], at: usize, o: Order) -> u32
@@ -71,15 +94,6 @@ pub fn number8(s: &[u8], at: usize, o: Order) -> u64
 {
     let t = tail(s, at);
     join8(number4(t, 0, o), number4(t, 4, o), o)
-}
-
-fn join2(a: u8, b: u8, o: Order) -> u16
-    ensures { λ r. ⌜ r ≡ private.joined o 256 a b ⌝ }
-{
-    match o {
-        Order::Little => (b as u16) * 256 + (a as u16),
-        Order::Big => (a as u16) * 256 + (b as u16),
-    }
 }
 
 fn join4(a: u16, b: u16, o: Order) -> u32

@@ -1,6 +1,6 @@
--- `layout::Descriptor::read`: a number or a byte for each field.
+-- `layout::Descriptor::read`: of 32 bytes in the little order, or of any.
 use borrow.Author.Needs.{needs}
-use Rattle.layout.proofs.Bytes.{descriptor-fields}
+use Rattle.layout.proofs.Bytes.{descriptor-little}
 use Rattle.layout.proofs.Descriptor.read.Statement.{statement}
 use Rattle.layout.proofs.Descriptor.read.Tie as tie
 
@@ -9,8 +9,10 @@ read-spec =
     tie.close
     (tie.spec
     (λ c κs. search needs)
+    (λ c. search needs)
+    (λ c. search needs)
     (λ c κs. search needs)
+    (λ c. search needs)
     (λ c κs. search needs)
-    (λ c κs. search needs)
-    (λ c κs. search needs)
-    (λ c. search (descriptor-fields)))
+    (λ c. search (descriptor-little))
+    (λ c. search needs))

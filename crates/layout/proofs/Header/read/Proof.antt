@@ -1,6 +1,6 @@
--- `layout::Header::read`: a number for each field.
+-- `layout::Header::read`: of 32 bytes in the little order, or of any.
 use borrow.Author.Needs.{needs}
-use Rattle.layout.proofs.Bytes.{header-fields}
+use Rattle.layout.proofs.Bytes.{header-little}
 use Rattle.layout.proofs.Header.read.Statement.{statement}
 use Rattle.layout.proofs.Header.read.Tie as tie
 
@@ -9,8 +9,10 @@ read-spec =
     tie.close
     (tie.spec
     (λ c κs. search needs)
+    (λ c. search needs)
+    (λ c. search needs)
     (λ c κs. search needs)
+    (λ c. search needs)
     (λ c κs. search needs)
-    (λ c κs. search needs)
-    (λ c κs. search needs)
-    (λ c. search (header-fields)))
+    (λ c. search (header-little))
+    (λ c. search needs))
