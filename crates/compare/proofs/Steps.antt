@@ -17,6 +17,7 @@ use Rattle.reach.specs.Pages.{countOf, elementAt, boundOf, endOf}
 use Rattle.reader.proofs.LayoutTheorem.{and-both}
 use Rattle.words.specs.declared.Order.the-variants.{Little}
 use Rattle.compare.specs.Differences.{alike}
+use Rattle.compare.specs.Private.{ends}
 use Rattle.compare.specs.Walk.{cursor, keyAt, agreeAt, found, foundBy, stepAt, past, nextTo, nextOf}
 use Rattle.compare.specs.declared.Cursor.{Cursor}
 use Rattle.compare.specs.declared.Line.the-variants.{OnlyOlder, OnlyNewer, Changed}
@@ -25,14 +26,29 @@ use Rattle.compare.specs.declared.Step.{Step}
 
 -- ## A key
 
-module _ (s : List ℕ) (k : ℕ) (end : ElementId) (h : Header) (is-h : h ≡ headerIn Little s) where
-  pub key-none : h .returned ≤ k → end .0 + 1 ≡ keyAt s k end
+module _ (s : List ℕ) (k count : ℕ) (end : ElementId) (is-count : count ≡ countOf s) where
+  pub key-none : count ≤ k → end .0 + 1 ≡ keyAt s k end
   unfolding keyAt
-  key-none l = sym (rw (le-ltb k (countOf s) (omega (arith, count-read s h is-h))))
+  key-none l = sym (rw (le-ltb k (countOf s) (omega arith)))
 
-  pub key-there : k < h .returned → (d : Descriptor) → d ≡ descriptorAt Little s k → d .id .0 ≡ keyAt s k end
+  pub key-there : k < count → (d : Descriptor) → d ≡ descriptorAt Little s k → d .id .0 ≡ keyAt s k end
   unfolding keyAt elementAt
-  key-there l d is-d = ap (λ (x : Descriptor). x .id .0) is-d ∙ sym (rw (lt-ltb k (countOf s) (omega (arith, count-read s h is-h))))
+  key-there l d is-d = ap (λ (x : Descriptor). x .id .0) is-d ∙ sym (rw (lt-ltb k (countOf s) (omega arith)))
+
+pub element-read : (s : List ℕ) (k : ℕ) (d : Descriptor) → d ≡ descriptorAt Little s k → d ≡ elementAt s k
+unfolding elementAt
+element-read s k d is-d = is-d
+
+-- the last places, read off the headers
+pub ends-read : (s t : List ℕ) (h g : Header) → h ≡ headerIn Little s → g ≡ headerIn Little t → cursor (h .returned) (g .returned) ≡ ends s t
+ends-read s t h g is-h is-g = λ i. cursor (count-read s h is-h i) (count-read t g is-g i)
+
+module _ (s t : List ℕ) (c : Cursor) (is-c : c ≡ ends s t) where
+  pub last-older : c .older ≡ countOf s
+  last-older = ap (λ (x : Cursor). x .older) is-c
+
+  pub last-newer : c .newer ≡ countOf t
+  last-newer = ap (λ (x : Cursor). x .newer) is-c
 
 pub inside : (s : List ℕ) (k : ℕ) (end : ElementId) → keyAt s k end ≤ end .0 → k < countOf s
 unfolding keyAt
@@ -82,8 +98,7 @@ module _ (s t : List ℕ) (end : ElementId) (c : Cursor) (a b : ℕ) (is-a : a �
     unfolding agreeAt
     agree-if = sym (rw (← is-a, ← is-b, eq-eqb _ _ i, le-leb _ _ l))
 
-    pub agree-alike : (d e : Descriptor) → d ≡ descriptorAt Little s (c .older) → e ≡ descriptorAt Little t (c .newer) → (r : Bool) → r ≡ alike d e → r ≡ agreeAt s t end c
-    unfolding elementAt
+    pub agree-alike : (d e : Descriptor) → d ≡ elementAt s (c .older) → e ≡ elementAt t (c .newer) → (r : Bool) → r ≡ alike d e → r ≡ agreeAt s t end c
     agree-alike d e is-d is-e r is-r = is-r ∙ (λ k. alike (is-d k) (is-e k)) ∙ agree-if
 
   module _ (m : ℕ) (is-m : m ≡ min a b) where

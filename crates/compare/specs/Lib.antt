@@ -1,5 +1,6 @@
 -- Two pages compared: request 2026-01.
 
 pub mod Differences
+pub mod Private
 pub mod Promises
 pub mod Walk

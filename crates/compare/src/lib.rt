@@ -5,6 +5,8 @@ ghost use Prim.Native.Nat.{_+_, _^_, _≤_, _<_};
 ghost use Rattle.compare.specs.Differences.{alike};
 ghost use Rattle.compare.specs.Walk as paper;
 ghost use Rattle.compare.specs.Walk.{first, keyAt, agreeAt, foundBy, stepAt, nextOf};
+ghost use Rattle.compare.specs.Private as private;
+ghost use Rattle.reach.specs.Pages.{countOf, elementAt};
 use layout::Descriptor;
 use layout::Header;
 use paper::ElementId;
@@ -43,17 +45,29 @@ impl Cursor {
     }
 }
 
-// The key of a place, by which the pages are merged. After one up to the end there is a place.
-fn key_at(page: &[u8], k: u32, end: ElementId) -> usize
-    ensures { λ r. ⌜ (r ≡ keyAt (now (page .entry)) k end) × (r ≤ end .0 → k + 1 < 2 ^ 32) ⌝ }
+// What stands at a place: the key, by which the pages are merged, and the descriptor.
+struct Spot {
+    key: usize,
+    descriptor: Descriptor,
+}
+
+// At place k of a page with `count` descriptors. After a key up to the end there is a place.
+fn spot_at(page: &[u8], count: u32, k: u32, end: ElementId) -> Spot
+    requires { ⌜ count ≡ countOf (now page) ⌝ }
+    ensures { λ r. ⌜ (r .key ≡ keyAt (now (page .entry)) k end) × (r .key ≤ end .0 → k + 1 < 2 ^ 32) × (r .descriptor ≡ elementAt (now (page .entry)) k) ⌝ }
 {
-    let h = Header::read(page, Order::Little);
-    if h.returned <= k {
-        return end.0 as usize + 1;
+    let descriptor = offences::descriptor_at(page, k, Order::Little);
+    if count <= k {
+        return Spot {
+            key: end.0 as usize + 1,
+            descriptor,
+        };
     }
-    let d = offences::descriptor_at(page, k, Order::Little);
-    let id = d.id;
-    id.0 as usize
+    let id = descriptor.id;
+    Spot {
+        key: id.0 as usize,
+        descriptor,
+    }
 }
 
 fn is_alike(d: Descriptor, e: Descriptor) -> bool
@@ -72,19 +86,20 @@ fn is_alike(d: Descriptor, e: Descriptor) -> bool
 }
 
 // Whether one element stands at the cursor in both pages, not above the end, and unchanged. After it there is a place.
-fn do_agree(older: &[u8], newer: &[u8], end: ElementId, at: Cursor) -> bool
+fn do_agree(older: &[u8], newer: &[u8], last: Cursor, end: ElementId, at: Cursor) -> bool
+    requires { ⌜ last ≡ private.ends (now older) (now newer) ⌝ }
     ensures { λ r. ⌜ (r ≡ agreeAt (now (older .entry)) (now (newer .entry)) end at) × (r ≡ true → (at .older + 1 < 2 ^ 32) × (at .newer + 1 < 2 ^ 32)) ⌝ }
 {
-    let a = key_at(older, at.older, end);
-    let b = key_at(newer, at.newer, end);
-    if a != b {
+    let a = spot_at(older, last.older, at.older, end);
+    let b = spot_at(newer, last.newer, at.newer, end);
+    if a.key != b.key {
         return false;
     }
-    if (end.0 as usize) < a {
+    if (end.0 as usize) < a.key {
         return false;
     }
-    let d = offences::descriptor_at(older, at.older, Order::Little);
-    is_alike(d, offences::descriptor_at(newer, at.newer, Order::Little))
+    let d = a.descriptor;
+    is_alike(d, b.descriptor)
 }
 
 fn found(line: Line, older: u32, newer: u32) -> Step
@@ -113,15 +128,28 @@ fn found_by(a: usize, b: usize, at: Cursor) -> Step
 }
 
 // What stands at the cursor, where the pages do not agree.
-fn step_at(older: &[u8], newer: &[u8], end: ElementId, at: Cursor) -> Step
+fn step_at(older: &[u8], newer: &[u8], last: Cursor, end: ElementId, at: Cursor) -> Step
+    requires { ⌜ last ≡ private.ends (now older) (now newer) ⌝ }
     ensures { λ r. ⌜ r ≡ stepAt (now (older .entry)) (now (newer .entry)) end at ⌝ }
 {
-    let a = key_at(older, at.older, end);
-    let b = key_at(newer, at.newer, end);
-    if (end.0 as usize) < slices::smaller(a, b) {
+    let a = spot_at(older, last.older, at.older, end);
+    let b = spot_at(newer, last.newer, at.newer, end);
+    if (end.0 as usize) < slices::smaller(a.key, b.key) {
         return Step::Done;
     }
-    found_by(a, b, at)
+    found_by(a.key, b.key, at)
+}
+
+// The places past the last descriptor of each page.
+fn ends_of(older: &[u8], newer: &[u8]) -> Cursor
+    ensures { λ r. ⌜ r ≡ private.ends (now (older .entry)) (now (newer .entry)) ⌝ }
+{
+    let h = Header::read(older, Order::Little);
+    let g = Header::read(newer, Order::Little);
+    Cursor {
+        older: h.returned,
+        newer: g.returned,
+    }
 }
 
 // The next difference from a cursor on; what lies before the cursor counts as not there.
@@ -129,12 +157,13 @@ pub fn next(older: &[u8], newer: &[u8], from: Cursor) -> Step
     ensures { λ r. ⌜ r ≡ nextOf (now (older .entry)) (now (newer .entry)) from ⌝ }
 {
     let end = reach::last_compared(older, newer);
+    let last = ends_of(older, newer);
     let mut at = from;
-    while do_agree(older, newer, end, at) {
+    while do_agree(older, newer, last, end, at) {
         at = Cursor {
             older: at.older + 1,
             newer: at.newer + 1,
         };
     }
-    step_at(older, newer, end, at)
+    step_at(older, newer, last, end, at)
 }

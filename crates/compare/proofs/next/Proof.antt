@@ -10,10 +10,10 @@ use Rattle.compare.proofs.next.Statement.{statement}
 use Rattle.compare.proofs.next.Tie as tie
 
 abbrev Inv-loop : tie.InvT-loop
-Inv-loop older newer end at₀ at = nextTo older newer end at₀ ≡ nextTo older newer end at
+Inv-loop older newer end last at₀ at = nextTo older newer end at₀ ≡ nextTo older newer end at
 
 abbrev μ-loop : tie.MeasureT-loop
-μ-loop older newer end at₀ at = countOf older - at .older
+μ-loop older newer end last at₀ at = countOf older - at .older
 
 pub next-spec : {M : Type 1} → statement M
 next-spec =
@@ -21,6 +21,7 @@ next-spec =
     (tie.spec
     Inv-loop
     μ-loop
+    (λ c κs. search needs)
     (λ c κs. search needs)
     (λ c. refl)
     (λ c κs. search needs)
