@@ -1,12 +1,12 @@
 -- 80,000 bytes are enough for every listing (specs/Promises).
-use Prim.Native.Nat.{ℕ, _-_, _≤_}
+use Prim.Native.Nat.{ℕ, _≤_}
 use mathlib.Core.Bool.{Bool, true, false, cond}
 use mathlib.Core.List.{List}
-use mathlib.Core.Path.{_≡_, refl, ap}
+use mathlib.Core.Path.{_≡_, refl, sym, ap}
 use native.Mathlib.Omega.{arith}
-use lib.Dec.{ltb}
+use lib.Dec.{leb, ltb}
 use lib.ListN.{length, length-append}
-use borrow.Author.Tests.{le-ltb, ltb-false}
+use borrow.Author.Tests.{le-leb, le-ltb, ltb-false}
 use Rattle.layout.specs.declared.Header.{Header}
 use Rattle.paper.specs.Told.{tells}
 use Rattle.reader.proofs.LayoutTheorem.{with-header}
@@ -41,6 +41,10 @@ unfolding listingOf
 length-listing s =
     rw (length-append (firstLine (judged s .state)) (linesBelow s (lineCount (judged s .state))))
     (omega (arith, few s, length-first (judged s .state), length-lines s (lineCount (judged s .state))))
+
+-- a buffer of that length is not measured for
+pub room-unmeasured : (s : List ℕ) (room : ℕ) → 80000 ≤ room → true ≡ leb (length (listingOf s)) room
+room-unmeasured s room h = sym (le-leb (length (listingOf s)) room (omega (arith, length-listing s)))
 
 pub enough : Enough
 enough s out h = rw (le-ltb (length out) (length (listingOf s)) (omega (arith, length-listing s)))

@@ -8,7 +8,9 @@ use native.Mathlib.Omega.{arith}
 use lib.Dec.{leb}
 use lib.ListN.{length, drop, length-append}
 use borrow.Author.Tests.{leb-true, leb-false, lt-ltb, le-ltb}
+use Rattle.heading.proofs.Heading.{length-header, length-refused}
 use Rattle.io.specs.Counts.{Counts}
+use Rattle.layout.specs.declared.Descriptor.{Descriptor}
 use Rattle.layout.specs.declared.Header.{Header}
 use Rattle.offences.specs.Checks.{descriptorAt}
 use Rattle.paper.specs.Told.{tells, said}
@@ -18,25 +20,31 @@ use Rattle.reader.specs.declared.Judgement.the-variants.{Accepted, Refused}
 use Rattle.reader.specs.declared.Judgement.{Judgement}
 use Rattle.request.specs.Requests.{requestOf}
 use Rattle.request.specs.declared.Request.{Request}
-use Rattle.rows.proofs.Rows.{length-line, length-header, length-refused}
+use Rattle.rows.proofs.Rows.{length-line}
 use Rattle.rows.specs.Rows.{descriptorLine, headerLine, refusedLine}
-use Rattle.slices.proofs.Lists.{stored-more, stored-two}
-use Rattle.slices.specs.Lists.{stored}
-use Rattle.text.proofs.Written.{len-written, held-written}
-use Rattle.text.specs.Text.{nothing, written, held}
-use Rattle.text.specs.declared.Text.{Text}
+use Rattle.slices.proofs.Lists.{stored-front}
+use Rattle.slices.specs.Lists.{stored, ended}
 use Rattle.words.specs.declared.Order.the-variants.{Little}
+use Rattle.writing.proofs.Puts.{puts-one, puts-more}
+use Rattle.writing.specs.Private.{Puts}
 use Rattle.listing.specs.Listing.{linesBelow, judged, firstLine, lineCount, listingOf, output, listed}
 use Rattle.listing.proofs.Printing.{printed-small, printed-done, printed-counts}
 
 -- ## The first line
 
-module _ (answer : Judgement) (t : Text) where
-  pub first-accepted : (h : Header) → answer ≡ Accepted h → t ≡ written nothing (headerLine h) → t ≡ written nothing (firstLine (heard answer .state))
-  first-accepted h e so = so ∙ rw e
+module _ (answer : Judgement) (h : Header) (e : answer ≡ Accepted h) where
+  pub accepted-width : (n : ℕ) → n ≡ length (headerLine h) → n ≡ length (firstLine (heard answer .state))
+  accepted-width n so = so ∙ rw e
 
-  pub first-refused : (p : ℕ) → answer ≡ Refused p → t ≡ written nothing (refusedLine p) → t ≡ written nothing (firstLine (heard answer .state))
-  first-refused p e so = so ∙ rw e
+  pub accepted-puts : (d x : List ℕ) (r : ℕ) → x ≡ stored d 0 (headerLine h) → r ≡ ended d 0 (headerLine h) → Puts d 0 (firstLine (heard answer .state)) x r
+  accepted-puts d x r is-x is-r = rw e (puts-one d x 0 r (headerLine h) is-x is-r)
+
+module _ (answer : Judgement) (p : ℕ) (e : answer ≡ Refused p) where
+  pub refused-width : (n : ℕ) → n ≡ length (refusedLine p) → n ≡ length (firstLine (heard answer .state))
+  refused-width n so = so ∙ rw e
+
+  pub refused-puts : (d x : List ℕ) (r : ℕ) → x ≡ stored d 0 (refusedLine p) → r ≡ ended d 0 (refusedLine p) → Puts d 0 (firstLine (heard answer .state)) x r
+  refused-puts d x r is-x is-r = rw e (puts-one d x 0 r (refusedLine p) is-x is-r)
 
 -- ## The input
 
@@ -59,80 +67,64 @@ length-lines s (suc k) =
     let line : List ℕ = descriptorLine (descriptorAt Little s k) in
     omega (arith, length-append (linesBelow s k) line, length-lines s k, length-line (descriptorAt Little s k))
 
-length-fewer : (s : List ℕ) (k n : ℕ) → k ≤ n → length (linesBelow s k) ≤ length (linesBelow s n)
-length-fewer s k zero h = let none : k ≡ 0 = omega arith in omega (arith, ap (λ (j : ℕ). length (linesBelow s j)) none)
-length-fewer s k (suc n) h = by-test (leb k n) refl (length-fewer s k n)
-  where
-    by-test : (t : Bool) → leb k n ≡ t → (k ≤ n → length (linesBelow s k) ≤ length (linesBelow s n)) → length (linesBelow s k) ≤ length (linesBelow s (suc n))
-    by-test true e g = omega (arith, length-append (linesBelow s n) (descriptorLine (descriptorAt Little s n)), g (leb-true k n e))
-    by-test false e g =
-        let all : k ≡ suc n = omega (arith, leb-false k n e) in
-        omega (arith, ap (λ (j : ℕ). length (linesBelow s j)) all)
-
 -- ## A turn of a loop
 
-module _ (s : List ℕ) (k : ℕ) (line : Text) (is-line : line ≡ written nothing (descriptorLine (descriptorAt Little s k))) where
-  len : line .len ≡ length (descriptorLine (descriptorAt Little s k))
-  len = ap (λ (t : Text). t .len) is-line ∙ len-written (descriptorLine (descriptorAt Little s k)) (omega (arith, length-line (descriptorAt Little s k)))
+module _ (s : List ℕ) (k : ℕ) (e : Descriptor) (is-e : e ≡ descriptorAt Little s k) where
+  next : linesBelow s (k + 1) ≡ linesBelow s k ++ descriptorLine e
+  next = rw (add-one k, is-e)
 
-  more : length (linesBelow s (k + 1)) ≡ length (linesBelow s k) + length (descriptorLine (descriptorAt Little s k))
-  more = rw (add-one k) (length-append (linesBelow s k) (descriptorLine (descriptorAt Little s k)))
+  module _ (n w : ℕ) (is-n : n ≡ length (linesBelow s k)) (is-w : w ≡ length (descriptorLine e)) where
+    pub measure-next : n + w ≡ length (linesBelow s (k + 1))
+    measure-next = omega (arith, ap length next, length-append (linesBelow s k) (descriptorLine e))
 
-  pub measure-next : (n : ℕ) → n ≡ length (linesBelow s k) → n + line .len ≡ length (linesBelow s (k + 1))
-  measure-next n e = omega (arith, len, more)
+    pub measure-room : (count : ℕ) → k < count → count < 2 ^ 32 → n + w < 2 ^ 64
+    measure-room count less small = omega (arith, length-lines s k, length-line e)
 
-  pub measure-room : (n count : ℕ) → n ≡ length (linesBelow s k) → k < count → count < 2 ^ 32 → n + line .len < 2 ^ 64
-  measure-room n count e less small = omega (arith, len, length-lines s k, length-line (descriptorAt Little s k))
-
-  module _ (d out : List ℕ) (from at count : ℕ) (so : out ≡ stored d from (linesBelow s k)) (is-at : at ≡ from + length (linesBelow s k))
-      (less : k < count) (room : from + length (linesBelow s count) ≤ length d) where
-    within : from + length (linesBelow s (k + 1)) ≤ length d
-    within = omega (arith, length-fewer s (k + 1) count (omega arith))
-
-    pub put-next : (next : List ℕ) → next ≡ stored out at (held line) → next ≡ stored d from (linesBelow s (k + 1))
-    put-next next e =
-        let line-held : held line ≡ descriptorLine (descriptorAt Little s k) =
-        ap held is-line ∙ held-written (descriptorLine (descriptorAt Little s k)) (omega (arith, length-line (descriptorAt Little s k))) in
-        e ∙ rw (so, is-at, line-held, add-one k)
-        (stored-more d from (linesBelow s k) (descriptorLine (descriptorAt Little s k)) (rw (add-one k) at within))
-
-    pub put-place : at + line .len ≡ from + length (linesBelow s (k + 1))
-    put-place = omega (arith, len, more)
-
-    pub put-room : at + line .len ≤ length d
-    put-room = omega (arith, put-place, within)
+  pub put-next : (d x y : List ℕ) (from at r : ℕ) → y ≡ stored x at (descriptorLine e) → r ≡ ended x at (descriptorLine e)
+      → Puts d from (linesBelow s k) x at → Puts d from (linesBelow s (k + 1)) y r
+  put-next d x y from at r is-y is-r so =
+      rw next (puts-more d x from at (linesBelow s k) (descriptorLine e) y r (puts-one x y at r (descriptorLine e) is-y is-r) so)
 
 -- ## The whole listing
 
-module _ (s : List ℕ) (r : Judgement) (is-r : heard r ≡ judged s) (t : Text) (is-t : t ≡ written nothing (firstLine (heard r .state)))
-    (n : ℕ) (is-n : n ≡ lineCount (heard r .state)) (m : ℕ) (is-m : m ≡ length (linesBelow s n)) where
-  first-len : t .len ≡ length (firstLine (heard r .state))
-  first-len = ap (λ (x : Text). x .len) is-t ∙ len-written (firstLine (heard r .state)) (omega (arith, length-first (heard r .state)))
-
-  first-held : held t ≡ firstLine (heard r .state)
-  first-held = ap held is-t ∙ held-written (firstLine (heard r .state)) (omega (arith, length-first (heard r .state)))
-
-  whole : listingOf s ≡ firstLine (heard r .state) ++ linesBelow s n
+module _ (s : List ℕ) (answer : Judgement) (is-answer : heard answer ≡ judged s) (n : ℕ) (is-n : n ≡ lineCount (heard answer .state)) where
+  whole : listingOf s ≡ firstLine (heard answer .state) ++ linesBelow s n
   unfolding listingOf
-  whole = rw (← is-r, is-n)
+  whole = rw (← is-answer, is-n)
 
-  long : t .len + m ≡ length (listingOf s)
-  long = omega (arith, first-len, ap length whole, length-append (firstLine (heard r .state)) (linesBelow s n))
+  module _ (f m : ℕ) (is-f : f ≡ length (firstLine (heard answer .state))) (is-m : m ≡ length (linesBelow s n)) where
+    long : f + m ≡ length (listingOf s)
+    long = omega (arith, ap length whole, length-append (firstLine (heard answer .state)) (linesBelow s n))
 
-  pub size-fits : n < 2 ^ 32 → t .len + m < 2 ^ 64
-  size-fits small = omega (arith, first-len, length-first (heard r .state), length-lines s n)
+    pub size-fits : n < 2 ^ 32 → f + m < 2 ^ 64
+    size-fits small = omega (arith, length-first (heard answer .state), length-lines s n)
 
-  pub listed-small : (out : List ℕ) → length out < t .len + m → said SmallBuffer (output 0 out) ≡ listed s out
-  listed-small out = printed-small (listingOf s) out (t .len + m) long
+    pub room-measured : (room : ℕ) → leb (f + m) room ≡ leb (length (listingOf s)) room
+    room-measured room = rw long
 
-  module _ (out b₁ b₂ : List ℕ) (room : t .len + m ≤ length out) (is-b₁ : b₁ ≡ stored out 0 (held t)) (is-b₂ : b₂ ≡ stored b₁ (t .len) (linesBelow s n)) where
-    filled : b₂ ≡ listingOf s ++ drop (length (listingOf s)) out
-    filled =
-        rw whole
-        (stored-two out (firstLine (heard r .state)) (linesBelow s n) b₁ b₂ (t .len) (omega (arith, long, ap length whole)) first-len (rw first-held at is-b₁) is-b₂)
+  module _ (out x y : List ℕ) (first size : ℕ) (t : Bool) (is-t : t ≡ leb (length (listingOf s)) (length out)) (yes : t ≡ true)
+      (one : Puts out 0 (firstLine (heard answer .state)) x first) (two : Puts x first (linesBelow s n) y size) where
+    room : length (listingOf s) ≤ length out
+    room = leb-true (length (listingOf s)) (length out) (sym is-t ∙ yes)
 
-    pub listed-done : said Done (output (t .len + m) b₂) ≡ listed s out
-    listed-done = printed-done (listingOf s) out (t .len + m) long room b₂ filled
+    stands : (y ≡ stored out 0 (listingOf s)) × (size ≡ 0 + length (listingOf s))
+    unfolding Puts
+    stands =
+        let both : Puts out 0 (listingOf s) y size = rw whole (puts-more out x 0 first (firstLine (heard answer .state)) (linesBelow s n) y size two one) in
+        both (omega (arith, room))
 
-    pub listed-counts : Counts (t .len + m) b₂
-    listed-counts = printed-counts (listingOf s) out (t .len + m) long room b₂ filled
+    filled : y ≡ listingOf s ++ drop (length (listingOf s)) out
+    filled = stands .0 ∙ stored-front out (listingOf s) room
+
+    is-size : size ≡ length (listingOf s)
+    is-size = omega (arith, stands .1)
+
+    pub listed-done : said Done (output size y) ≡ listed s out
+    listed-done = printed-done (listingOf s) out size is-size (omega (arith, room, is-size)) y filled
+
+    pub listed-counts : Counts size y
+    listed-counts = printed-counts (listingOf s) out size is-size (omega (arith, room, is-size)) y filled
+
+pub listed-small : (s out : List ℕ) (t : Bool) → t ≡ leb (length (listingOf s)) (length out) → t ≡ false → said SmallBuffer (output 0 out) ≡ listed s out
+listed-small s out t is-t short =
+    printed-small (listingOf s) out (length (listingOf s)) refl (leb-false (length (listingOf s)) (length out) (sym is-t ∙ short))

@@ -1,20 +1,15 @@
 // The listing of a status page: a line for the header and one for each descriptor, or the place of the first offence.
 ghost use mathlib.Core.Path.{_≡_};
-ghost use Prim.Native.Nat.{_+_, _≤_};
+ghost use lib.Dec.{leb};
 ghost use lib.ListN.{length};
 ghost use Rattle.io.specs.Counts.{Counts};
-ghost use Rattle.offences.specs.Checks.{descriptorAt};
 ghost use Rattle.paper.specs.Told.{said};
 ghost use Rattle.reader.specs.Judgement.{heard};
-ghost use Rattle.rows.specs.Rows.{descriptorLine};
-ghost use Rattle.slices.specs.Lists.{stored};
-ghost use Rattle.text.specs.Text.{nothing, written};
-ghost use Rattle.words.specs.declared.Order.the-variants.{Little};
-ghost use Rattle.listing.specs.Listing.{linesBelow, judged, firstLine, lineCount, output, listed};
+ghost use Rattle.writing.specs.Private as private;
+ghost use Rattle.listing.specs.Listing.{linesBelow, judged, firstLine, lineCount, listingOf, output, listed};
 use paper::Answer;
 use paper::PageCount;
 use reader::Judgement;
-use text::Text;
 use words::Order;
 
 // 7, or 0 and how many bytes were written.
@@ -34,16 +29,6 @@ fn judge(input: &[u8]) -> Judgement
     reader::read(input, request::request_for(pages))
 }
 
-// The line that every listing starts with.
-fn first_line(answer: Judgement) -> Text
-    ensures { λ r. ⌜ r ≡ written nothing (firstLine (heard answer .state)) ⌝ }
-{
-    match answer {
-        Judgement::Accepted(h) => rows::header_line(h),
-        Judgement::Refused(place) => rows::refused_line(place),
-    }
-}
-
 fn line_count(answer: Judgement) -> u32
     ensures { λ r. ⌜ r ≡ lineCount (heard answer .state) ⌝ }
 {
@@ -53,10 +38,14 @@ fn line_count(answer: Judgement) -> u32
     }
 }
 
-fn line_at(input: &[u8], k: u32) -> Text
-    ensures { λ r. ⌜ r ≡ written nothing (descriptorLine (descriptorAt Little (now (input .entry)) k)) ⌝ }
+// How long the line is that every listing starts with.
+fn first_width(answer: Judgement) -> usize
+    ensures { λ r. ⌜ r ≡ length (firstLine (heard answer .state)) ⌝ }
 {
-    rows::descriptor_line(offences::descriptor_at(input, k, Order::Little))
+    match answer {
+        Judgement::Accepted(h) => heading::header_width(h),
+        Judgement::Refused(place) => heading::refused_width(place),
+    }
 }
 
 // How long the lines of the first `count` descriptors are.
@@ -66,26 +55,45 @@ fn measure(input: &[u8], count: u32) -> usize
     let mut size: usize = 0;
     let mut k: u32 = 0;
     while k < count {
-        let line = line_at(input, k);
-        size += line.len;
+        let d = offences::descriptor_at(input, k, Order::Little);
+        size += rows::descriptor_width(d);
         k += 1;
     }
     size
 }
 
-// Stores the lines of the first `count` descriptors from a place on.
-fn put_lines(input: &[u8], count: u32, out: &mut [u8], from: usize)
-    requires { ⌜ from + length (linesBelow (now input) count) ≤ length (now out) ⌝ }
-    ensures { λ _. ⌜ now (out .exit) ≡ stored (now (out .entry)) from (linesBelow (now (input .entry)) count) ⌝ }
+// Whether the whole listing fits. Each fits 80,000 bytes, so that for these nothing is measured.
+fn has_room(input: &[u8], answer: Judgement, room: usize) -> bool
+    requires { ⌜ heard answer ≡ judged (now input) ⌝ }
+    ensures { λ r. ⌜ r ≡ leb (length (listingOf (now (input .entry)))) room ⌝ }
+{
+    if 80000 <= room {
+        return true;
+    }
+    first_width(answer) + measure(input, line_count(answer)) <= room
+}
+
+// Stores the first line at the front, and answers where it ends.
+fn put_first(out: &mut [u8], answer: Judgement) -> usize
+    ensures { λ r. ⌜ private.Puts (now (out .entry)) 0 (firstLine (heard answer .state)) (now (out .exit)) r ⌝ }
+{
+    match answer {
+        Judgement::Accepted(h) => heading::put_header(out, 0, h),
+        Judgement::Refused(place) => heading::put_refused(out, 0, place),
+    }
+}
+
+// Stores the lines of the first `count` descriptors from a place on, and answers where they end.
+fn put_lines(input: &[u8], count: u32, out: &mut [u8], from: usize) -> usize
+    ensures { λ r. ⌜ private.Puts (now (out .entry)) from (linesBelow (now (input .entry)) count) (now (out .exit)) r ⌝ }
 {
     let mut at = from;
     let mut k: u32 = 0;
     while k < count {
-        let line = line_at(input, k);
-        line.put(out, at);
-        at += line.len;
+        at = rows::put_descriptor(out, at, offences::descriptor_at(input, k, Order::Little));
         k += 1;
     }
+    at
 }
 
 // The whole listing, or nothing where it does not fit.
@@ -94,17 +102,14 @@ pub fn list(input: &[u8], out: &mut [u8]) -> Printed
     ensures { λ r. ⌜ Counts (r .count) (now (out .exit)) ⌝ }
 {
     let judgement = judge(input);
-    let first = first_line(judgement);
-    let count = line_count(judgement);
-    let size = first.len + measure(input, count);
-    if out.len() < size {
+    if !has_room(input, judgement, out.len()) {
         return Printed {
             answer: Answer::SmallBuffer,
             count: 0,
         };
     }
-    first.put(out, 0);
-    put_lines(input, count, out, first.len);
+    let first = put_first(out, judgement);
+    let size = put_lines(input, line_count(judgement), out, first);
     Printed {
         answer: Answer::Done,
         count: size,

@@ -1,19 +1,26 @@
 -- Laws of the lines: one for each way out of a function, and how long they are.
-use Prim.Native.Nat.{ℕ, _≤_}
+use Prim.Native.Nat.{ℕ, _+_, _≤_}
 use mathlib.Core.Bool.{Bool, true, false, cond}
-use mathlib.Core.Path.{_≡_, sym, _∙_}
+use mathlib.Core.List.{List, [], _∷_, _++_}
+use mathlib.Core.Path.{_≡_, sym, ap, _∙_}
 use native.Mathlib.Omega.{arith}
 use lib.Dec.{eqb}
-use lib.ListN.{length, length-append}
+use lib.ListN.{length, getD, length-append}
 use borrow.Author.Tests.{eq-eqb, ne-eqb}
 use Rattle.layout.specs.Bytes.{allOnes}
 use Rattle.layout.specs.declared.Descriptor.{Descriptor}
-use Rattle.layout.specs.declared.Header.{Header}
+use Rattle.slices.specs.Lists.{stored, ended}
 use Rattle.text.proofs.Digits.{length-decimal}
-use Rattle.text.specs.Digits.{decimalOf}
+use Rattle.text.specs.Digits.{digits, decimalOf}
 use Rattle.text.specs.Text.{ascii, written}
 use Rattle.text.specs.declared.Text.{Text}
-use Rattle.rows.specs.Rows.{capacityOf, valuesOf, descriptorLine, headerLine, refusedLine}
+use Rattle.writing.proofs.Puts.{puts-one, puts-same, puts-more}
+use Rattle.writing.proofs.Spelled.{shown-spelled}
+use Rattle.writing.specs.Private.{Puts}
+use Rattle.writing.specs.Writing.{spelled, shown}
+use Rattle.writing.specs.declared.Spelling.{Spelling}
+use Rattle.rows.specs.Private.{headOf}
+use Rattle.rows.specs.Rows.{capacityOf, valuesOf, descriptorLine}
 
 -- ## A capacity
 
@@ -23,6 +30,32 @@ module _ (t r : Text) (n : ℕ) where
 
   pub capacity-known : (n ≡ allOnes → ⊥) → r ≡ written t (decimalOf n) → r ≡ written t (capacityOf n)
   capacity-known e h = h ∙ sym (rw (ne-eqb n allOnes e))
+
+-- ## The first 15 bytes of a descriptor's line
+
+pub head-laid : (d : Descriptor) (i k h : List ℕ) → i ≡ digits 16 8 (d .id .0) → k ≡ digits 16 2 (d .kind) → h ≡ digits 16 2 (d .health)
+    → getD i 0 0 ∷ getD i 1 0 ∷ getD i 2 0 ∷ getD i 3 0 ∷ getD i 4 0 ∷ getD i 5 0 ∷ getD i 6 0 ∷ getD i 7 0 ∷ 32 ∷ getD k 0 0 ∷ getD k 1 0 ∷ 32 ∷ getD h 0 0 ∷ getD h 1 0 ∷ 32 ∷ []
+    ≡ headOf d
+head-laid d i k h is-i is-k is-h = rw (is-i, is-k, is-h)
+
+-- ## A descriptor's line
+
+module _ (c : ℕ) (s : Spelling) where
+  pub spelled-unreported : c ≡ allOnes → s ≡ spelled (ascii "-") → s ≡ spelled (capacityOf c)
+  spelled-unreported e so = so ∙ sym (rw (eq-eqb c allOnes e))
+
+  pub spelled-known : (c ≡ allOnes → ⊥) → s ≡ spelled (decimalOf c) → s ≡ spelled (capacityOf c)
+  spelled-known e so = so ∙ sym (rw (ne-eqb c allOnes e))
+
+module _ (e : Descriptor) (d x y z h : List ℕ) (s : Spelling) (at m n r : ℕ) where
+  pub line-puts : h ≡ headOf e → s ≡ spelled (capacityOf (e .capacity)) → x ≡ stored d at h → m ≡ ended d at h
+      → y ≡ stored x m (shown s) → n ≡ ended x m (shown s) → z ≡ stored y n (ascii "\n") → r ≡ ended y n (ascii "\n") → Puts d at (descriptorLine e) z r
+  line-puts is-h is-s is-x is-m is-y is-n is-z is-r =
+      let C : List ℕ = capacityOf (e .capacity) in
+      let one : Puts d at (headOf e) x m = puts-same d x at m h (headOf e) is-h is-x is-m in
+      let two : Puts x m C y n = puts-same x y m n (shown s) C (ap shown is-s ∙ shown-spelled C) is-y is-n in
+      let three : Puts y n (ascii "\n") z r = puts-one y z n r (ascii "\n") is-z is-r in
+      puts-more d y at n (headOf e ++ C) (ascii "\n") z r three (puts-more d x at m (headOf e) C y n two one)
 
 -- ## How long
 
@@ -36,13 +69,8 @@ length-capacity n = by-test (eqb n allOnes)
 pub length-values : (d : Descriptor) → length (valuesOf d) ≤ 26
 length-values d = simp length-append (omega (arith, length-capacity (d .capacity)))
 
+pub width-line : (d : Descriptor) (s : Spelling) → s ≡ spelled (capacityOf (d .capacity)) → 16 + s .count ≡ length (descriptorLine d)
+width-line d s is-s = simp length-append (omega (arith, ap (λ (t : Spelling). t .count) is-s))
+
 pub length-line : (d : Descriptor) → length (descriptorLine d) ≤ 36
 length-line d = simp length-append (omega (arith, length-capacity (d .capacity)))
-
-pub length-header : (h : Header) → length (headerLine h) ≤ 128
-length-header h =
-    simp length-append
-    (omega (arith, length-decimal (h .number), length-decimal (h .returned), length-decimal (h .limit), length-decimal (h .removed)))
-
-pub length-refused : (p : ℕ) → length (refusedLine p) ≤ 128
-length-refused p = simp length-append (omega (arith, length-decimal p))

@@ -1,3 +1,4 @@
 -- The lines of a listing.
 
+pub mod Private
 pub mod Rows

@@ -1,10 +1,15 @@
-// The lines of a listing: the header's, a descriptor's, and a refusal's.
+// The lines of a listing: a descriptor's, stored straight into a lent buffer; a header's numbers and an element's values, after a text.
 ghost use mathlib.Core.Path.{_≡_};
-ghost use Rattle.text.specs.Text.{nothing, written};
-ghost use Rattle.rows.specs.Rows.{capacityOf, valuesOf, descriptorLine, headerOf, headerLine, refusedLine};
+ghost use lib.ListN.{length};
+ghost use Rattle.slices.specs.Lists.{stored, ended};
+ghost use Rattle.text.specs.Text.{written};
+ghost use Rattle.writing.specs.Writing.{spelled};
+ghost use Rattle.rows.specs.Private as private;
+ghost use Rattle.rows.specs.Rows.{capacityOf, valuesOf, descriptorLine, headerOf};
 use layout::Descriptor;
 use layout::Header;
 use text::Text;
+use writing::Spelling;
 
 // A capacity after a text.
 fn write_capacity(t: Text, capacity: u64) -> Text
@@ -24,13 +29,6 @@ pub fn write_values(t: Text, d: Descriptor) -> Text
     write_capacity(begun, d.capacity)
 }
 
-pub fn descriptor_line(d: Descriptor) -> Text
-    ensures { λ r. ⌜ r ≡ written nothing (descriptorLine d) ⌝ }
-{
-    let t = Text::nothing().hex8(d.id.0).word(b" ");
-    write_values(t, d).word(b"\n")
-}
-
 // The header's numbers after a text.
 pub fn write_header(t: Text, h: Header) -> Text
     ensures { λ r. ⌜ r ≡ written t (headerOf h) ⌝ }
@@ -43,16 +41,64 @@ pub fn write_header(t: Text, h: Header) -> Text
         .field(b" removed ", h.removed as u64)
 }
 
-pub fn header_line(h: Header) -> Text
-    ensures { λ r. ⌜ r ≡ written nothing (headerLine h) ⌝ }
+fn capacity_of(blocks: u64) -> Spelling
+    ensures { λ r. ⌜ r ≡ spelled (capacityOf blocks) ⌝ }
 {
-    write_header(Text::nothing(), h).word(b"\n")
+    if blocks == 0xFFFF_FFFF_FFFF_FFFF {
+        let mut dash = [0u8; 20];
+        dash[19] = b'-';
+        return Spelling {
+            bytes: dash,
+            count: 1,
+        };
+    }
+    writing::decimal_of(blocks)
 }
 
-pub fn refused_line(place: usize) -> Text
-    ensures { λ r. ⌜ r ≡ written nothing (refusedLine place) ⌝ }
+// Identifier, type and health, each with the space after it.
+fn head(d: Descriptor) -> [u8; 15]
+    ensures { λ r. ⌜ r ≡ private.headOf d ⌝ }
 {
-    Text::nothing()
-        .field(b"refused 9 at ", place as u64)
-        .word(b"\n")
+    let i = writing::hex8(d.id.0);
+    let k = writing::hex2(d.kind);
+    let h = writing::hex2(d.health);
+    [
+        i[0],
+        i[1],
+        i[2],
+        i[3],
+        i[4],
+        i[5],
+        i[6],
+        i[7],
+        32,
+        k[0],
+        k[1],
+        32,
+        h[0],
+        h[1],
+        32,
+    ]
+}
+
+// How long a descriptor's line is.
+pub fn descriptor_width(d: Descriptor) -> usize
+    ensures { λ r. ⌜ r ≡ length (descriptorLine d) ⌝ }
+{
+    16 + capacity_of(d.capacity).count
+}
+
+// Stores a descriptor's line from a place on and answers where it ends; nothing, if it does not fit.
+pub fn put_descriptor(out: &mut [u8], at: usize, d: Descriptor) -> usize
+    ensures { λ _. ⌜ now (out .exit) ≡ stored (now (out .entry)) at (descriptorLine d) ⌝ }
+    ensures { λ r. ⌜ r ≡ ended (now (out .entry)) at (descriptorLine d) ⌝ }
+{
+    let capacity = capacity_of(d.capacity);
+    if !slices::does_fit(16 + capacity.count, at, out.len()) {
+        return at;
+    }
+    let begun = head(d);
+    let a = writing::word(out, at, &begun);
+    let b = capacity.put(out, a);
+    writing::word(out, b, b"\n")
 }

@@ -10,7 +10,7 @@ use lib.Dec.{leb}
 use lib.ListN.{length, getD, take, drop, set, length-append, length-take, length-drop, length-replicate, drop-of-length-le, take-append-drop, replicate, replicate-append-replicate}
 use lib.Seq.{take-suc, drop-cons, getD-take, drop-append-add, drop-drop, take-at, length-take-le, paste, take-all, set-split, set-append-seam, append-snoc}
 use borrow.Author.Tests.{le-leb, lt-leb, leb-true, leb-false}
-use Rattle.slices.specs.Lists.{keep, upTo, Every, flat, fits, stored, sum}
+use Rattle.slices.specs.Lists.{keep, upTo, Every, flat, fits, stored, ended, sum}
 
 -- ## A count above the length
 
@@ -168,6 +168,21 @@ module _ {A : Type 0} (d b : List A) (at : ℕ) where
 
     pub stored-no : t ≡ false → d ≡ stored d at b
     stored-no n = sym (rw (sym is-t ∙ n))
+
+    pub ended-yes : t ≡ true → at + length b ≡ ended d at b
+    ended-yes y = sym (rw (sym is-t ∙ y))
+
+    pub ended-no : t ≡ false → at ≡ ended d at b
+    ended-no n = sym (rw (sym is-t ∙ n))
+
+  pub length-stored : length (stored d at b) ≡ length d
+  length-stored = by-test (fits (length b) at (length d)) refl
+    where
+      by-test : (t : Bool) → fits (length b) at (length d) ≡ t → length (cond t (take at d ++ b ++ drop (at + length b) d) d) ≡ length d
+      by-test true e =
+          let room : at + length b ≤ length d = leb-true (at + length b) (length d) e in
+          simp (length-append, length-take, length-drop) (omega arith)
+      by-test false e = refl
 
 -- ## Laid over the front
 

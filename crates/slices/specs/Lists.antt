@@ -47,6 +47,10 @@ fits n at room = leb (at + n) room
 abbrev pub stored : {A : Type 0} → List A → ℕ → List A → List A
 stored d at b = cond (fits (length b) at (length d)) (take at d ++ b ++ drop (at + length b) d) d
 
+-- where it ends then; the place itself if it does not fit
+abbrev pub ended : {A : Type 0} → List A → ℕ → List A → ℕ
+ended d at b = cond (fits (length b) at (length d)) (at + length b) at
+
 -- what f measures of each element, added up
 abbrev pub sum : {A : Type 0} → (A → ℕ) → List A → ℕ
 sum f [] = 0

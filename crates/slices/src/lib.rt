@@ -38,7 +38,8 @@ pub fn tail(s: &[u8], at: usize) -> &[u8]
     if at < s.len() { &s[at..] } else { &s[0..0] }
 }
 
-fn does_fit(n: usize, at: usize, room: usize) -> bool
+// Whether n bytes fit from a place on.
+pub fn does_fit(n: usize, at: usize, room: usize) -> bool
     ensures { λ r. ⌜ r ≡ fits n at room ⌝ }
 {
     if room < n {

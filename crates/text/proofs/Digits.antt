@@ -55,7 +55,7 @@ counted-all n rest k (so, few, small) h = omega (arith, so, places-one (20 - k) 
 
 -- ## How long
 
-length-digits : (b k n : ℕ) → length (digits b k n) ≡ k
+pub length-digits : (b k n : ℕ) → length (digits b k n) ≡ k
 length-digits b zero n = refl
 length-digits b (suc k) n = rw (length-append, length-digits b k (n / b)) (add-one k)
 

@@ -23,10 +23,16 @@ measure-spec =
     μ-loop
     (λ c. (refl, omega arith))
     (λ c κs. search needs)
+    (λ c κs. search needs)
     (λ c. let s = c .before .before .before .before .before in
     let l = c .before .before .before .loop in
-    let line = c .before .line-at in
-    omega (arith, measure-room (s .args .input .now) (l .k) (line .result) (line .ensures) (l .size) (s .args .count) (l .inv .0) (omega arith) (omega (arith, s .fits .count))))
+    let d = c .before .descriptor-at in
+    let width = c .descriptor-width in
+    omega (
+      arith,
+      measure-room (s .args .input .now) (l .k) (d .result) (d .ensures) (l .size) (width .result) (l .inv .0) (width .ensures)
+          (s .args .count) (omega arith) (omega (arith, s .fits .count)),
+    ))
     (λ c. search needs)
     (λ c. search needs)
     (λ c. (search (measure-next), omega arith))

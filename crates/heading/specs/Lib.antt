@@ -1,0 +1,3 @@
+-- The line that a listing begins with.
+
+pub mod Private

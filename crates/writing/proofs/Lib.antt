@@ -1,0 +1,3 @@
+-- What is proved of writers.
+pub mod Puts
+pub mod Spelled

@@ -1,0 +1,55 @@
+-- One writer after another: if both texts fit, they stand side by side.
+use Prim.Native.Nat.{ℕ, _+_}
+use mathlib.Core.Bool.{Bool, true, false}
+use mathlib.Core.List.{List, [], _++_}
+use mathlib.Core.Path.{_≡_, sym, ap, _∙_}
+use native.Mathlib.Omega.{arith}
+use lib.ListN.{length, length-append}
+use borrow.Author.Tests.{le-leb}
+use Rattle.slices.proofs.Lists.{room-there, stored-no, ended-yes, ended-no, length-stored, stored-none, stored-more}
+use Rattle.slices.specs.Lists.{fits, stored, ended}
+use Rattle.writing.specs.Private.{Puts}
+
+pub puts-none : (d : List ℕ) (at : ℕ) → Puts d at [] d at
+unfolding Puts
+puts-none d at room = (sym (stored-none d at), omega arith)
+
+module _ (d x : List ℕ) (at r : ℕ) where
+  pub puts-one : (b : List ℕ) → x ≡ stored d at b → r ≡ ended d at b → Puts d at b x r
+  unfolding Puts
+  puts-one b is-x is-r room = (is-x, is-r ∙ rw (le-leb (at + length b) (length d) room))
+
+  -- by another name
+  pub puts-same : (a b : List ℕ) → a ≡ b → x ≡ stored d at a → r ≡ ended d at a → Puts d at b x r
+  puts-same a b e is-x is-r = puts-one b (is-x ∙ ap (stored d at) e) (is-r ∙ ap (ended d at) e)
+
+  pub puts-more : (a b y : List ℕ) (m : ℕ) → Puts x r b y m → Puts d at a x r → Puts d at (a ++ b) y m
+  unfolding Puts
+  puts-more a b y m two one room =
+      let wide : length (a ++ b) ≡ length a + length b = length-append a b in
+      let first : (x ≡ stored d at a) × (r ≡ at + length a) = one (omega arith) in
+      let same : length x ≡ length d = ap length (first .0) ∙ length-stored d a at in
+      let second : (y ≡ stored x r b) × (m ≡ r + length b) = two (omega arith) in
+      (second .0 ∙ rw (first .0, first .1) (stored-more d at a b room), omega arith)
+
+-- after the test of the room
+module _ (text d : List ℕ) (at n : ℕ) (t : Bool) (is-n : n ≡ length text) (is-t : t ≡ fits n at (length d)) where
+  same-test : t ≡ fits (length text) at (length d)
+  same-test = is-t ∙ rw is-n
+
+  pub none-stored : t ≡ false → d ≡ stored d at text
+  none-stored = stored-no d text at t same-test
+
+  pub none-ended : t ≡ false → at ≡ ended d at text
+  none-ended = ended-no d text at t same-test
+
+  module _ (yes : t ≡ true) (x : List ℕ) (r : ℕ) (puts : Puts d at text x r) where
+    whole : (x ≡ stored d at text) × (r ≡ at + length text)
+    unfolding Puts
+    whole = puts (room-there d text at t same-test yes)
+
+    pub whole-stored : x ≡ stored d at text
+    whole-stored = whole .0
+
+    pub whole-ended : r ≡ ended d at text
+    whole-ended = whole .1 ∙ ended-yes d text at t same-test yes

@@ -1,0 +1,90 @@
+-- A short text at the end of 20 bytes; digits from the last to the first, and what each division puts in front.
+use Prim.Native.Nat.{ℕ, zero, suc, _+_, _-_, _/_, _%_, _≤_, _<_, min}
+use mathlib.Core.List.{List, [], _∷_, _++_}
+use mathlib.Core.Path.{_≡_, refl, sym, ap, _∙_}
+use native.Mathlib.Nat.{mod-lt}
+use native.Mathlib.Numerals.{add-one}
+use native.Mathlib.Omega.{arith}
+use lib.Dec.{lit<}
+use lib.ListN.{length, take, drop, set, replicate, length-replicate, length-drop}
+use lib.Seq.{take-all, drop-at}
+use Rattle.slices.specs.Lists.{stored, ended}
+use Rattle.text.proofs.Digits.{glyph-low, length-digits, Counted, counted-next, counted-all}
+use Rattle.text.specs.Digits.{glyph, digits, placesOf, decimalOf}
+use Rattle.writing.specs.Writing.{spelled, shown}
+use Rattle.writing.specs.declared.Spelling.{Spelling}
+
+-- ## Hexadecimal
+
+pub eight-laid : (x a b c d e f g h : ℕ)
+    → a ≡ glyph (x / 16 / 16 / 16 / 16 / 16 / 16 / 16 % 16) → b ≡ glyph (x / 16 / 16 / 16 / 16 / 16 / 16 % 16) → c ≡ glyph (x / 16 / 16 / 16 / 16 / 16 % 16)
+    → d ≡ glyph (x / 16 / 16 / 16 / 16 % 16) → e ≡ glyph (x / 16 / 16 / 16 % 16) → f ≡ glyph (x / 16 / 16 % 16) → g ≡ glyph (x / 16 % 16) → h ≡ glyph (x % 16)
+    → a ∷ b ∷ c ∷ d ∷ e ∷ f ∷ g ∷ h ∷ [] ≡ digits 16 8 x
+eight-laid x a b c d e f g h is-a is-b is-c is-d is-e is-f is-g is-h = rw (is-a, is-b, is-c, is-d, is-e, is-f, is-g, is-h)
+
+-- ## Decimal
+
+-- what is left of n after k divisions
+abbrev pub left : ℕ → ℕ → ℕ
+left zero n = n
+left (suc k) n = left k (n / 10)
+
+left-next : (k n : ℕ) → left k n / 10 ≡ left (suc k) n
+left-next zero n = refl
+left-next (suc k) n = left-next k (n / 10)
+
+digits-front : (k n : ℕ) → digits 10 (suc k) n ≡ glyph (left k n % 10) ∷ digits 10 k n
+digits-front zero n = refl
+digits-front (suc k) n = ap (λ (l : List ℕ). l ++ (glyph (n % 10) ∷ [])) (digits-front k (n / 10))
+
+set-front : (j a : ℕ) (l : List ℕ) → set (replicate (suc j) 0 ++ l) j a ≡ replicate j 0 ++ (a ∷ l)
+set-front zero a l = refl
+set-front (suc j) a l = ap (λ (t : List ℕ). 0 ∷ t) (set-front j a l)
+
+-- m digits stand at the end of t, and `rest` has the others
+abbrev pub Spelled : ℕ → List ℕ → ℕ → ℕ → Type 0
+Spelled n t rest m = (t ≡ replicate (20 - m) 0 ++ digits 10 m n) × (rest ≡ left m n) × Counted n rest (m + 1)
+
+module _ (n : ℕ) (t : List ℕ) (rest m : ℕ) (so : Spelled n t rest m) where
+  pub spelled-room : m ≤ 19
+  spelled-room = let few : m + 1 ≤ 20 = so .2 .1 in omega arith
+
+  -- one digit more
+  more : set t (19 - m) (48 + rest % 10) ≡ replicate (20 - (m + 1)) 0 ++ digits 10 (m + 1) n
+  more =
+      let before : 20 - m ≡ suc (19 - m) = omega (arith, spelled-room) in
+      let after : 20 - (m + 1) ≡ 19 - m = omega arith in
+      let is-t : t ≡ replicate (suc (19 - m)) 0 ++ digits 10 m n = so .0 ∙ rw before in
+      let is-glyph : 48 + rest % 10 ≡ glyph (left m n % 10) = glyph-low (rest % 10) (mod-lt rest (lit< tt)) ∙ rw (so .1) in
+      rw (is-t, is-glyph, after, add-one m) (set-front (19 - m) (glyph (left m n % 10)) (digits 10 m n) ∙ rw (digits-front m n))
+
+  pub spelled-next : 10 ≤ rest → Spelled n (set t (19 - m) (48 + rest % 10)) (rest / 10) (m + 1)
+  spelled-next h = (more, ap (λ (x : ℕ). x / 10) (so .1) ∙ rw (add-one m) (left-next m n), counted-next n rest (m + 1) (so .2) h)
+
+  pub spelled-all : rest < 10 → record { bytes = set t (19 - m) (48 + rest); count = m + 1 } ≡ spelled (decimalOf n)
+  spelled-all h =
+      let one : rest ≡ rest % 10 = omega arith in
+      let all : m + 1 ≡ placesOf n = counted-all n rest (m + 1) (so .2) h in
+      let wide : length (decimalOf n) ≡ m + 1 = length-digits 10 (placesOf n) n ∙ sym all in
+      rw (wide, ← all) (λ i. record { bytes = (ap (λ (x : ℕ). set t (19 - m) (48 + x)) one ∙ more) i; count = m + 1 })
+
+-- ## What is shown
+
+pub shown-spelled : (l : List ℕ) → shown (spelled l) ≡ l
+shown-spelled l = drop-at (replicate (20 - length l) 0) l (20 - length l) (length-replicate (20 - length l) 0)
+
+module _ (s : Spelling) (l d : List ℕ) (at : ℕ) (is-s : s ≡ spelled l) where
+  all : shown s ≡ l
+  all = ap shown is-s ∙ shown-spelled l
+
+  pub shown-stored : (x : List ℕ) → x ≡ stored d at (shown s) → x ≡ stored d at l
+  shown-stored x e = e ∙ ap (stored d at) all
+
+  pub shown-ended : (r : ℕ) → r ≡ ended d at (shown s) → r ≡ ended d at l
+  shown-ended r e = e ∙ ap (ended d at) all
+
+-- what `put` hands on
+pub part-shown : (s : Spelling) (n : ℕ) → length (s .bytes) ≡ 20 → n ≡ min (s .count) 20 → take (20 - (20 - n)) (drop (20 - n) (s .bytes)) ≡ shown s
+part-shown s n long is-n =
+    let from : 20 - n ≡ 20 - s .count = omega arith in
+    rw from (take-all (20 - (20 - s .count)) (drop (20 - s .count) (s .bytes)) (simp length-drop (omega arith)))

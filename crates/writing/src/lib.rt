@@ -1,0 +1,99 @@
+// Words and numbers as text, stored straight into a lent buffer. A writer stores the whole text from a place on and answers where it ends; if it
+// does not fit there, nothing, and the answer is the place itself.
+ghost use mathlib.Core.Path.{_≡_};
+ghost use Prim.Native.Nat.{_<_};
+ghost use lib.ListN.{length};
+ghost use Rattle.slices.specs.Lists.{stored, ended};
+ghost use Rattle.text.specs.Digits.{glyph, digits, decimalOf};
+ghost use Rattle.writing.specs.Writing.{spelled, shown};
+
+fn digit(d: u8) -> u8
+    requires { ⌜ d < 16 ⌝ }
+    ensures { λ r. ⌜ r ≡ glyph d ⌝ }
+{
+    if d < 10 { 48 + d } else { 55 + d }
+}
+
+// Two upper hexadecimal digits.
+pub fn hex2(x: u8) -> [u8; 2]
+    ensures { λ r. ⌜ r ≡ digits 16 2 x ⌝ }
+{
+    [digit(x / 16 % 16), digit(x % 16)]
+}
+
+// Eight upper hexadecimal digits.
+pub fn hex8(x: u32) -> [u8; 8]
+    ensures { λ r. ⌜ r ≡ digits 16 8 x ⌝ }
+{
+    [
+        digit((x / 16 / 16 / 16 / 16 / 16 / 16 / 16 % 16) as u8),
+        digit((x / 16 / 16 / 16 / 16 / 16 / 16 % 16) as u8),
+        digit((x / 16 / 16 / 16 / 16 / 16 % 16) as u8),
+        digit((x / 16 / 16 / 16 / 16 % 16) as u8),
+        digit((x / 16 / 16 / 16 % 16) as u8),
+        digit((x / 16 / 16 % 16) as u8),
+        digit((x / 16 % 16) as u8),
+        digit((x % 16) as u8),
+    ]
+}
+
+pub fn word(out: &mut [u8], at: usize, s: &[u8]) -> usize
+    ensures { λ _. ⌜ now (out .exit) ≡ stored (now (out .entry)) at (now (s .entry)) ⌝ }
+    ensures { λ r. ⌜ r ≡ ended (now (out .entry)) at (now (s .entry)) ⌝ }
+{
+    if !slices::does_fit(s.len(), at, out.len()) {
+        return at;
+    }
+    slices::put(out, at, s);
+    at + s.len()
+}
+
+// A short text: the last `count` bytes.
+pub struct Spelling {
+    pub bytes: [u8; 20],
+    pub count: usize,
+}
+
+// A number in decimal, with no zero in front: the last digit, then one more before it as long as there is one.
+pub fn decimal_of(n: u64) -> Spelling
+    ensures { λ r. ⌜ r ≡ spelled (decimalOf n) ⌝ }
+{
+    let mut t = [0u8; 20];
+    let mut rest = n;
+    let mut m: usize = 0;
+    while 10 <= rest {
+        t[19 - m] = 48 + (rest % 10) as u8;
+        rest /= 10;
+        m += 1;
+    }
+    t[19 - m] = 48 + rest as u8;
+    Spelling {
+        bytes: t,
+        count: m + 1,
+    }
+}
+
+// How many digits it has in decimal.
+pub fn width(n: u64) -> usize
+    ensures { λ r. ⌜ r ≡ length (decimalOf n) ⌝ }
+{
+    decimal_of(n).count
+}
+
+impl Spelling {
+    pub fn put(self, out: &mut [u8], at: usize) -> usize
+        ensures { λ _. ⌜ now (out .exit) ≡ stored (now (out .entry)) at (shown self) ⌝ }
+        ensures { λ r. ⌜ r ≡ ended (now (out .entry)) at (shown self) ⌝ }
+    {
+        let bytes = self.bytes;
+        let from = 20 - slices::smaller(self.count, 20);
+        word(out, at, &bytes[from..])
+    }
+}
+
+pub fn decimal(out: &mut [u8], at: usize, n: u64) -> usize
+    ensures { λ _. ⌜ now (out .exit) ≡ stored (now (out .entry)) at (decimalOf n) ⌝ }
+    ensures { λ r. ⌜ r ≡ ended (now (out .entry)) at (decimalOf n) ⌝ }
+{
+    decimal_of(n).put(out, at)
+}
