@@ -1,7 +1,11 @@
--- Laws of a comparison's lines: one for each way out of a function.
-use Prim.Native.Nat.{ℕ}
-use mathlib.Core.List.{List}
-use mathlib.Core.Path.{_≡_, refl, sym, _∙_}
+-- Laws of a comparison's lines: one for each way out of a function, and how long they are.
+use Prim.Native.Nat.{ℕ, _+_, _^_, _<_}
+use mathlib.Core.Bool.{Bool, true}
+use mathlib.Core.List.{List, [], _∷_, _++_}
+use mathlib.Core.Path.{_≡_, refl, sym, subst, _∙_}
+use native.Mathlib.Omega.{arith}
+use lib.ListN.{length, getD, length-append}
+use borrow.Author.Tests.{le-leb, leb-true}
 use Rattle.compare.specs.declared.Cursor.{Cursor}
 use Rattle.compare.specs.declared.Line.the-variants.{OnlyOlder, OnlyNewer, Changed}
 use Rattle.compare.specs.declared.Line.{Line}
@@ -16,13 +20,20 @@ use Rattle.reach.specs.declared.Opening.the-variants.{Accepted, Refused}
 use Rattle.reach.specs.declared.Opening.{Opening}
 use Rattle.reach.specs.declared.Turn.the-variants.{Older, Newer}
 use Rattle.reach.specs.declared.Turn.{Turn}
-use Rattle.text.proofs.Written.{written-append}
-use Rattle.text.specs.Text.{ascii, nothing, written}
-use Rattle.text.specs.declared.Text.{Text}
+use Rattle.rows.proofs.Rows as rows
+use Rattle.rows.proofs.Rows.{length-values}
+use Rattle.rows.specs.Rows.{valuesOf, descriptorLine}
+use Rattle.slices.specs.Lists.{fits, stored, ended}
+use Rattle.text.specs.Digits.{digits}
+use Rattle.text.specs.Text.{ascii}
 use Rattle.words.specs.declared.Order.the-variants.{Little}
+use Rattle.writing.proofs.Puts.{puts-none, puts-one, puts-same, puts-more}
+use Rattle.writing.specs.Private.{Puts}
 use Rattle.changes.specs.Changes.{handed, olderOf, signed, changed, bodyOf, lineOf, boundLine, reachLine, refusedLine, lastLine}
+use Rattle.changes.specs.Private.{headOf}
+use Rattle.changes.proofs.Lengths.{length-line}
 
--- ## A difference's line
+-- ## What a difference's line speaks of
 
 pub handed-read : (s t : List ℕ) (l : Line) (u : List ℕ) → u ≡ partOf s t l → (d : Descriptor) → d ≡ descriptorIn Little u → d ≡ handed s t l
 unfolding handed
@@ -32,41 +43,140 @@ older-is : (s t : List ℕ) (c : Cursor) → handed s t (OnlyOlder (c .older)) �
 unfolding handed olderOf
 older-is s t c = refl
 
-module _ (s t : List ℕ) (l : Line) (d : Descriptor) (is-d : d ≡ handed s t l) (r : Text) where
-  pub said-older : (k : ℕ) → l ≡ OnlyOlder k → r ≡ written nothing (signed (ascii "- ") d) → r ≡ written nothing (bodyOf s t l)
-  said-older k e so = so ∙ rw (is-d, e)
+-- ## How long it is
 
-  pub said-newer : (k : ℕ) → l ≡ OnlyNewer k → r ≡ written nothing (signed (ascii "+ ") d) → r ≡ written nothing (bodyOf s t l)
-  said-newer k e so = so ∙ rw (is-d, e)
+length-signed : (sign : ℕ) (d : Descriptor) → length (signed (sign ∷ 32 ∷ []) d) ≡ 11 + length (valuesOf d)
+length-signed sign d = length-append (headOf sign (d .id .0)) (valuesOf d)
+
+length-listed : (d : Descriptor) → length (descriptorLine d) ≡ 10 + length (valuesOf d)
+length-listed d =
+    let id : List ℕ = digits 16 8 (d .id .0) ++ ascii " " in
+    omega (arith, length-append (id ++ valuesOf d) (ascii "\n"), length-append id (valuesOf d))
+
+length-only : (sign : ℕ) (d : Descriptor) → 2 + length (descriptorLine d) ≡ length (signed (sign ∷ 32 ∷ []) d ++ ascii "\n")
+length-only sign d = omega (arith, length-listed d, length-signed sign d, length-append (signed (sign ∷ 32 ∷ []) d) (ascii "\n"))
+
+length-changed : (d old : Descriptor) → 2 + length (descriptorLine d) + 4 + length (valuesOf old) ≡ length (changed d old ++ ascii "\n")
+length-changed d old =
+    let new : List ℕ = signed (ascii "~ ") d in
+    omega (
+      arith,
+      length-listed d,
+      length-signed 0x7E d,
+      length-append new (ascii " <- "),
+      length-append (new ++ ascii " <- ") (valuesOf old),
+      length-append (changed d old) (ascii "\n"),
+    )
+
+module _ (s t : List ℕ) (l : Line) (d : Descriptor) (is-d : d ≡ handed s t l) (w : ℕ) (is-w : w ≡ length (descriptorLine d)) where
+  pub width-older : (k : ℕ) → l ≡ OnlyOlder k → 2 + w ≡ length (lineOf s t l)
+  unfolding lineOf
+  width-older k e = rw is-w (length-only 0x2D d ∙ rw (is-d, e))
+
+  pub width-newer : (k : ℕ) → l ≡ OnlyNewer k → 2 + w ≡ length (lineOf s t l)
+  unfolding lineOf
+  width-newer k e = rw is-w (length-only 0x2B d ∙ rw (is-d, e))
+
+  pub width-changed : (c : Cursor) → l ≡ Changed c → (old : Descriptor) → old ≡ handed s t (OnlyOlder (c .older)) → (v : ℕ) → v ≡ length (valuesOf old)
+      → 2 + w + 4 + v ≡ length (lineOf s t l)
+  unfolding lineOf
+  width-changed c e old is-old v is-v = rw (is-w, is-v) (length-changed d old ∙ rw (is-d, is-old ∙ older-is s t c, e))
+
+module _ (d : Descriptor) (w : ℕ) (is-w : w ≡ length (descriptorLine d)) where
+  pub width-fits : 2 + w < 2 ^ 64
+  width-fits = omega (arith, rows.length-line d)
+
+  pub arrow-fits : 2 + w + 4 < 2 ^ 64
+  arrow-fits = omega (arith, rows.length-line d)
+
+  pub both-fit : (old : Descriptor) (v : ℕ) → v ≡ length (valuesOf old) → 2 + w + 4 + v < 2 ^ 64
+  both-fit old v is-v = omega (arith, rows.length-line d, length-values old)
+
+module _ (s t : List ℕ) (l : Line) (at room : ℕ) (b : Bool) where
+  pub room-unmeasured : b ≡ fits 68 at room → b ≡ true → true ≡ fits (length (lineOf s t l)) at room
+  room-unmeasured is-b there =
+      sym (le-leb (at + length (lineOf s t l)) room (omega (arith, length-line s t l, leb-true (at + 68) room (sym is-b ∙ there))))
+
+  pub room-measured : (n : ℕ) → n ≡ length (lineOf s t l) → b ≡ fits n at room → b ≡ fits (length (lineOf s t l)) at room
+  room-measured n is-n is-b = is-b ∙ rw is-n
+
+-- ## What it says
+
+pub head-laid : (sign : ℕ) (id : ElementId) (i : List ℕ) → i ≡ digits 16 8 (id .0)
+    → sign ∷ 32 ∷ getD i 0 0 ∷ getD i 1 0 ∷ getD i 2 0 ∷ getD i 3 0 ∷ getD i 4 0 ∷ getD i 5 0 ∷ getD i 6 0 ∷ getD i 7 0 ∷ 32 ∷ [] ≡ headOf sign (id .0)
+head-laid sign id i is-i = rw is-i
+
+pub signed-puts : (sign : ℕ) (e : Descriptor) (d x y h : List ℕ) (at m r : ℕ) → h ≡ headOf sign (e .id .0) → x ≡ stored d at h → m ≡ ended d at h
+    → y ≡ stored x m (valuesOf e) → r ≡ ended x m (valuesOf e) → Puts d at (signed (sign ∷ 32 ∷ []) e) y r
+signed-puts sign e d x y h at m r is-h is-x is-m is-y is-r =
+    let H : List ℕ = headOf sign (e .id .0) in
+    puts-more d x at m H (valuesOf e) y r (puts-one x y m r (valuesOf e) is-y is-r) (puts-same d x at m h H is-h is-x is-m)
+
+pub changed-puts : (e old : Descriptor) (d x y z : List ℕ) (at m n r : ℕ) → Puts d at (signed (ascii "~ ") e) x m
+    → y ≡ stored x m (ascii " <- ") → n ≡ ended x m (ascii " <- ") → z ≡ stored y n (valuesOf old) → r ≡ ended y n (valuesOf old) → Puts d at (changed e old) z r
+changed-puts e old d x y z at m n r one is-y is-n is-z is-r =
+    let E : List ℕ = signed (ascii "~ ") e in
+    let two : Puts x m (ascii " <- ") y n = puts-one x y m n (ascii " <- ") is-y is-n in
+    puts-more d y at n (E ++ ascii " <- ") (valuesOf old) z r (puts-one y z n r (valuesOf old) is-z is-r) (puts-more d x at m E (ascii " <- ") y n two one)
+
+module _ (s t : List ℕ) (l : Line) (d : Descriptor) (is-d : d ≡ handed s t l) (b x : List ℕ) (at r : ℕ) where
+  named : (text : List ℕ) → text ≡ bodyOf s t l → Puts b at text x r → Puts b at (bodyOf s t l) x r
+  named text e so = subst (λ (u : List ℕ). Puts b at u x r) e so
+
+  pub said-older : (k : ℕ) → l ≡ OnlyOlder k → Puts b at (signed (ascii "- ") d) x r → Puts b at (bodyOf s t l) x r
+  said-older k e = named (signed (ascii "- ") d) (rw (is-d, e))
+
+  pub said-newer : (k : ℕ) → l ≡ OnlyNewer k → Puts b at (signed (ascii "+ ") d) x r → Puts b at (bodyOf s t l) x r
+  said-newer k e = named (signed (ascii "+ ") d) (rw (is-d, e))
 
   pub said-changed : (c : Cursor) → l ≡ Changed c → (old : Descriptor) → old ≡ handed s t (OnlyOlder (c .older))
-      → r ≡ written nothing (changed d old) → r ≡ written nothing (bodyOf s t l)
-  said-changed c e old is-old so = so ∙ rw (is-d, is-old ∙ older-is s t c, e)
+      → Puts b at (changed d old) x r → Puts b at (bodyOf s t l) x r
+  said-changed c e old is-old = named (changed d old) (rw (is-d, is-old ∙ older-is s t c, e))
 
-pub line-ended : (s t : List ℕ) (l : Line) (u : Text) → u ≡ written nothing (bodyOf s t l) → (r : Text) → r ≡ written u (ascii "\n") → r ≡ written nothing (lineOf s t l)
+pub line-puts : (s t : List ℕ) (l : Line) (d x y : List ℕ) (at m r : ℕ) → Puts d at (bodyOf s t l) x m
+    → y ≡ stored x m (ascii "\n") → r ≡ ended x m (ascii "\n") → Puts d at (lineOf s t l) y r
 unfolding lineOf
-line-ended s t l u is-u r is-r = is-r ∙ rw is-u (sym (written-append nothing (bodyOf s t l) (ascii "\n")))
+line-puts s t l d x y at m r one is-y is-r = puts-more d x at m (bodyOf s t l) (ascii "\n") y r (puts-one x y m r (ascii "\n") is-y is-r) one
 
 -- ## The last line
 
-module _ (w : Turn) (t n : Text) (is-n : n ≡ nothing) where
-  pub refused-older : w ≡ Older → t ≡ written n (ascii "refused 9 older\n") → t ≡ written nothing (refusedLine w)
-  refused-older e so = so ∙ rw (e, is-n)
+width-turn : (w : Turn) → 16 ≡ length (refusedLine w)
+width-turn Older = refl
+width-turn Newer = refl
 
-  pub refused-newer : w ≡ Newer → t ≡ written n (ascii "refused 9 newer\n") → t ≡ written nothing (refusedLine w)
-  refused-newer e so = so ∙ rw (e, is-n)
+module _ (opening : Opening) where
+  pub width-accepted : (b : Bound) → opening ≡ Accepted b → (n : ℕ) → n ≡ length (reachLine b) → n ≡ length (lastLine (heard opening .state))
+  width-accepted b e n so = so ∙ rw e
 
-module _ (b : Bound) (t : Text) where
-  pub reach-whole : b ≡ Whole → t ≡ nothing → t ≡ written nothing (reachLine b)
-  unfolding written
-  reach-whole e so = so ∙ rw e
+  pub width-refused : (w : Turn) → opening ≡ Refused w → 16 ≡ length (lastLine (heard opening .state))
+  width-refused w e = rw e (width-turn w)
 
-  pub reach-cut : (id : ElementId) → b ≡ UpTo id → t ≡ written nothing (boundLine (id .0)) → t ≡ written nothing (reachLine b)
-  reach-cut id e so = so ∙ rw e
+pub bound-puts : (id : ElementId) (d x y z i : List ℕ) (at m n r : ℕ) → i ≡ digits 16 8 (id .0)
+    → x ≡ stored d at (ascii "compared up to ") → m ≡ ended d at (ascii "compared up to ") → y ≡ stored x m i → n ≡ ended x m i
+    → z ≡ stored y n (ascii "\n") → r ≡ ended y n (ascii "\n") → Puts d at (boundLine (id .0)) z r
+bound-puts id d x y z i at m n r is-i is-x is-m is-y is-n is-z is-r =
+    let B : List ℕ = ascii "compared up to " in
+    let I : List ℕ = digits 16 8 (id .0) in
+    let two : Puts d at (B ++ I) y n = puts-more d x at m B I y n (puts-same x y m n i I is-i is-y is-n) (puts-one d x at m B is-x is-m) in
+    puts-more d y at n (B ++ I) (ascii "\n") z r (puts-one y z n r (ascii "\n") is-z is-r) two
 
-module _ (opening : Opening) (t : Text) where
-  pub last-accepted : (b : Bound) → opening ≡ Accepted b → t ≡ written nothing (reachLine b) → t ≡ written nothing (lastLine (heard opening .state))
-  last-accepted b e so = so ∙ rw e
+module _ (d x : List ℕ) (at r : ℕ) where
+  module _ (w : Turn) where
+    pub refused-older : w ≡ Older → x ≡ stored d at (ascii "refused 9 older\n") → r ≡ ended d at (ascii "refused 9 older\n") → Puts d at (refusedLine w) x r
+    refused-older e is-x is-r = rw e (puts-one d x at r (ascii "refused 9 older\n") is-x is-r)
 
-  pub last-refused : (w : Turn) → opening ≡ Refused w → t ≡ written nothing (refusedLine w) → t ≡ written nothing (lastLine (heard opening .state))
-  last-refused w e so = so ∙ rw e
+    pub refused-newer : w ≡ Newer → x ≡ stored d at (ascii "refused 9 newer\n") → r ≡ ended d at (ascii "refused 9 newer\n") → Puts d at (refusedLine w) x r
+    refused-newer e is-x is-r = rw e (puts-one d x at r (ascii "refused 9 newer\n") is-x is-r)
+
+  pub reach-cut : (b : Bound) (id : ElementId) → b ≡ UpTo id → Puts d at (boundLine (id .0)) x r → Puts d at (reachLine b) x r
+  reach-cut b id e so = rw e so
+
+  module _ (opening : Opening) where
+    pub last-accepted : (b : Bound) → opening ≡ Accepted b → Puts d at (reachLine b) x r → Puts d at (lastLine (heard opening .state)) x r
+    last-accepted b e so = rw e so
+
+    pub last-refused : (w : Turn) → opening ≡ Refused w → Puts d at (refusedLine w) x r → Puts d at (lastLine (heard opening .state)) x r
+    last-refused w e so = rw e so
+
+pub reach-whole : (b : Bound) → b ≡ Whole → (d : List ℕ) (at : ℕ) → Puts d at (reachLine b) d at
+reach-whole b e d at = rw e (puts-none d at)

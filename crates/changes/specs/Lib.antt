@@ -1,3 +1,4 @@
 -- The lines of a comparison.
 
 pub mod Changes
+pub mod Private

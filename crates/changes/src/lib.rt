@@ -1,15 +1,19 @@
-// The lines of a comparison: one for each difference, and the last, which says how far two pages were compared or which was refused.
+// The lines of a comparison, stored straight into a lent buffer: one for each difference, and the last, which says how far two pages were compared
+// or which was refused.
+ghost use mathlib.Core.List.{[], _∷_};
 ghost use mathlib.Core.Path.{_≡_};
+ghost use lib.ListN.{length};
 ghost use Rattle.reach.specs.Opening.{heard};
-ghost use Rattle.text.specs.Text.{nothing, written};
+ghost use Rattle.slices.specs.Lists.{fits, stored, ended};
+ghost use Rattle.writing.specs.Private as writing·private;
 ghost use Rattle.changes.specs.Changes as paper;
+ghost use Rattle.changes.specs.Private as private;
 use compare::Line;
 use layout::Descriptor;
 use paper::ElementId;
 use reach::Bound;
 use reach::Opening;
 use reach::Turn;
-use text::Text;
 use words::Order;
 
 // ---- A difference's line
@@ -21,74 +25,155 @@ fn handed<'a>(older: &'a [u8], newer: &'a [u8], line: Line) -> Descriptor
     Descriptor::read(parts::part(older, newer, line), Order::Little)
 }
 
-// A sign, then the element as the listing has it.
-fn signed(sign: &[u8], d: Descriptor) -> Text
-    ensures { λ r. ⌜ r ≡ written nothing (paper.signed (now (sign .entry)) d) ⌝ }
+// How long a line is.
+pub fn line_width<'a>(older: &'a [u8], newer: &'a [u8], line: Line) -> usize
+    ensures { λ r. ⌜ r ≡ length (paper.lineOf (now (older .entry)) (now (newer .entry)) line) ⌝ }
 {
-    let t = Text::nothing().word(sign).hex8(d.id.0).word(b" ");
-    rows::write_values(t, d)
-}
-
-// The newer values, then the older after an arrow.
-fn changed(d: Descriptor, old: Descriptor) -> Text
-    ensures { λ r. ⌜ r ≡ written nothing (paper.changed d old) ⌝ }
-{
-    let t = signed(b"~ ", d).word(b" <- ");
-    rows::write_values(t, old)
-}
-
-// What a line says, without its end.
-fn body_of<'a>(older: &'a [u8], newer: &'a [u8], line: Line) -> Text
-    ensures { λ r. ⌜ r ≡ written nothing (paper.bodyOf (now (older .entry)) (now (newer .entry)) line) ⌝ }
-{
-    let d = handed(older, newer, line);
+    let width = 2 + rows::descriptor_width(handed(older, newer, line));
     match line {
-        Line::OnlyOlder(_) => signed(b"- ", d),
-        Line::OnlyNewer(_) => signed(b"+ ", d),
-        Line::Changed(at) => changed(d, handed(older, newer, Line::OnlyOlder(at.older))),
+        Line::OnlyOlder(_) => width,
+        Line::OnlyNewer(_) => width,
+        Line::Changed(at) => width
+            + 4
+            + rows::values_width(handed(older, newer, Line::OnlyOlder(at.older))),
     }
 }
 
-pub fn line_of<'a>(older: &'a [u8], newer: &'a [u8], line: Line) -> Text
-    ensures { λ r. ⌜ r ≡ written nothing (paper.lineOf (now (older .entry)) (now (newer .entry)) line) ⌝ }
+// Whether a line fits from a place on. Each fits 68 bytes, so that where these are there nothing is measured.
+fn has_room<'a>(older: &'a [u8], newer: &'a [u8], line: Line, at: usize, room: usize) -> bool
+    ensures { λ r. ⌜ r ≡ fits (length (paper.lineOf (now (older .entry)) (now (newer .entry)) line)) at room ⌝ }
 {
-    body_of(older, newer, line).word(b"\n")
+    if slices::does_fit(68, at, room) {
+        return true;
+    }
+    slices::does_fit(line_width(older, newer, line), at, room)
+}
+
+// A sign and the identifier, each with the space after it.
+fn head(sign: u8, id: ElementId) -> [u8; 11]
+    ensures { λ r. ⌜ r ≡ private.headOf sign (id .0) ⌝ }
+{
+    let i = writing::hex8(id.0);
+    [sign, 32, i[0], i[1], i[2], i[3], i[4], i[5], i[6], i[7], 32]
+}
+
+// A sign, then the element as the listing has it.
+fn put_signed(out: &mut [u8], at: usize, sign: u8, d: Descriptor) -> usize
+    ensures { λ r. ⌜ writing·private.Puts (now (out .entry)) at (paper.signed (sign ∷ 32 ∷ []) d) (now (out .exit)) r ⌝ }
+{
+    let begun = head(sign, d.id);
+    let a = writing::word(out, at, &begun);
+    rows::put_values(out, a, d)
+}
+
+// The newer values, then the older after an arrow.
+fn put_changed(out: &mut [u8], at: usize, d: Descriptor, old: Descriptor) -> usize
+    ensures { λ r. ⌜ writing·private.Puts (now (out .entry)) at (paper.changed d old) (now (out .exit)) r ⌝ }
+{
+    let a = put_signed(out, at, b'~', d);
+    let b = writing::word(out, a, b" <- ");
+    rows::put_values(out, b, old)
+}
+
+// What a line says, without its end.
+fn put_body<'a>(older: &'a [u8], newer: &'a [u8], line: Line, out: &mut [u8], at: usize) -> usize
+    ensures { λ r. ⌜ writing·private.Puts (now (out .entry)) at (paper.bodyOf (now (older .entry)) (now (newer .entry)) line) (now (out .exit)) r ⌝ }
+{
+    let d = handed(older, newer, line);
+    match line {
+        Line::OnlyOlder(_) => put_signed(out, at, b'-', d),
+        Line::OnlyNewer(_) => put_signed(out, at, b'+', d),
+        Line::Changed(places) => put_changed(
+            out,
+            at,
+            d,
+            handed(older, newer, Line::OnlyOlder(places.older)),
+        ),
+    }
+}
+
+// Stores a line from a place on and answers where it ends; nothing, if it does not fit.
+pub fn put_line<'a>(
+    older: &'a [u8],
+    newer: &'a [u8],
+    line: Line,
+    out: &mut [u8],
+    at: usize,
+) -> usize
+    ensures { λ _. ⌜ now (out .exit) ≡ stored (now (out .entry)) at (paper.lineOf (now (older .entry)) (now (newer .entry)) line) ⌝ }
+    ensures { λ r. ⌜ r ≡ ended (now (out .entry)) at (paper.lineOf (now (older .entry)) (now (newer .entry)) line) ⌝ }
+{
+    if !has_room(older, newer, line, at, out.len()) {
+        return at;
+    }
+    let a = put_body(older, newer, line, out, at);
+    writing::word(out, a, b"\n")
 }
 
 // ---- The last line
 
-fn bound_line(id: ElementId) -> Text
-    ensures { λ r. ⌜ r ≡ written nothing (paper.boundLine (id .0)) ⌝ }
-{
-    Text::nothing()
-        .word(b"compared up to ")
-        .hex8(id.0)
-        .word(b"\n")
-}
-
-fn refused_line(turn: Turn) -> Text
-    ensures { λ r. ⌜ r ≡ written nothing (paper.refusedLine turn) ⌝ }
-{
-    match turn {
-        Turn::Older => Text::nothing().word(b"refused 9 older\n"),
-        Turn::Newer => Text::nothing().word(b"refused 9 newer\n"),
-    }
-}
-
-fn reach_line(bound: Bound) -> Text
-    ensures { λ r. ⌜ r ≡ written nothing (paper.reachLine bound) ⌝ }
+fn reach_width(bound: Bound) -> usize
+    ensures { λ r. ⌜ r ≡ length (paper.reachLine bound) ⌝ }
 {
     match bound {
-        Bound::Whole => Text::nothing(),
-        Bound::UpTo(id) => bound_line(id),
+        Bound::Whole => 0,
+        Bound::UpTo(_) => 24,
     }
 }
 
-pub fn last_line(opening: Opening) -> Text
-    ensures { λ r. ⌜ r ≡ written nothing (paper.lastLine (heard opening .state)) ⌝ }
+// How long the last line is.
+pub fn last_width(opening: Opening) -> usize
+    ensures { λ r. ⌜ r ≡ length (paper.lastLine (heard opening .state)) ⌝ }
 {
     match opening {
-        Opening::Accepted(bound) => reach_line(bound),
-        Opening::Refused(turn) => refused_line(turn),
+        Opening::Accepted(bound) => reach_width(bound),
+        Opening::Refused(_) => 16,
     }
+}
+
+fn put_bound(out: &mut [u8], at: usize, id: ElementId) -> usize
+    ensures { λ r. ⌜ writing·private.Puts (now (out .entry)) at (paper.boundLine (id .0)) (now (out .exit)) r ⌝ }
+{
+    let i = writing::hex8(id.0);
+    let a = writing::word(out, at, b"compared up to ");
+    let b = writing::word(out, a, &i);
+    writing::word(out, b, b"\n")
+}
+
+fn put_reach(out: &mut [u8], at: usize, bound: Bound) -> usize
+    ensures { λ r. ⌜ writing·private.Puts (now (out .entry)) at (paper.reachLine bound) (now (out .exit)) r ⌝ }
+{
+    match bound {
+        Bound::Whole => at,
+        Bound::UpTo(id) => put_bound(out, at, id),
+    }
+}
+
+fn put_refused(out: &mut [u8], at: usize, turn: Turn) -> usize
+    ensures { λ r. ⌜ writing·private.Puts (now (out .entry)) at (paper.refusedLine turn) (now (out .exit)) r ⌝ }
+{
+    match turn {
+        Turn::Older => writing::word(out, at, b"refused 9 older\n"),
+        Turn::Newer => writing::word(out, at, b"refused 9 newer\n"),
+    }
+}
+
+fn put_opening(out: &mut [u8], at: usize, opening: Opening) -> usize
+    ensures { λ r. ⌜ writing·private.Puts (now (out .entry)) at (paper.lastLine (heard opening .state)) (now (out .exit)) r ⌝ }
+{
+    match opening {
+        Opening::Accepted(bound) => put_reach(out, at, bound),
+        Opening::Refused(turn) => put_refused(out, at, turn),
+    }
+}
+
+// Stores the last line from a place on and answers where it ends; nothing, if it does not fit.
+pub fn put_last(opening: Opening, out: &mut [u8], at: usize) -> usize
+    ensures { λ _. ⌜ now (out .exit) ≡ stored (now (out .entry)) at (paper.lastLine (heard opening .state)) ⌝ }
+    ensures { λ r. ⌜ r ≡ ended (now (out .entry)) at (paper.lastLine (heard opening .state)) ⌝ }
+{
+    if !slices::does_fit(last_width(opening), at, out.len()) {
+        return at;
+    }
+    put_opening(out, at, opening)
 }

@@ -1,12 +1,13 @@
 -- Laws of a comparison's text: one for each way out of a function, and one for each turn of a loop.
 use Prim.Native.Nat.{ℕ, _+_, _^_, _≤_, _<_}
 use mathlib.Core.Bool.{Bool, true, false}
-use mathlib.Core.List.{List, [], _++_, append-nil}
+use mathlib.Core.List.{List, [], _++_}
 use mathlib.Core.Path.{_≡_, refl, sym, ap, _∙_}
 use native.Mathlib.Omega.{arith}
-use lib.ListN.{length, take, drop, length-append, length-drop, take-append-drop}
-use lib.Seq.{take-add, drop-drop, take-at, drop-at, length-take-le}
-use Rattle.changes.proofs.Lengths.{length-line, length-last}
+use lib.Dec.{leb}
+use lib.ListN.{length, drop, length-append}
+use borrow.Author.Tests.{leb-true, leb-false}
+use Rattle.changes.proofs.Lengths.{length-last}
 use Rattle.changes.specs.Changes.{lineOf, lastLine}
 use Rattle.compare.proofs.Walking.{walk-done, walk-found, found-leaves}
 use Rattle.compare.specs.Walk.{first, nextOf, ahead}
@@ -21,11 +22,10 @@ use Rattle.paper.specs.Told.{said}
 use Rattle.paper.specs.declared.Answer.the-variants as answer
 use Rattle.reach.specs.Opening.{heard, judged}
 use Rattle.reach.specs.declared.Opening.{Opening}
-use Rattle.slices.proofs.Lists.{stored-more, stored-two}
-use Rattle.slices.specs.Lists.{stored}
-use Rattle.text.proofs.Written.{len-written, held-written}
-use Rattle.text.specs.Text.{nothing, written, held}
-use Rattle.text.specs.declared.Text.{Text}
+use Rattle.slices.proofs.Lists.{stored-front}
+use Rattle.slices.specs.Lists.{stored, ended}
+use Rattle.writing.proofs.Puts.{puts-none, puts-one, puts-more}
+use Rattle.writing.specs.Private.{Puts}
 use Rattle.comparison.specs.Comparison.{linesOf, comparisonOf}
 use Rattle.comparison.specs.Private.{isAccepted, stepOf, linesFrom}
 use Rattle.comparison.proofs.Accepted.{by-walk}
@@ -67,92 +67,84 @@ module _ (s t : List ℕ) (c : Cursor) where
   found-less true x is-x d e = found-leaves s t c d (sym e ∙ is-x)
   found-less false x is-x d e = not-found d (sym is-x ∙ e)
 
+-- of what is stored in d up to n, the lines from the cursor on are what is missing for all lines in b
+abbrev pub Rest : List ℕ → List ℕ → List ℕ → Bool → List ℕ → ℕ → Cursor → Type 0
+Rest b s t a d n c = (y : List ℕ) (r : ℕ) → Puts d n (linesFrom a s t c) y r → Puts b 0 (linesFrom a s t first) y r
+
+pub rest-first : (s t b : List ℕ) (a : Bool) (c : Cursor) → c ≡ first → Rest b s t a b 0 c
+rest-first s t b a c e y r so = rw (lines-first s t c a e) so
+
 module _ (s t : List ℕ) (a : Bool) (c : Cursor) (x : Step) (is-x : x ≡ stepOf a s t c) where
   pub measure-end : (n m : ℕ) → n + length (linesFrom a s t c) ≡ m → x ≡ Done → n ≡ m
   measure-end n m so e = omega (arith, ap length (lines-done s t c a x is-x e))
 
-  pub put-end : (b out T : List ℕ) (n : ℕ) → out ≡ stored b 0 (take n T) → drop n T ≡ linesFrom a s t c → x ≡ Done → out ≡ stored b 0 T
-  put-end b out T n so rest e =
-      let all : take n T ≡ T = sym (append-nil (take n T)) ∙ ap (λ (l : List ℕ). take n T ++ l) (sym (rest ∙ lines-done s t c a x is-x e)) ∙ take-append-drop n T in
-      so ∙ ap (stored b 0) all
+  pub put-end : (b d : List ℕ) (n : ℕ) → Rest b s t a d n c → x ≡ Done → Puts b 0 (linesFrom a s t first) d n
+  put-end b d n so e = so d n (rw (lines-done s t c a x is-x e) (puts-none d n))
 
-  module _ (d : Hit) (is-d : x ≡ Found d) (line : Text) (is-line : line ≡ written nothing (lineOf s t (d .line))) where
-    len : line .len ≡ length (lineOf s t (d .line))
-    len = ap (λ (u : Text). u .len) is-line ∙ len-written (lineOf s t (d .line)) (omega (arith, length-line s t (d .line)))
+  module _ (h : Hit) (is-h : x ≡ Found h) where
+    more : linesFrom a s t c ≡ lineOf s t (h .line) ++ linesFrom a s t (h .next)
+    more = lines-found s t c a x is-x h is-h
 
-    line-held : held line ≡ lineOf s t (d .line)
-    line-held = ap held is-line ∙ held-written (lineOf s t (d .line)) (omega (arith, length-line s t (d .line)))
+    module _ (n m w : ℕ) (so : n + length (linesFrom a s t c) ≡ m) (is-w : w ≡ length (lineOf s t (h .line))) where
+      pub measure-next : n + w + length (linesFrom a s t (h .next)) ≡ m
+      measure-next = omega (arith, ap length more, length-append (lineOf s t (h .line)) (linesFrom a s t (h .next)))
 
-    more : linesFrom a s t c ≡ lineOf s t (d .line) ++ linesFrom a s t (d .next)
-    more = lines-found s t c a x is-x d is-d
+      pub measure-room : m < 2 ^ 64 → n + w < 2 ^ 64
+      measure-room small = omega (arith, measure-next)
 
-    longer : length (linesFrom a s t c) ≡ line .len + length (linesFrom a s t (d .next))
-    longer = omega (arith, len, ap length more, length-append (lineOf s t (d .line)) (linesFrom a s t (d .next)))
-
-    module _ (n m : ℕ) (so : n + length (linesFrom a s t c) ≡ m) where
-      pub measure-next : n + line .len + length (linesFrom a s t (d .next)) ≡ m
-      measure-next = omega (arith, longer)
-
-      pub measure-room : m < 2 ^ 64 → n + line .len < 2 ^ 64
-      measure-room small = omega (arith, longer)
-
-    module _ (T : List ℕ) (n : ℕ) (rest : drop n T ≡ linesFrom a s t c) (inside : n ≤ length T) where
-      pub put-inside : n + line .len ≤ length T
-      put-inside = omega (arith, longer, ap length rest, length-drop n T)
-
-      pub put-room : (b : List ℕ) → length T ≤ length b → length b < 2 ^ 64 → n + line .len < 2 ^ 64
-      put-room b room small = omega (arith, put-inside)
-
-      pub put-rest : drop (n + line .len) T ≡ linesFrom a s t (d .next)
-      put-rest = sym (drop-drop (line .len) n T) ∙ rw (rest, more) (drop-at (lineOf s t (d .line)) (linesFrom a s t (d .next)) (line .len) (sym len))
-
-      pub put-next : (b out next : List ℕ) → length T ≤ length b → out ≡ stored b 0 (take n T) → next ≡ stored out n (held line) → next ≡ stored b 0 (take (n + line .len) T)
-      put-next b out next room so e =
-          let front : List ℕ = take n T in
-          let begun : length front ≡ n = length-take-le n T inside in
-          let both : take (n + line .len) T ≡ front ++ lineOf s t (d .line) =
-          take-add n (line .len) T ∙ rw (rest, more, take-at (lineOf s t (d .line)) (linesFrom a s t (d .next)) (line .len) (sym len)) in
-          let fits : 0 + length (front ++ lineOf s t (d .line)) ≤ length b = omega (arith, put-inside, len, length-append front (lineOf s t (d .line)), begun) in
-          let at : n ≡ 0 + length front = omega (arith, begun) in
-          e ∙ rw (so, line-held, both) (ap (λ (k : ℕ). stored (stored b 0 front) k (lineOf s t (d .line))) at ∙ stored-more b 0 front (lineOf s t (d .line)) fits)
+    pub put-next : (b d y : List ℕ) (n r : ℕ) → Rest b s t a d n c → y ≡ stored d n (lineOf s t (h .line)) → r ≡ ended d n (lineOf s t (h .line)) → Rest b s t a y r (h .next)
+    put-next b d y n r so is-y is-r z k rest =
+        let L : List ℕ = lineOf s t (h .line) in
+        so z k (rw more (puts-more d y n r L (linesFrom a s t (h .next)) z k rest (puts-one d y n r L is-y is-r)))
 
 -- ## The whole text
 
-module _ (s t : List ℕ) (r : Opening) (is-r : heard r ≡ judged s t) (a : Bool) (is-a : a ≡ isAccepted (heard r .state)) where
+module _ (s t : List ℕ) (opening : Opening) (is-opening : heard opening ≡ judged s t) (a : Bool) (is-a : a ≡ isAccepted (heard opening .state)) where
   as-judged : linesFrom a s t first ≡ linesFrom (isAccepted (judged s t .state)) s t first
-  as-judged = rw (is-a, is-r)
+  as-judged = rw (is-a, is-opening)
 
   pub lines-fit : length (linesFrom a s t first) < 2 ^ 64
   lines-fit = omega (arith, ap length as-judged, length-lines s t)
 
-  module _ (u : Text) (is-u : u ≡ written nothing (lastLine (heard r .state))) where
-    last-len : u .len ≡ length (lastLine (heard r .state))
-    last-len = ap (λ (x : Text). x .len) is-u ∙ len-written (lastLine (heard r .state)) (omega (arith, length-last (heard r .state)))
+  whole : comparisonOf s t ≡ linesFrom a s t first ++ lastLine (heard opening .state)
+  whole = by-walk s t ∙ sym (rw (as-judged, is-opening))
 
-    last-held : held u ≡ lastLine (heard r .state)
-    last-held = ap held is-u ∙ held-written (lastLine (heard r .state)) (omega (arith, length-last (heard r .state)))
+  module _ (m w : ℕ) (is-m : m ≡ length (linesFrom a s t first)) (is-w : w ≡ length (lastLine (heard opening .state))) where
+    pub size-fits : m + w < 2 ^ 64
+    size-fits = omega (arith, ap length as-judged, length-lines s t, length-last (heard opening .state))
 
-    module _ (m : ℕ) (is-m : m ≡ length (linesFrom a s t first)) where
-      pub size-fits : m + u .len < 2 ^ 64
-      size-fits = omega (arith, ap length as-judged, length-lines s t, last-len, length-last (heard r .state))
+    pub room-measured : (room : ℕ) → leb (m + w) room ≡ leb (length (comparisonOf s t)) room
+    room-measured room =
+        let long : m + w ≡ length (comparisonOf s t) = omega (arith, ap length whole, length-append (linesFrom a s t first) (lastLine (heard opening .state))) in
+        rw long
 
-      whole : comparisonOf s t ≡ linesFrom a s t first ++ lastLine (heard r .state)
-      whole = by-walk s t ∙ sym (rw (as-judged, is-r))
+  module _ (out x y : List ℕ) (lines size : ℕ) (b : Bool) (is-b : b ≡ leb (length (comparisonOf s t)) (length out)) (fit : b ≡ true)
+      (one : Puts out 0 (linesFrom a s t first) x lines)
+      (is-y : y ≡ stored x lines (lastLine (heard opening .state))) (is-size : size ≡ ended x lines (lastLine (heard opening .state))) where
+    room : length (comparisonOf s t) ≤ length out
+    room = leb-true (length (comparisonOf s t)) (length out) (sym is-b ∙ fit)
 
-      long : m + u .len ≡ length (comparisonOf s t)
-      long = omega (arith, last-len, ap length whole, length-append (linesFrom a s t first) (lastLine (heard r .state)))
+    stands : (y ≡ stored out 0 (comparisonOf s t)) × (size ≡ 0 + length (comparisonOf s t))
+    unfolding Puts
+    stands =
+        let last : List ℕ = lastLine (heard opening .state) in
+        let both : Puts out 0 (comparisonOf s t) y size =
+        rw whole (puts-more out x 0 lines (linesFrom a s t first) last y size (puts-one x y lines size last is-y is-size) one) in
+        both (omega (arith, room))
 
-      pub compared-small : (out : List ℕ) → length out < m + u .len → said answer.SmallBuffer (output 0 out) ≡ printed (comparisonOf s t) out
-      compared-small out = printed-small (comparisonOf s t) out (m + u .len) long
+    filled : y ≡ comparisonOf s t ++ drop (length (comparisonOf s t)) out
+    filled = stands .0 ∙ stored-front out (comparisonOf s t) room
 
-      module _ (out b₁ b₂ : List ℕ) (room : m + u .len ≤ length out) (is-b₁ : b₁ ≡ stored out 0 (linesFrom a s t first)) (is-b₂ : b₂ ≡ stored b₁ m (held u)) where
-        filled : b₂ ≡ comparisonOf s t ++ drop (length (comparisonOf s t)) out
-        filled =
-            rw whole
-            (stored-two out (linesFrom a s t first) (lastLine (heard r .state)) b₁ b₂ m (omega (arith, long, ap length whole)) is-m is-b₁ (rw last-held at is-b₂))
+    long : size ≡ length (comparisonOf s t)
+    long = omega (arith, stands .1)
 
-        pub compared-done : said answer.Done (output (m + u .len) b₂) ≡ printed (comparisonOf s t) out
-        compared-done = printed-done (comparisonOf s t) out (m + u .len) long room b₂ filled
+    pub compared-done : said answer.Done (output size y) ≡ printed (comparisonOf s t) out
+    compared-done = printed-done (comparisonOf s t) out size long (omega (arith, room, long)) y filled
 
-        pub compared-counts : Counts (m + u .len) b₂
-        compared-counts = printed-counts (comparisonOf s t) out (m + u .len) long room b₂ filled
+    pub compared-counts : Counts size y
+    compared-counts = printed-counts (comparisonOf s t) out size long (omega (arith, room, long)) y filled
+
+pub compared-small : (s t out : List ℕ) (b : Bool) → b ≡ leb (length (comparisonOf s t)) (length out) → b ≡ false
+    → said answer.SmallBuffer (output 0 out) ≡ printed (comparisonOf s t) out
+compared-small s t out b is-b short =
+    printed-small (comparisonOf s t) out (length (comparisonOf s t)) refl (leb-false (length (comparisonOf s t)) (length out) (sym is-b ∙ short))

@@ -1,10 +1,12 @@
 -- 160,000 bytes are enough for every text, and it tells the exit status (specs/Promises).
 use Prim.Native.Nat.{ℕ, _≤_}
+use mathlib.Core.Bool.{true}
 use mathlib.Core.List.{List, [], _∷_, _++_, append-assoc}
-use mathlib.Core.Path.{_≡_, refl, ap, _∙_}
+use mathlib.Core.Path.{_≡_, refl, sym, ap, _∙_}
 use native.Mathlib.Omega.{arith}
+use lib.Dec.{leb}
 use lib.ListN.{length, length-append}
-use borrow.Author.Tests.{le-ltb}
+use borrow.Author.Tests.{le-leb, le-ltb}
 use Rattle.changes.proofs.Lengths.{length-last}
 use Rattle.changes.specs.Changes.{lineOf, refusedLine, lastLine}
 use Rattle.compare.specs.Differences.{differencesOf}
@@ -31,6 +33,10 @@ length-comparison s t =
       length-lines s t,
       length-last (judged s t .state),
     )
+
+-- a buffer of that length is not measured for
+pub room-unmeasured : (s t : List ℕ) (room : ℕ) → 160000 ≤ room → true ≡ leb (length (comparisonOf s t)) room
+room-unmeasured s t room h = sym (le-leb (length (comparisonOf s t)) room (omega (arith, length-comparison s t)))
 
 pub enough : Enough
 enough s t out h = rw (le-ltb (length out) (length (comparisonOf s t)) (omega (arith, length-comparison s t)))

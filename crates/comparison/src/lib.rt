@@ -1,13 +1,14 @@
 // The text of a comparison: a line for each difference, and a last one if a page was cut short; or which page was refused.
 ghost use mathlib.Core.Path.{_≡_};
-ghost use Prim.Native.Nat.{_^_, _≤_, _<_};
+ghost use Prim.Native.Nat.{_^_, _<_};
+ghost use lib.Dec.{leb};
 ghost use lib.ListN.{length};
 ghost use Rattle.compare.specs.Walk.{first};
 ghost use Rattle.io.specs.Counts.{Counts};
 ghost use Rattle.listing.specs.Listing.{output, printed};
 ghost use Rattle.paper.specs.Told.{said};
-ghost use Rattle.reach.specs.Opening.{heard};
-ghost use Rattle.slices.specs.Lists.{stored};
+ghost use Rattle.reach.specs.Opening.{heard, judged};
+ghost use Rattle.writing.specs.Private as writing·private;
 ghost use Rattle.comparison.specs.Comparison as paper;
 ghost use Rattle.comparison.specs.Private as private;
 use compare::Cursor;
@@ -49,28 +50,35 @@ fn measure<'a>(older: &'a [u8], newer: &'a [u8], accepted: bool) -> usize
             return size;
         };
         let difference = hit.line;
-        let line = changes::line_of(older, newer, difference);
-        size += line.len;
+        size += changes::line_width(older, newer, difference);
         at = hit.next;
     }
 }
 
-// Stores the lines of all differences.
-fn put_lines<'a>(older: &'a [u8], newer: &'a [u8], accepted: bool, out: &mut [u8])
-    requires { ⌜ length (private.linesFrom accepted (now older) (now newer) first) ≤ length (now out) ⌝ }
-    ensures { λ _. ⌜ now (out .exit) ≡ stored (now (out .entry)) 0 (private.linesFrom accepted (now (older .entry)) (now (newer .entry)) first) ⌝ }
+// Whether the whole text fits. Each fits 160,000 bytes, so that for these nothing is measured.
+fn has_room<'a>(older: &'a [u8], newer: &'a [u8], opening: Opening, room: usize) -> bool
+    requires { ⌜ heard opening ≡ judged (now older) (now newer) ⌝ }
+    ensures { λ r. ⌜ r ≡ leb (length (paper.comparisonOf (now (older .entry)) (now (newer .entry)))) room ⌝ }
+{
+    if 160000 <= room {
+        return true;
+    }
+    measure(older, newer, is_accepted(opening)) + changes::last_width(opening) <= room
+}
+
+// Stores the lines of all differences at the front, and answers where they end.
+fn put_lines<'a>(older: &'a [u8], newer: &'a [u8], accepted: bool, out: &mut [u8]) -> usize
+    ensures { λ r. ⌜ writing·private.Puts (now (out .entry)) 0 (private.linesFrom accepted (now (older .entry)) (now (newer .entry)) first) (now (out .exit)) r ⌝ }
 {
     let mut size: usize = 0;
     let mut at = Cursor::first();
     loop {
         let step = next_of(older, newer, accepted, at);
         let Step::Found(hit) = step else {
-            return;
+            return size;
         };
         let difference = hit.line;
-        let line = changes::line_of(older, newer, difference);
-        line.put(out, size);
-        size += line.len;
+        size = changes::put_line(older, newer, difference, out, size);
         at = hit.next;
     }
 }
@@ -81,18 +89,14 @@ pub fn write<'a>(older: &'a [u8], newer: &'a [u8], out: &mut [u8]) -> Printed
     ensures { λ r. ⌜ Counts (r .count) (now (out .exit)) ⌝ }
 {
     let opening = reach::judge(older, newer);
-    let accepted = is_accepted(opening);
-    let last = changes::last_line(opening);
-    let lines = measure(older, newer, accepted);
-    let size = lines + last.len;
-    if out.len() < size {
+    if !has_room(older, newer, opening, out.len()) {
         return Printed {
             answer: Answer::SmallBuffer,
             count: 0,
         };
     }
-    put_lines(older, newer, accepted, out);
-    last.put(out, lines);
+    let lines = put_lines(older, newer, is_accepted(opening), out);
+    let size = changes::put_last(opening, out, lines);
     Printed {
         answer: Answer::Done,
         count: size,

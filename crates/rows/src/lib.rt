@@ -1,4 +1,5 @@
-// The lines of a listing: a descriptor's, stored straight into a lent buffer; a header's numbers and an element's values, after a text.
+// The lines of a listing: a descriptor's, and an element's values, stored straight into a lent buffer; a header's numbers and an element's values,
+// after a text.
 ghost use mathlib.Core.Path.{_≡_};
 ghost use lib.ListN.{length};
 ghost use Rattle.slices.specs.Lists.{stored, ended};
@@ -55,13 +56,21 @@ fn capacity_of(blocks: u64) -> Spelling
     writing::decimal_of(blocks)
 }
 
-// Identifier, type and health, each with the space after it.
+// Type and health, each with the space after it.
+fn grade(d: Descriptor) -> [u8; 6]
+    ensures { λ r. ⌜ r ≡ private.gradeOf d ⌝ }
+{
+    let k = writing::hex2(d.kind);
+    let h = writing::hex2(d.health);
+    [k[0], k[1], 32, h[0], h[1], 32]
+}
+
+// The identifier and its space before them.
 fn head(d: Descriptor) -> [u8; 15]
     ensures { λ r. ⌜ r ≡ private.headOf d ⌝ }
 {
     let i = writing::hex8(d.id.0);
-    let k = writing::hex2(d.kind);
-    let h = writing::hex2(d.health);
+    let g = grade(d);
     [
         i[0],
         i[1],
@@ -72,12 +81,12 @@ fn head(d: Descriptor) -> [u8; 15]
         i[6],
         i[7],
         32,
-        k[0],
-        k[1],
-        32,
-        h[0],
-        h[1],
-        32,
+        g[0],
+        g[1],
+        g[2],
+        g[3],
+        g[4],
+        g[5],
     ]
 }
 
@@ -101,4 +110,25 @@ pub fn put_descriptor(out: &mut [u8], at: usize, d: Descriptor) -> usize
     let a = writing::word(out, at, &begun);
     let b = capacity.put(out, a);
     writing::word(out, b, b"\n")
+}
+
+// How long an element's values are.
+pub fn values_width(d: Descriptor) -> usize
+    ensures { λ r. ⌜ r ≡ length (valuesOf d) ⌝ }
+{
+    6 + capacity_of(d.capacity).count
+}
+
+// Stores an element's values from a place on and answers where they end; nothing, if they do not fit.
+pub fn put_values(out: &mut [u8], at: usize, d: Descriptor) -> usize
+    ensures { λ _. ⌜ now (out .exit) ≡ stored (now (out .entry)) at (valuesOf d) ⌝ }
+    ensures { λ r. ⌜ r ≡ ended (now (out .entry)) at (valuesOf d) ⌝ }
+{
+    let capacity = capacity_of(d.capacity);
+    if !slices::does_fit(6 + capacity.count, at, out.len()) {
+        return at;
+    }
+    let begun = grade(d);
+    let a = writing::word(out, at, &begun);
+    capacity.put(out, a)
 }

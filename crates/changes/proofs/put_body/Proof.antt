@@ -1,23 +1,24 @@
--- `changes::body_of`.
+-- `changes::put_body`.
 use borrow.Author.Needs.{needs}
 use Rattle.changes.proofs.Changes.{said-older, said-newer, said-changed}
-use Rattle.changes.proofs.body_of.Statement.{statement}
-use Rattle.changes.proofs.body_of.Tie as tie
+use Rattle.changes.proofs.put_body.Statement.{statement}
+use Rattle.changes.proofs.put_body.Tie as tie
 
-pub body-of-spec : {M : Type 1} → statement M
-body-of-spec =
+pub put-body-spec : {M : Type 1} → statement M
+put-body-spec =
     tie.close
     (tie.spec
     (λ c κs. search needs)
     (λ c. search needs)
-    (λ c. search needs)
-    (λ c κs. search needs)
-    (λ c. search needs)
-    (λ c. search needs)
     (λ c κs. search needs)
     (λ c. search needs)
     (λ c κs. search needs)
+    (λ c. search needs)
     (λ c κs. search needs)
+    (λ c κs. search needs)
+    (λ c. search needs)
     (λ c. search (said-older))
+    (λ c. search needs)
     (λ c. search (said-newer))
+    (λ c. search needs)
     (λ c. search (said-changed)))

@@ -1,16 +1,18 @@
--- `changes::last_line`.
+-- `changes::put_opening`.
 use borrow.Author.Needs.{needs}
 use Rattle.changes.proofs.Changes.{last-accepted, last-refused}
-use Rattle.changes.proofs.last_line.Statement.{statement}
-use Rattle.changes.proofs.last_line.Tie as tie
+use Rattle.changes.proofs.put_opening.Statement.{statement}
+use Rattle.changes.proofs.put_opening.Tie as tie
 
-pub last-line-spec : {M : Type 1} → statement M
-last-line-spec =
+pub put-opening-spec : {M : Type 1} → statement M
+put-opening-spec =
     tie.close
     (tie.spec
     (λ c. search needs)
     (λ c κs. search needs)
     (λ c. search needs)
     (λ c κs. search needs)
+    (λ c. search needs)
     (λ c. search (last-accepted))
+    (λ c. search needs)
     (λ c. search (last-refused)))

@@ -1,16 +1,16 @@
--- `changes::reach_line`.
+-- `changes::put_reach`.
 use borrow.Author.Needs.{needs}
 use Rattle.changes.proofs.Changes.{reach-whole, reach-cut}
-use Rattle.changes.proofs.reach_line.Statement.{statement}
-use Rattle.changes.proofs.reach_line.Tie as tie
+use Rattle.changes.proofs.put_reach.Statement.{statement}
+use Rattle.changes.proofs.put_reach.Tie as tie
 
-pub reach-line-spec : {M : Type 1} → statement M
-reach-line-spec =
+pub put-reach-spec : {M : Type 1} → statement M
+put-reach-spec =
     tie.close
     (tie.spec
     (λ c. search needs)
-    (λ c κs. search needs)
     (λ c. search needs)
     (λ c κs. search needs)
     (λ c. search (reach-whole))
+    (λ c. search needs)
     (λ c. search (reach-cut)))

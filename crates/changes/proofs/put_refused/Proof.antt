@@ -1,20 +1,20 @@
--- `changes::refused_line`.
+-- `changes::put_refused`.
 use borrow.Author.Needs.{needs}
 use Rattle.changes.proofs.Changes.{refused-older, refused-newer}
-use Rattle.changes.proofs.refused_line.Statement.{statement}
-use Rattle.changes.proofs.refused_line.Tie as tie
+use Rattle.changes.proofs.put_refused.Statement.{statement}
+use Rattle.changes.proofs.put_refused.Tie as tie
 
-pub refused-line-spec : {M : Type 1} → statement M
-refused-line-spec =
+pub put-refused-spec : {M : Type 1} → statement M
+put-refused-spec =
     tie.close
     (tie.spec
     (λ c. search needs)
-    (λ c κs. search needs)
     (λ c. search needs)
     (λ c κs. search needs)
     (λ c. search needs)
-    (λ c κs. search needs)
     (λ c. search needs)
     (λ c κs. search needs)
+    (λ c. search needs)
     (λ c. search (refused-older))
+    (λ c. search needs)
     (λ c. search (refused-newer)))

@@ -1,0 +1,20 @@
+-- `changes::head`.
+use borrow.Author.Needs.{needs}
+use Rattle.changes.proofs.Changes.{head-laid}
+use Rattle.changes.proofs.head.Statement.{statement}
+use Rattle.changes.proofs.head.Tie as tie
+
+pub head-spec : {M : Type 1} → statement M
+head-spec =
+    tie.close
+    (tie.spec
+    (λ c κs. search needs)
+    (λ c. search needs)
+    (λ c. search needs)
+    (λ c. search needs)
+    (λ c. search needs)
+    (λ c. search needs)
+    (λ c. search needs)
+    (λ c. search needs)
+    (λ c. search needs)
+    (λ c. search (head-laid)))
