@@ -214,14 +214,6 @@ module _ {A : Type 0} (d : List A) (at : ℕ) where
       rw (stored-fits d a at (omega arith), stored-fits d (a ++ b) at h, stored-fits (P ++ drop (at + length a) d) b (at + length a) room, both, ← add-assoc)
       (lay P b d (at + length a) (length b) front ∙ simp append-assoc)
 
--- one over the front, then another right after it
-pub stored-two : {A : Type 0} (d a b x y : List A) (n : ℕ) → length (a ++ b) ≤ length d
-    → n ≡ length a → x ≡ stored d 0 a → y ≡ stored x n b → y ≡ a ++ b ++ drop (length (a ++ b)) d
-stored-two {A} d a b x y n room is-n is-x is-y =
-    let start : n ≡ 0 + length a = omega arith in
-    let one : y ≡ stored d 0 (a ++ b) = is-y ∙ rw (is-x, start) (stored-more d 0 a b (omega arith)) in
-    one ∙ stored-front d (a ++ b) room
-
 -- a loop that stores zeros from a place on: none yet, and one more
 pub zero-none : (d : List ℕ) (at : ℕ) → d ≡ stored d at (replicate (at - at) 0)
 zero-none d at = sym (rw sub-self (stored-none d at))

@@ -1,15 +1,13 @@
--- Laws of a text under construction: bytes written one after another, and a text that had room for all of them.
-use Prim.Native.Nat.{ℕ, zero, suc, _+_, _-_, _/_, _%_, _≤_, _<_, min}
-use mathlib.Core.List.{List, [], _∷_, _++_, append-nil}
+-- Laws of a text under construction: bytes written one after another.
+use Prim.Native.Nat.{ℕ, zero, suc, _+_, _-_, _/_, _%_, _≤_, _<_}
+use mathlib.Core.List.{List, [], _∷_, _++_}
 use mathlib.Core.Path.{_≡_, refl, sym, ap, _∙_}
 use native.Mathlib.Numerals.{add-one}
 use native.Mathlib.Omega.{arith}
-use lib.ListN.{length, replicate, length-append, take, drop, getD, drop-of-length-le}
-use lib.Seq.{take-append-seam, drop-cons, append-snoc}
-use borrow.Author.Tests.{lt-ltb}
-use Rattle.slices.proofs.Lists.{take-min, padded, padded-more}
+use lib.ListN.{length, drop, getD, drop-of-length-le}
+use lib.Seq.{drop-cons}
 use Rattle.text.specs.Digits.{glyph, digits, placesOf, decimalOf}
-use Rattle.text.specs.Text.{nothing, pushed, written, held}
+use Rattle.text.specs.Text.{nothing, pushed, written}
 use Rattle.text.specs.declared.Text.{Text}
 
 pub written-append : (t : Text) (a b : List ℕ) → written t (a ++ b) ≡ written (written t a) b
@@ -51,34 +49,3 @@ word-next t s i h = sym (rw (add-one i) (ap (λ (l : List ℕ). written t l) (dr
 pub word-all : (t : Text) (s : List ℕ) (i : ℕ) → length s ≤ i → t ≡ written t (drop i s)
 unfolding written
 word-all t s i h = sym (ap (λ (l : List ℕ). written t l) (drop-of-length-le s h))
-
--- ## Room for all
-
--- the text that holds some bytes
-abbrev pub holding : List ℕ → Text
-holding l = record { bytes = padded 0 160 l; len = length l }
-
-holding-more : (l : List ℕ) (b : ℕ) → length l < 160 → pushed (holding l) b ≡ holding (l ++ (b ∷ []))
-holding-more l b h =
-    let long : length l + 1 ≡ length (l ++ (b ∷ [])) = simp length-append in
-    rw (lt-ltb _ _ h) (λ i. record { bytes = padded-more 0 160 l b h i; len = long i })
-
-holding-all : (l m : List ℕ) → length l + length m ≤ 160 → written (holding l) m ≡ holding (l ++ m)
-unfolding written
-holding-all l [] h = ap holding (sym (append-nil l))
-holding-all l (b ∷ m) h =
-    let g : length (l ++ (b ∷ [])) + length m ≤ 160 = simp length-append (omega arith) in
-    ap (λ (t : Text). written t m) (holding-more l b (omega arith)) ∙ (holding-all (l ++ (b ∷ [])) m g ∙ ap holding (append-snoc l b m))
-
-written-all : (l : List ℕ) → length l ≤ 160 → written nothing l ≡ holding l
-written-all l h = holding-all [] l (omega arith)
-
-pub len-written : (l : List ℕ) → length l ≤ 160 → written nothing l .len ≡ length l
-len-written l h = ap (λ (t : Text). t .len) (written-all l h)
-
-pub held-written : (l : List ℕ) → length l ≤ 160 → held (written nothing l) ≡ l
-held-written l h = ap held (written-all l h) ∙ take-append-seam l (replicate (160 - length l) 0)
-
--- what `put` copies
-pub held-front : (t : Text) (n : ℕ) → length (t .bytes) ≡ 160 → n ≡ min (t .len) 160 → take n (t .bytes) ≡ held t
-held-front t n long e = rw (e, ← long) (take-min (t .len) (t .bytes))

@@ -5,7 +5,7 @@ use Prim.Native.String.{String, [] as ε, _∷_ as _▸_}
 use mathlib.Core.Bool.{cond}
 use mathlib.Core.List.{List, [], _∷_}
 use lib.Dec.{ltb}
-use lib.ListN.{set, replicate, take}
+use lib.ListN.{set, replicate}
 use Rattle.text.specs.declared.Text.{Text}
 
 abbrev pub ascii : String → List ℕ
@@ -22,6 +22,3 @@ pushed t b = cond (ltb (t .len) 160) (record { bytes = set (t .bytes) (t .len) b
 unfoldable pub written : Text → List ℕ → Text
 written t [] = t
 written t (b ∷ bs) = written (pushed t b) bs
-
-abbrev pub held : Text → List ℕ
-held t = take (t .len) (t .bytes)

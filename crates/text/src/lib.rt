@@ -2,9 +2,8 @@
 ghost use mathlib.Core.Path.{_≡_};
 ghost use mathlib.Core.List.{_++_};
 ghost use Prim.Native.Nat.{_<_, _≤_};
-ghost use Rattle.slices.specs.Lists.{stored};
 ghost use Rattle.text.specs.Digits.{glyph, digits, placesOf, decimalOf};
-ghost use Rattle.text.specs.Text.{nothing, pushed, written, held};
+ghost use Rattle.text.specs.Text.{nothing, pushed, written};
 
 // The first `len` bytes. What does not fit is left out.
 pub struct Text {
@@ -109,14 +108,5 @@ impl Text {
         ensures { λ r. ⌜ r ≡ written self (now (name .entry) ++ decimalOf x) ⌝ }
     {
         self.word(name).decimal(x)
-    }
-
-    // Stores the text in a buffer from a place on, if it fits there.
-    pub fn put(self, out: &mut [u8], at: usize)
-        ensures { λ _. ⌜ now (out .exit) ≡ stored (now (out .entry)) at (held self) ⌝ }
-    {
-        let bytes = self.bytes;
-        let len = slices::smaller(self.len, 160);
-        slices::put(out, at, &bytes[..len]);
     }
 }
