@@ -1,10 +1,8 @@
 // The line that a listing begins with, the header's or a refusal's, stored straight into a lent buffer.
-ghost use mathlib.Core.List.{_++_};
 ghost use mathlib.Core.Path.{_≡_};
 ghost use lib.ListN.{length};
 ghost use Rattle.rows.specs.Rows.{headerLine, refusedLine};
 ghost use Rattle.slices.specs.Lists.{stored, ended};
-ghost use Rattle.text.specs.Digits.{decimalOf};
 ghost use Rattle.writing.specs.Private as writing·private;
 ghost use Rattle.heading.specs.Private as private;
 use layout::Header;
@@ -16,14 +14,6 @@ pub fn header_width(h: Header) -> usize
     let counts = writing::width(h.number as u64) + writing::width(h.returned as u64);
     let limits = writing::width(h.limit as u64) + writing::width(h.removed as u64);
     48 + counts + limits
-}
-
-// A word, then a number in decimal.
-fn put_field(out: &mut [u8], at: usize, name: &[u8], n: u64) -> usize
-    ensures { λ r. ⌜ writing·private.Puts (now (out .entry)) at (now (name .entry) ++ decimalOf n) (now (out .exit)) r ⌝ }
-{
-    let a = writing::word(out, at, name);
-    writing::decimal(out, a, n)
 }
 
 fn put_busy(out: &mut [u8], at: usize, h: Header) -> usize
@@ -38,8 +28,8 @@ fn put_busy(out: &mut [u8], at: usize, h: Header) -> usize
 fn put_counts(out: &mut [u8], at: usize, h: Header) -> usize
     ensures { λ r. ⌜ writing·private.Puts (now (out .entry)) at (private.countsOf h) (now (out .exit)) r ⌝ }
 {
-    let a = put_field(out, at, b"number ", h.number as u64);
-    let b = put_field(out, a, b" returned ", h.returned as u64);
+    let a = writing::field(out, at, b"number ", h.number as u64);
+    let b = writing::field(out, a, b" returned ", h.returned as u64);
     put_busy(out, b, h)
 }
 
@@ -47,9 +37,8 @@ fn put_counts(out: &mut [u8], at: usize, h: Header) -> usize
 fn put_limits(out: &mut [u8], at: usize, h: Header) -> usize
     ensures { λ r. ⌜ writing·private.Puts (now (out .entry)) at (private.limitsOf h) (now (out .exit)) r ⌝ }
 {
-    let a = put_field(out, at, b" limit ", h.limit as u64);
-    let b = put_field(out, a, b" removed ", h.removed as u64);
-    writing::word(out, b, b"\n")
+    let a = writing::field(out, at, b" limit ", h.limit as u64);
+    writing::numbered(out, a, b" removed ", h.removed as u64)
 }
 
 // Stores the header's line from a place on and answers where it ends; nothing, if it does not fit.
@@ -76,9 +65,5 @@ pub fn put_refused(out: &mut [u8], at: usize, place: usize) -> usize
     ensures { λ _. ⌜ now (out .exit) ≡ stored (now (out .entry)) at (refusedLine place) ⌝ }
     ensures { λ r. ⌜ r ≡ ended (now (out .entry)) at (refusedLine place) ⌝ }
 {
-    if !slices::does_fit(refused_width(place), at, out.len()) {
-        return at;
-    }
-    let a = put_field(out, at, b"refused 9 at ", place as u64);
-    writing::word(out, a, b"\n")
+    writing::numbered(out, at, b"refused 9 at ", place as u64)
 }

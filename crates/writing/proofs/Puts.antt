@@ -1,14 +1,16 @@
 -- One writer after another: if both texts fit, they stand side by side.
-use Prim.Native.Nat.{ℕ, _+_}
+use Prim.Native.Nat.{ℕ, _+_, _≤_, _<_, _^_}
 use mathlib.Core.Bool.{Bool, true, false}
 use mathlib.Core.List.{List, [], _++_}
-use mathlib.Core.Path.{_≡_, sym, ap, _∙_}
+use mathlib.Core.Path.{_≡_, refl, sym, ap, _∙_}
 use native.Mathlib.Omega.{arith}
+use lib.Dec.{leb}
 use lib.ListN.{length, length-append}
-use borrow.Author.Tests.{le-leb}
+use borrow.Author.Tests.{leb-true, leb-false, le-leb, lt-leb}
 use Rattle.slices.proofs.Lists.{room-there, stored-no, ended-yes, ended-no, length-stored, stored-none, stored-more}
 use Rattle.slices.specs.Lists.{fits, stored, ended}
 use Rattle.writing.specs.Private.{Puts}
+use Rattle.writing.specs.Writing.{storedIn, endedIn}
 
 pub puts-none : (d : List ℕ) (at : ℕ) → Puts d at [] d at
 unfolding Puts
@@ -53,3 +55,47 @@ module _ (text d : List ℕ) (at n : ℕ) (t : Bool) (is-n : n ≡ length text) 
 
     pub whole-ended : r ≡ ended d at text
     whole-ended = whole .1 ∙ ended-yes d text at t same-test yes
+
+-- two texts side by side
+module _ (a b at room : ℕ) (t : Bool) (is-t : t ≡ fits a at room) where
+  pub first-out : t ≡ false → false ≡ fits (a + b) at room
+  first-out e =
+      let out : room < at + a = leb-false (at + a) room (sym is-t ∙ e) in
+      sym (lt-leb (at + (a + b)) room (omega arith))
+
+  pub first-in : t ≡ true → room < 2 ^ 64 → at + a < 2 ^ 64
+  first-in e small =
+      let within : at + a ≤ room = leb-true (at + a) room (sym is-t ∙ e) in
+      omega arith
+
+pub both-in : (a b at room : ℕ) (t : Bool) → t ≡ fits b (at + a) room → t ≡ fits (a + b) at room
+both-in a b at room t is-t =
+    let one : at + a + b ≡ at + (a + b) = omega arith in
+    is-t ∙ ap (λ (n : ℕ). leb n room) one
+
+-- where there is room for the longest text of its kind
+module _ (text d : List ℕ) (at n : ℕ) (t : Bool) (is-t : t ≡ fits n at (length d)) where
+  pub none-stored-in : t ≡ false → d ≡ storedIn n d at text
+  none-stored-in e = sym (rw (sym is-t ∙ e))
+
+  pub none-ended-in : t ≡ false → at ≡ endedIn n d at text
+  none-ended-in e = sym (rw (sym is-t ∙ e))
+
+  module _ (yes : t ≡ true) (wide : length text ≤ n) (x : List ℕ) (r : ℕ) (puts : Puts d at text x r) where
+    fit : at + length text ≤ length d
+    fit = let all : at + n ≤ length d = leb-true (at + n) (length d) (sym is-t ∙ yes) in omega arith
+
+    stands : (x ≡ stored d at text) × (r ≡ at + length text)
+    unfolding Puts
+    stands = puts fit
+
+    pub whole-stored-in : x ≡ storedIn n d at text
+    whole-stored-in = stands .0 ∙ sym (rw (sym is-t ∙ yes))
+
+    pub whole-ended-in : r ≡ endedIn n d at text
+    whole-ended-in = stands .1 ∙ ended-yes d text at true (sym (le-leb (at + length text) (length d) fit)) refl ∙ sym (rw (sym is-t ∙ yes))
+
+pub puts-in : (text d x : List ℕ) (at n r : ℕ) → at + n ≤ length d → x ≡ storedIn n d at text → r ≡ endedIn n d at text → Puts d at text x r
+puts-in text d x at n r room is-x is-r =
+    let there : fits n at (length d) ≡ true = le-leb (at + n) (length d) room in
+    puts-one d x at r text (is-x ∙ rw there) (is-r ∙ rw there)

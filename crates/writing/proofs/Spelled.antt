@@ -1,18 +1,22 @@
 -- A short text at the end of 20 bytes; digits from the last to the first, and what each division puts in front.
 use Prim.Native.Nat.{ℕ, zero, suc, _+_, _-_, _/_, _%_, _≤_, _<_, min}
+use mathlib.Core.Bool.{Bool, true}
 use mathlib.Core.List.{List, [], _∷_, _++_}
 use mathlib.Core.Path.{_≡_, refl, sym, ap, _∙_}
 use native.Mathlib.Nat.{mod-lt}
 use native.Mathlib.Numerals.{add-one}
 use native.Mathlib.Omega.{arith}
 use lib.Dec.{lit<}
-use lib.ListN.{length, take, drop, set, replicate, length-replicate, length-drop}
+use lib.ListN.{length, take, drop, set, replicate, length-append, length-replicate, length-drop}
 use lib.Seq.{take-all, drop-at}
-use Rattle.slices.specs.Lists.{stored, ended}
+use Rattle.slices.specs.Lists.{fits, stored, ended}
 use Rattle.text.proofs.Digits.{glyph-low, length-digits, Counted, counted-next, counted-all}
 use Rattle.text.specs.Digits.{glyph, digits, placesOf, decimalOf}
-use Rattle.writing.specs.Writing.{spelled, shown}
+use Rattle.text.specs.Text.{ascii}
+use Rattle.writing.specs.Private.{Puts}
+use Rattle.writing.specs.Writing.{spelled, shown, numberLine}
 use Rattle.writing.specs.declared.Spelling.{Spelling}
+use Rattle.writing.proofs.Puts.{puts-one, puts-more, whole-stored, whole-ended}
 
 -- ## Hexadecimal
 
@@ -88,3 +92,41 @@ pub part-shown : (s : Spelling) (n : ℕ) → length (s .bytes) ≡ 20 → n ≡
 part-shown s n long is-n =
     let from : 20 - n ≡ 20 - s .count = omega arith in
     rw from (take-all (20 - (20 - s .count)) (drop (20 - s .count) (s .bytes)) (simp length-drop (omega arith)))
+
+-- ## After a word
+
+module _ (name d : List ℕ) (s : Spelling) (v at : ℕ) (is-s : s ≡ spelled (decimalOf v)) where
+  pub field-wide : length name + s .count ≡ length (name ++ decimalOf v)
+  field-wide = omega (arith, length-append name (decimalOf v), ap (λ (t : Spelling). t .count) is-s)
+
+  module _ (t : Bool) (is-t : t ≡ fits (length name + s .count) at (length d)) (yes : t ≡ true) (x y : List ℕ) (m r : ℕ)
+      (is-x : x ≡ stored d at name) (is-m : m ≡ ended d at name) (is-y : y ≡ stored x m (shown s)) (is-r : r ≡ ended x m (shown s)) where
+    puts : Puts d at (name ++ decimalOf v) y r
+    puts =
+        puts-more d x at m name (decimalOf v) y r
+        (puts-one x y m r (decimalOf v) (shown-stored s (decimalOf v) x m is-s y is-y) (shown-ended s (decimalOf v) x m is-s r is-r))
+        (puts-one d x at m name is-x is-m)
+
+    pub field-stored : y ≡ stored d at (name ++ decimalOf v)
+    field-stored = whole-stored (name ++ decimalOf v) d at _ t field-wide is-t yes y r puts
+
+    pub field-ended : r ≡ ended d at (name ++ decimalOf v)
+    field-ended = whole-ended (name ++ decimalOf v) d at _ t field-wide is-t yes y r puts
+
+module _ (name d : List ℕ) (v w at : ℕ) (is-w : w ≡ length (decimalOf v)) where
+  pub line-wide : length name + (w + 1) ≡ length (numberLine name v)
+  line-wide = simp length-append (omega arith)
+
+  module _ (t : Bool) (is-t : t ≡ fits (length name + (w + 1)) at (length d)) (yes : t ≡ true) (x y : List ℕ) (m r : ℕ)
+      (is-x : x ≡ stored d at (name ++ decimalOf v)) (is-m : m ≡ ended d at (name ++ decimalOf v))
+      (is-y : y ≡ stored x m (ascii "\n")) (is-r : r ≡ ended x m (ascii "\n")) where
+    line-puts : Puts d at (numberLine name v) y r
+    line-puts =
+        puts-more d x at m (name ++ decimalOf v) (ascii "\n") y r (puts-one x y m r (ascii "\n") is-y is-r)
+        (puts-one d x at m (name ++ decimalOf v) is-x is-m)
+
+    pub line-stored : y ≡ stored d at (numberLine name v)
+    line-stored = whole-stored (numberLine name v) d at _ t line-wide is-t yes y r line-puts
+
+    pub line-ended : r ≡ ended d at (numberLine name v)
+    line-ended = whole-ended (numberLine name v) d at _ t line-wide is-t yes y r line-puts

@@ -1,11 +1,12 @@
 // Words and numbers as text, stored straight into a lent buffer. A writer stores the whole text from a place on and answers where it ends; if it
 // does not fit there, nothing, and the answer is the place itself.
+ghost use mathlib.Core.List.{_++_};
 ghost use mathlib.Core.Path.{_≡_};
-ghost use Prim.Native.Nat.{_<_};
+ghost use Prim.Native.Nat.{_+_, _<_};
 ghost use lib.ListN.{length};
-ghost use Rattle.slices.specs.Lists.{stored, ended};
+ghost use Rattle.slices.specs.Lists.{fits, stored, ended};
 ghost use Rattle.text.specs.Digits.{glyph, digits, decimalOf};
-ghost use Rattle.writing.specs.Writing.{spelled, shown};
+ghost use Rattle.writing.specs.Writing.{spelled, shown, numberLine};
 
 fn digit(d: u8) -> u8
     requires { ⌜ d < 16 ⌝ }
@@ -96,4 +97,39 @@ pub fn decimal(out: &mut [u8], at: usize, n: u64) -> usize
     ensures { λ r. ⌜ r ≡ ended (now (out .entry)) at (decimalOf n) ⌝ }
 {
     decimal_of(n).put(out, at)
+}
+
+// Whether two texts fit side by side from a place on.
+fn do_fit(first: usize, second: usize, at: usize, room: usize) -> bool
+    ensures { λ r. ⌜ r ≡ fits (first + second) at room ⌝ }
+{
+    if !slices::does_fit(first, at, room) {
+        return false;
+    }
+    slices::does_fit(second, at + first, room)
+}
+
+// A word, then a number in decimal.
+pub fn field(out: &mut [u8], at: usize, name: &[u8], n: u64) -> usize
+    ensures { λ _. ⌜ now (out .exit) ≡ stored (now (out .entry)) at (now (name .entry) ++ decimalOf n) ⌝ }
+    ensures { λ r. ⌜ r ≡ ended (now (out .entry)) at (now (name .entry) ++ decimalOf n) ⌝ }
+{
+    let number = decimal_of(n);
+    if !do_fit(name.len(), number.count, at, out.len()) {
+        return at;
+    }
+    let a = word(out, at, name);
+    number.put(out, a)
+}
+
+// A line of a word and a number in decimal.
+pub fn numbered(out: &mut [u8], at: usize, name: &[u8], n: u64) -> usize
+    ensures { λ _. ⌜ now (out .exit) ≡ stored (now (out .entry)) at (numberLine (now (name .entry)) n) ⌝ }
+    ensures { λ r. ⌜ r ≡ ended (now (out .entry)) at (numberLine (now (name .entry)) n) ⌝ }
+{
+    if !do_fit(name.len(), width(n) + 1, at, out.len()) {
+        return at;
+    }
+    let a = field(out, at, name, n);
+    word(out, a, b"\n")
 }
