@@ -1,6 +1,6 @@
 -- One writer after another: if both texts fit, they stand side by side.
 use Prim.Native.Nat.{ℕ, _+_, _≤_, _<_, _^_}
-use mathlib.Core.Bool.{Bool, true, false}
+use mathlib.Core.Bool.{Bool, true, false, cond}
 use mathlib.Core.List.{List, [], _++_}
 use mathlib.Core.Path.{_≡_, refl, sym, ap, _∙_}
 use native.Mathlib.Omega.{arith}
@@ -11,6 +11,13 @@ use Rattle.slices.proofs.Lists.{room-there, stored-no, ended-yes, ended-no, len
 use Rattle.slices.specs.Lists.{fits, stored, ended}
 use Rattle.writing.specs.Private.{Puts}
 use Rattle.writing.specs.Writing.{storedIn, endedIn}
+
+pub ended-none : (d : List ℕ) (at : ℕ) → ended d at [] ≡ at
+ended-none d at = by-test (fits 0 at (length d))
+  where
+    by-test : (t : Bool) → cond t (at + 0) at ≡ at
+    by-test true = omega arith
+    by-test false = refl
 
 pub puts-none : (d : List ℕ) (at : ℕ) → Puts d at [] d at
 unfolding Puts

@@ -1,0 +1,2 @@
+-- What is proved of a lent buffer as text.
+pub mod Dump

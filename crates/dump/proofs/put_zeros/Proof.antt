@@ -1,0 +1,15 @@
+-- `dump::put_zeros`.
+use borrow.Author.Needs.{needs}
+use Rattle.dump.proofs.Dump.{zeros-none, zeros-puts}
+use Rattle.dump.proofs.put_zeros.Statement.{statement}
+use Rattle.dump.proofs.put_zeros.Tie as tie
+
+pub put-zeros-spec : {M : Type 1} → statement M
+put-zeros-spec =
+    tie.close
+    (tie.spec
+    (λ c. search (zeros-none))
+    (λ c. search needs)
+    (λ c κs. search needs)
+    (λ c. search needs)
+    (λ c. search (zeros-puts)))

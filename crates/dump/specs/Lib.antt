@@ -1,0 +1,2 @@
+-- A lent buffer as text.
+pub mod Dump
