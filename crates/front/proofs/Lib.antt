@@ -1,2 +1,2 @@
 -- What is proved of the front call.
-pub mod Afterwards
+pub mod Front

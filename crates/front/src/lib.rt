@@ -1,30 +1,48 @@
-// The bench's front call, over a lent buffer. No contract can say what it prints.
+// The bench's front call, over a lent buffer that is filled with A5h before.
 ghost use mathlib.Core.Path.{_≡_};
-ghost use Prim.Native.Nat.{min};
-ghost use lib.ListN.{length};
-ghost use Rattle.front.specs.Front.{deviceAfter};
+ghost use lib.ListN.{length, replicate};
+ghost use Rattle.device.specs.Machine.{told};
+ghost use Rattle.events.specs.Events.{eventOf};
+ghost use Rattle.paper.specs.Answers.{numberOf};
+ghost use Rattle.front.specs.Front.{lentOf, writtenBy, left, after, lentAfter, leftAfter};
 use arguments::Command;
 use device::Device;
 use paper::Answer;
-use print::print_answer;
-use print::print_page;
-use print::print_touched;
 
-// What the call leaves: the device, and how many bytes of the page are kept.
+// What the call leaves: the device, the answer, how many bytes were lent, and how many of these it wrote.
 pub struct Left {
     pub device: Device,
-    pub kept: usize,
+    pub answer: Answer,
+    pub room: usize,
+    pub count: usize,
 }
 
-// What a buffer holds before it is lent.
-fn unanswered() -> [u8; 65536]
-    ensures { λ r. ⌜ 65536 ≡ length r ⌝ }
+fn fill(lent: &mut [u8])
+    ensures { λ _. ⌜ now (lent .exit) ≡ replicate (length (now (lent .entry))) 0xA5 ⌝ }
 {
-    [0xA5; 65536]
+    let mut i: usize = 0;
+    while i < lent.len() {
+        lent[i] = 0xA5;
+        i += 1;
+    }
+}
+
+// The page of 12h; any other command leaves the buffer.
+fn show(d: Device, c: Command, lent: &mut [u8])
+    ensures { λ _. ⌜ now (lent .exit) ≡ lentOf d c (now (lent .entry)) ⌝ }
+{
+    if c.code != 0x12 {
+        return;
+    }
+    let security = c.security;
+    let lba = c.lba;
+    status::show(d, security, commands::asked(c.feature, c.count, lba), lent);
 }
 
 // How many bytes an answer writes: 512p after a 12h that is answered 0.
-fn answer_size(c: Command, answer: Answer) -> usize {
+fn answer_size(c: Command, answer: Answer) -> usize
+    ensures { λ r. ⌜ r ≡ writtenBy c (numberOf answer) ⌝ }
+{
     if c.code != 0x12 {
         return 0;
     }
@@ -34,51 +52,28 @@ fn answer_size(c: Command, answer: Answer) -> usize {
     512 * (c.count as usize)
 }
 
-// The page of 12h.
-fn show(d: Device, c: Command, lent: &mut [u8]) {
-    if c.code != 0x12 {
-        return;
-    }
-    let security = c.security;
-    let lba = c.lba;
-    status::show(d, security, commands::asked(c.feature, c.count, lba), lent);
-}
-
-// Keeps the page that an answer wrote, if it wrote one, and returns how long the kept page is.
-fn keep(page: &mut [u8], kept: usize, written: &[u8]) -> usize {
-    if written.len() == 0 {
-        return kept;
-    }
-    slices::put(page, 0, written);
-    written.len()
-}
-
-// Prints the answer and what it left in the lent buffer, of which it wrote the first n bytes.
-fn print_lent(answer: Answer, lent: &[u8], n: usize) {
-    print_answer(answer);
-    print_page(slices::head(lent, n));
-    print_touched(lent, n);
-}
-
-fn command_over(d: Device, c: Command, kept: usize, lent: &mut [u8], page: &mut [u8]) -> Left
-    ensures { λ r. ⌜ r .device ≡ deviceAfter d c (length (now (lent .entry))) ⌝ }
+// Over a buffer that is lent whole.
+fn command_over(d: Device, c: Command, lent: &mut [u8]) -> Left
+    ensures { λ r. ⌜ (left r ≡ after d c (length (now (lent .entry)))) × (now (lent .exit) ≡ lentOf d c (replicate (length (now (lent .entry))) 0xA5)) ⌝ }
 {
-    let s = events::commanded(d, c, lent.len());
+    let room = lent.len();
+    fill(lent);
     show(d, c, lent);
+    let s = events::commanded(d, c, room);
     let answer = s.answer;
     let device = s.device;
-    let n = answer_size(c, answer);
-    print_lent(answer, lent, n);
     Left {
         device,
-        kept: keep(page, kept, slices::head(lent, n)),
+        answer,
+        room,
+        count: answer_size(c, answer),
     }
 }
 
-pub fn command(d: Device, c: Command, kept: usize, page: &mut [u8]) -> Left
-    ensures { λ r. ⌜ r .device ≡ deviceAfter d c (min (c .length) 65536) ⌝ }
+// Over as many bytes as the line says, and as there are.
+pub fn command(d: Device, c: Command, lent: &mut [u8]) -> Left
+    ensures { λ r. ⌜ (left r ≡ leftAfter d c (now (lent .entry))) × (now (lent .exit) ≡ lentAfter d c (now (lent .entry))) ⌝ }
 {
-    let mut lent = unanswered();
     let n = slices::smaller(c.length, lent.len());
-    command_over(d, c, kept, &mut lent[0..n], page)
+    command_over(d, c, &mut lent[0..n])
 }

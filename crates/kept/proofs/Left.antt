@@ -2,11 +2,12 @@
 use Prim.Native.Nat.{ℕ, _≤_, _<_}
 use mathlib.Core.List.{List, [], _∷_}
 use mathlib.Core.Path.{_≡_, sym, _∙_}
-use borrow.Author.Tests.{le-leb, lt-leb}
+use lib.ListN.{length}
+use borrow.Author.Tests.{eq-eqb, ne-eqb, le-leb, lt-leb}
 use Rattle.arguments.specs.declared.PageCall.{PageCall}
 use Rattle.arguments.specs.declared.Poke.{Poke}
 use Rattle.slices.specs.Lists.{stored}
-use Rattle.kept.specs.Kept.{lengthened, poked, keptAfter, pageAfter}
+use Rattle.kept.specs.Kept.{lengthened, poked, keptAfter, pageAfter, keptWith}
 
 pub length-as-given : (kept n m : ℕ) (page r : List ℕ) → n ≡ m → r ≡ lengthened kept n page → r ≡ lengthened kept m page
 length-as-given kept n m page r is-n is-r = is-r ∙ rw is-n
@@ -25,3 +26,10 @@ module _ (call found : PageCall) (is-found : call ≡ found) (kept : ℕ) (page 
 
   pub page-of : (r : List ℕ) → r ≡ pageAfter found kept page → r ≡ pageAfter call kept page
   page-of r is-r = is-r ∙ sym (rw is-found)
+
+module _ (kept : ℕ) (written : List ℕ) where
+  pub none-kept : length written ≡ 0 → kept ≡ keptWith kept written
+  none-kept e = sym (rw (eq-eqb (length written) 0 e))
+
+  pub some-kept : (length written ≡ 0 → ⊥) → length written ≡ keptWith kept written
+  some-kept e = sym (rw (ne-eqb (length written) 0 e))

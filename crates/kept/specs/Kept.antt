@@ -2,7 +2,7 @@
 use Prim.Native.Nat.{ℕ, _-_, min}
 use mathlib.Core.Bool.{cond}
 use mathlib.Core.List.{List, [], _∷_}
-use lib.Dec.{leb}
+use lib.Dec.{eqb, leb}
 use lib.ListN.{length, replicate}
 use Rattle.arguments.specs.declared.PageCall.the-variants as calls
 use Rattle.arguments.specs.declared.PageCall.{PageCall}
@@ -28,3 +28,7 @@ abbrev pub pageAfter : PageCall → ℕ → List ℕ → List ℕ
 pageAfter (calls.Length n) kept page = lengthened kept (min n (length page)) page
 pageAfter (calls.Poke p) kept page = poked kept p page
 pageAfter (calls.Read q) kept page = page
+
+-- how long it is after an answer: "After a 12h that is answered 0 the page .. is kept"
+abbrev pub keptWith : ℕ → List ℕ → ℕ
+keptWith kept written = cond (eqb (length written) 0) kept (length written)

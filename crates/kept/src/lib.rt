@@ -1,12 +1,11 @@
-// The calls on the page that the bench keeps. A contract says what they leave of it; none can say what was printed.
+// The page that the bench keeps: the calls on it, and the page that an answer wrote.
 ghost use mathlib.Core.Path.{_≡_};
 ghost use Prim.Native.Nat.{_≤_, min};
 ghost use lib.ListN.{length};
-ghost use Rattle.kept.specs.Kept.{lengthened, poked, keptAfter, pageAfter};
+ghost use Rattle.slices.specs.Lists.{stored};
+ghost use Rattle.kept.specs.Kept.{lengthened, poked, keptAfter, pageAfter, keptWith};
 use arguments::PageCall;
 use arguments::Poke;
-use print::print_number;
-use print::print_words;
 
 fn clear(page: &mut [u8], from: usize, to: usize)
     requires { ⌜ to ≤ length (now page) ⌝ }
@@ -25,7 +24,6 @@ fn set_length(page: &mut [u8], kept: usize, size: usize) -> usize
 {
     let n = slices::smaller(size, page.len());
     clear(page, kept, n);
-    print_number(b"length ", n);
     n
 }
 
@@ -33,7 +31,6 @@ fn poke(page: &mut [u8], kept: usize, p: Poke)
     ensures { λ _. ⌜ now (page .exit) ≡ poked kept p (now (page .entry)) ⌝ }
 {
     if kept <= p.place {
-        print_words(b"outside");
         return;
     }
     let byte = [p.byte];
@@ -50,9 +47,17 @@ pub fn call(page: &mut [u8], kept: usize, call: PageCall) -> usize
             poke(page, kept, p);
             kept
         }
-        PageCall::Read(request) => {
-            contents::print_reading(page, kept, request);
-            kept
-        }
+        PageCall::Read(_) => kept,
     }
+}
+
+// Keeps the page that an answer wrote, if it wrote one, and returns how long the kept page then is.
+pub fn keep(page: &mut [u8], kept: usize, written: &[u8]) -> usize
+    ensures { λ r. ⌜ (r ≡ keptWith kept (now (written .entry))) × (now (page .exit) ≡ stored (now (page .entry)) 0 (now (written .entry))) ⌝ }
+{
+    slices::put(page, 0, written);
+    if written.len() == 0 {
+        return kept;
+    }
+    written.len()
 }

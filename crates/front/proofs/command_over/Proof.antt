@@ -1,6 +1,6 @@
--- `front::command_over`: the device is the one that the event tells.
+-- `front::command_over`.
 use borrow.Author.Needs.{needs}
-use Rattle.front.proofs.Afterwards.{device-told}
+use Rattle.front.proofs.Front.{over-left, over-lent}
 use Rattle.front.proofs.command_over.Statement.{statement}
 use Rattle.front.proofs.command_over.Tie as tie
 
@@ -12,8 +12,5 @@ command-over-spec =
     (λ c κs. search needs)
     (λ c κs. search needs)
     (λ c κs. search needs)
-    (λ c κs. search needs)
-    (λ c κs. search needs)
     (λ c. search needs)
-    (λ c. search needs)
-    (λ c. search (device-told)))
+    (λ c. (search (over-left), search (over-lent))))

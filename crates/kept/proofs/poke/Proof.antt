@@ -8,8 +8,6 @@ pub poke-spec : {M : Type 1} → statement M
 poke-spec =
     tie.close
     (tie.spec
-    (λ c. search needs)
-    (λ c κs. search needs)
     (λ c. search (poke-outside))
     (λ c. search needs)
     (λ c κs. search needs)

@@ -11,6 +11,4 @@ set-length-spec =
     (λ c κs. search needs)
     (λ c κs. search needs)
     (λ c. search needs)
-    (λ c κs. search needs)
-    (λ c. search needs)
     (λ c. (search needs, search (length-as-given))))
