@@ -1,62 +1,175 @@
-// The calls of a script, on what it has on its bench. No contract can say what they print.
+// The calls of a script, on what it has on its bench: what each leaves, and what it says.
+ghost use mathlib.Core.Path.{_≡_};
+ghost use Rattle.front.specs.Front.{lentAfter};
+ghost use Rattle.kept.specs.Kept.{pageAfter};
+ghost use Rattle.making.specs.Making.{madeOf};
+ghost use Rattle.paper.specs.Told.{said};
+ghost use Rattle.workbench.specs.Changes.{offering};
+ghost use Rattle.acts.specs.Acts as paper;
 use arguments::Command;
 use arguments::Line;
 use arguments::PageCall;
+use arguments::Poke;
 use device::Stepped;
-use inventory::print_cells;
-use print::print_answer;
+use paper::Answer;
+use request::Request;
 use workbench::Bench;
 
-// Prints an answer, and goes on with the device after it.
-fn after(bench: Bench, s: Stepped) -> Bench {
+// An answer over a lent buffer of `room` bytes, of which it wrote the first `count`.
+pub struct Lent {
+    pub answer: Answer,
+    pub room: usize,
+    pub count: usize,
+}
+
+// What the bench says to a line.
+pub enum Reply {
+    Nothing,
+    NotACall,
+    NoDevice,
+    Outside,
+    Length(usize),
+    Answer(Answer),
+    Command(Lent),
+    Cells,
+    Read(Request),
+}
+
+// The bench after a line, and what it says.
+pub struct Acted {
+    pub bench: Bench,
+    pub reply: Reply,
+}
+
+fn replied(bench: Bench, reply: Reply) -> Acted
+    ensures { λ r. ⌜ paper.acted r ≡ paper.act bench (paper.heard reply) ⌝ }
+{
+    Acted { bench, reply }
+}
+
+// The answer of an event, and the bench with the device after it.
+fn after(bench: Bench, s: Stepped) -> Acted
+    ensures { λ r. ⌜ paper.acted r ≡ paper.afterEvent bench (said (s .answer) (s .device)) ⌝ }
+{
     let answer = s.answer;
     let device = s.device;
-    print_answer(answer);
-    bench.with_device(device)
+    replied(bench.with_device(device), Reply::Answer(answer))
 }
 
 // Offers the list and empties it.
-fn make(bench: Bench, limit: u16) -> Bench {
+fn make(bench: Bench, limit: u16) -> Acted
+    ensures { λ r. ⌜ paper.acted r ≡ paper.afterOffer bench (madeOf (bench .device) (offering bench limit)) ⌝ }
+{
     let there = bench.device;
     let s = making::make_device(there, bench.offering(limit));
     let answer = s.answer;
-    print_answer(answer);
-    bench.after_making(s)
+    replied(bench.after_making(s), Reply::Answer(answer))
 }
 
-// Makes a call that needs no page; any other line leaves the bench as it is.
-fn on_device(bench: Bench, line: Line) -> Bench {
+// The front call; a page that it wrote is kept.
+fn command(bench: Bench, c: Command, page: &mut [u8], lent: &mut [u8]) -> Acted
+    ensures { λ r. ⌜ paper.acted r ≡ paper.afterCommand bench c (now (lent .entry)) ⌝ }
+    ensures { λ _. ⌜ now (page .exit) ≡ paper.keptPage bench c (now (page .entry)) (now (lent .entry)) ⌝ }
+    ensures { λ _. ⌜ now (lent .exit) ≡ lentAfter (bench .device) c (now (lent .entry)) ⌝ }
+{
+    let d = bench.device;
+    let left = front::command(d, c, lent);
+    let kept = kept::keep(page, bench.kept, slices::head(lent, left.count));
+    let answer = left.answer;
+    let device = left.device;
+    let said = Lent {
+        answer,
+        room: left.room,
+        count: left.count,
+    };
+    replied(
+        bench.with_device(device).with_kept(kept),
+        Reply::Command(said),
+    )
+}
+
+// What a call on the kept page says; `length` says how long it then is.
+fn page_reply(call: PageCall, kept: usize, after: usize) -> Reply
+    ensures { λ r. ⌜ paper.heard r ≡ paper.pageSaying call kept after ⌝ }
+{
+    match call {
+        PageCall::Length(_) => Reply::Length(after),
+        PageCall::Poke(p) => poke_reply(p, kept),
+        PageCall::Read(request) => Reply::Read(request),
+    }
+}
+
+fn poke_reply(p: Poke, kept: usize) -> Reply
+    ensures { λ r. ⌜ paper.heard r ≡ paper.pokeSaying p kept ⌝ }
+{
+    if kept <= p.place {
+        return Reply::Outside;
+    }
+    Reply::Nothing
+}
+
+fn on_page(bench: Bench, c: PageCall, page: &mut [u8]) -> Acted
+    ensures { λ r. ⌜ paper.acted r ≡ paper.afterPage bench c (now (page .entry)) ⌝ }
+    ensures { λ _. ⌜ now (page .exit) ≡ pageAfter c (bench .kept) (now (page .entry)) ⌝ }
+{
+    let before = bench.kept;
+    let kept = kept::call(page, before, c);
+    replied(bench.with_kept(kept), page_reply(c, before, kept))
+}
+
+fn needs_device(line: Line) -> bool
+    ensures { λ r. ⌜ r ≡ paper.needsDevice line ⌝ }
+{
+    match line {
+        Line::Passed => false,
+        Line::NotACall => false,
+        Line::Element(_) => false,
+        Line::Make(_) => false,
+        Line::Command(_) => true,
+        Line::Bare(_) => true,
+        Line::Grade(_) => true,
+        Line::Cells => true,
+        Line::Page(_) => false,
+    }
+}
+
+fn lacks_device(made: bool, line: Line) -> bool
+    ensures { λ r. ⌜ r ≡ paper.lacksDevice made line ⌝ }
+{
+    if made {
+        return false;
+    }
+    needs_device(line)
+}
+
+// Makes the call of a line, for which a device is there if it needs one.
+fn obey(bench: Bench, line: Line, page: &mut [u8], lent: &mut [u8]) -> Acted
+    ensures { λ r. ⌜ paper.acted r ≡ paper.actOf bench line (now (page .entry)) (now (lent .entry)) ⌝ }
+    ensures { λ _. ⌜ now (page .exit) ≡ paper.pageOf bench line (now (page .entry)) (now (lent .entry)) ⌝ }
+    ensures { λ _. ⌜ now (lent .exit) ≡ paper.lentOf bench line (now (lent .entry)) ⌝ }
+{
     let d = bench.device;
     match line {
-        Line::Element(e) => bench.offer(e),
+        Line::Passed => replied(bench, Reply::Nothing),
+        Line::NotACall => replied(bench, Reply::NotACall),
+        Line::Element(e) => replied(bench.offer(e), Reply::Nothing),
         Line::Make(limit) => make(bench, limit),
+        Line::Command(c) => command(bench, c, page, lent),
         Line::Bare(b) => after(bench, events::bare(d, b)),
         Line::Grade(g) => after(bench, events::graded(d, g)),
-        Line::Cells => {
-            print_cells(d);
-            bench
-        }
-        _ => bench,
-    }
-}
-
-fn command(bench: Bench, c: Command, page: &mut [u8]) -> Bench {
-    let d = bench.device;
-    let left = front::command(d, c, bench.kept, page);
-    let device = left.device;
-    bench.with_device(device).with_kept(left.kept)
-}
-
-fn on_page(bench: Bench, c: PageCall, page: &mut [u8]) -> Bench {
-    let kept = kept::call(page, bench.kept, c);
-    bench.with_kept(kept)
-}
-
-// Makes the call of a line; one that says none leaves the bench as it is.
-pub fn call(bench: Bench, line: Line, page: &mut [u8]) -> Bench {
-    match line {
-        Line::Command(c) => command(bench, c, page),
+        Line::Cells => replied(bench, Reply::Cells),
         Line::Page(c) => on_page(bench, c, page),
-        _ => on_device(bench, line),
     }
+}
+
+// Makes the call of a line; one that needs a device that is not there changes nothing.
+pub fn call(bench: Bench, line: Line, page: &mut [u8], lent: &mut [u8]) -> Acted
+    ensures { λ r. ⌜ paper.acted r ≡ paper.actedOn bench line (now (page .entry)) (now (lent .entry)) ⌝ }
+    ensures { λ _. ⌜ now (page .exit) ≡ paper.pageOn bench line (now (page .entry)) (now (lent .entry)) ⌝ }
+    ensures { λ _. ⌜ now (lent .exit) ≡ paper.lentOn bench line (now (lent .entry)) ⌝ }
+{
+    if lacks_device(bench.made, line) {
+        return replied(bench, Reply::NoDevice);
+    }
+    obey(bench, line, page, lent)
 }

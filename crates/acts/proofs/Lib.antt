@@ -1,0 +1,2 @@
+-- What is proved of the calls of a script.
+pub mod Acts

@@ -1,0 +1,2 @@
+-- The calls of a script.
+pub mod Acts
