@@ -1,82 +1,181 @@
-// What the bench prints of a device: its cells. No contract can say what was written.
+// What the bench says of a device: a line of its cells and one for each element, stored straight into a lent buffer.
+ghost use mathlib.Core.Path.{_≡_};
+ghost use Prim.Native.Nat.{min};
+ghost use Rattle.writing.specs.Private as writing·private;
+ghost use Rattle.writing.specs.Writing.{storedIn, endedIn};
+ghost use Rattle.inventory.specs.Inventory.{removalText, noteText, positionText, cellsLine, elementLine, elementsBelow, cellsOf};
+ghost use Rattle.inventory.specs.Private as private;
 use cells::Cells;
+use cells::Mark;
 use cells::Note;
 use cells::Position;
+use cells::Removal;
 use device::Device;
-use print::print_line;
+use paper::Lba;
 use table::Part;
-use text::Text;
 
-fn write_note(text: Text, note: Note) -> Text {
+// ---- The cells
+
+fn put_removal(out: &mut [u8], at: usize, w: Removal) -> usize
+    ensures { λ r. ⌜ writing·private.Puts (now (out .entry)) at (removalText w) (now (out .exit)) r ⌝ }
+{
+    let id = writing::hex8(w.element.0);
+    let a = writing::word(out, at, &id);
+    let b = writing::field(out, a, b" ", w.old.0);
+    writing::field(out, b, b" ", w.new.0)
+}
+
+fn put_note(out: &mut [u8], at: usize, note: Note) -> usize
+    ensures { λ r. ⌜ writing·private.Puts (now (out .entry)) at (noteText note) (now (out .exit)) r ⌝ }
+{
     match note {
-        Note::Empty => text.word(b"-"),
-        Note::Full(w) => text.hex8(w.element.0)
-            .field(b" ", w.old.0)
-            .field(b" ", w.new.0),
+        Note::Empty => writing::word(out, at, b"-"),
+        Note::Full(w) => put_removal(out, at, w),
     }
 }
 
-fn is_work(at: Position) -> bool {
-    match at {
-        Position::Work1 | Position::Work2 | Position::Work3 | Position::Work4 | Position::Work5 =>
-            true,
-        _ => false,
+fn step_name(p: Position) -> [u8; 5]
+    ensures { λ r. ⌜ r ≡ positionText p ⌝ }
+{
+    match p {
+        Position::Work1 => *b"work1",
+        Position::Work2 => *b"work2",
+        Position::Work3 => *b"work3",
+        Position::Work4 => *b"work4",
+        Position::Work5 => *b"work5",
+        Position::Wind1 => *b"wind1",
+        Position::Wind2 => *b"wind2",
+        Position::Wind3 => *b"wind3",
+        Position::Wind4 => *b"wind4",
     }
 }
 
-fn step_number(at: Position) -> u64 {
-    match at {
-        Position::Work1 | Position::Wind1 => 1,
-        Position::Work2 | Position::Wind2 => 2,
-        Position::Work3 | Position::Wind3 => 3,
-        Position::Work4 | Position::Wind4 => 4,
-        Position::Work5 => 5,
-    }
+fn put_limits(out: &mut [u8], at: usize, limit: u16, native: Lba, accessible: Lba) -> usize
+    ensures { λ r. ⌜ writing·private.Puts (now (out .entry)) at (private.limitsOf limit native accessible) (now (out .exit)) r ⌝ }
+{
+    let a = writing::field(out, at, b"limit ", limit as u64);
+    let b = writing::field(out, a, b" native ", native.0);
+    writing::field(out, b, b" accessible ", accessible.0)
 }
 
-fn write_position(text: Text, at: Position) -> Text {
-    let n = step_number(at);
-    if is_work(at) {
-        return text.field(b"work", n);
-    }
-    text.field(b"wind", n)
+fn put_failed(out: &mut [u8], at: usize, mark: Mark) -> usize
+    ensures { λ r. ⌜ writing·private.Puts (now (out .entry)) at (private.failedOf mark) (now (out .exit)) r ⌝ }
+{
+    let failed = slices::bit(mark.is_set());
+    writing::field(out, at, b" failed ", failed as u64)
 }
 
-fn print_element(p: Part, health: u8) {
-    let id = Text::nothing().hex8(p.id.0).word(b" ");
-    let element = id.hex2(p.kind).word(b" ").hex2(health);
-    let blocks = element.field(b" ", p.blocks);
-    print_line(blocks.field(b" ", slices::bit(p.unreported) as u64));
+// The cells' line up to the failed mark.
+fn put_numbers(
+    out: &mut [u8],
+    at: usize,
+    limit: u16,
+    native: Lba,
+    accessible: Lba,
+    mark: Mark,
+) -> usize
+    ensures { λ r. ⌜ writing·private.Puts (now (out .entry)) at (private.numbersOf limit native accessible mark) (now (out .exit)) r ⌝ }
+{
+    let a = put_limits(out, at, limit, native, accessible);
+    put_failed(out, a, mark)
 }
 
-fn print_elements(ps: [Part; 128], healths: [u8; 128], count: usize) {
-    let n = table::bounded(count);
-    for i in 0..n {
-        let p = ps[i];
-        print_element(p, healths[i]);
-    }
+// Its end.
+fn put_end(out: &mut [u8], at: usize, p: Position) -> usize
+    ensures { λ r. ⌜ writing·private.Puts (now (out .entry)) at (private.endOf p) (now (out .exit)) r ⌝ }
+{
+    let name = step_name(p);
+    let a = writing::word(out, at, b" position ");
+    let b = writing::word(out, a, &name);
+    writing::word(out, b, b"\n")
 }
 
-fn write_cells(c: Cells, limit: u16) -> Text {
+fn put_line(out: &mut [u8], at: usize, limit: u16, c: Cells, p: Position) -> usize
+    ensures { λ r. ⌜ writing·private.Puts (now (out .entry)) at (cellsLine limit c p) (now (out .exit)) r ⌝ }
+{
     let native = c.native;
     let accessible = c.accessible;
-    Text::nothing()
-        .field(b"limit ", limit as u64)
-        .field(b" native ", native.0)
-        .field(b" accessible ", accessible.0)
+    let mark = c.failed;
+    let note = c.note;
+    let a = put_numbers(out, at, limit, native, accessible, mark);
+    let b = writing::word(out, a, b" note ");
+    let d = put_note(out, b, note);
+    put_end(out, d, p)
 }
 
-pub fn print_cells(d: Device) {
+// ---- The elements
+
+// An element's line up to the health.
+fn head(p: Part, health: u8) -> [u8; 14]
+    ensures { λ r. ⌜ r ≡ private.headOf p health ⌝ }
+{
+    let i = writing::hex8(p.id.0);
+    let k = writing::hex2(p.kind);
+    let h = writing::hex2(health);
+    [
+        i[0],
+        i[1],
+        i[2],
+        i[3],
+        i[4],
+        i[5],
+        i[6],
+        i[7],
+        32,
+        k[0],
+        k[1],
+        32,
+        h[0],
+        h[1],
+    ]
+}
+
+fn put_element(out: &mut [u8], at: usize, p: Part, health: u8) -> usize
+    ensures { λ r. ⌜ writing·private.Puts (now (out .entry)) at (elementLine p health) (now (out .exit)) r ⌝ }
+{
+    let begun = head(p, health);
+    let flag = slices::bit(p.unreported) as u64;
+    let a = writing::word(out, at, &begun);
+    let b = writing::field(out, a, b" ", p.blocks);
+    writing::numbered(out, b, b" ", flag)
+}
+
+// The lines of the first `count` elements.
+fn put_elements(
+    out: &mut [u8],
+    from: usize,
+    ps: [Part; 128],
+    healths: [u8; 128],
+    count: usize,
+) -> usize
+    ensures { λ r. ⌜ writing·private.Puts (now (out .entry)) from (elementsBelow ps healths (min count 128)) (now (out .exit)) r ⌝ }
+{
+    let n = table::bounded(count);
+    let mut at = from;
+    let mut i: usize = 0;
+    while i < n {
+        let p = ps[i];
+        at = put_element(out, at, p, healths[i]);
+        i += 1;
+    }
+    at
+}
+
+// ---- The whole text
+
+// Stores it from a place on and answers where it ends; nothing, where fewer than 6,000 bytes are there, which are enough for every device.
+pub fn put_cells(out: &mut [u8], at: usize, d: Device) -> usize
+    ensures { λ _. ⌜ now (out .exit) ≡ storedIn 6000 (now (out .entry)) at (cellsOf d) ⌝ }
+    ensures { λ r. ⌜ r ≡ endedIn 6000 (now (out .entry)) at (cellsOf d) ⌝ }
+{
+    if !slices::does_fit(6000, at, out.len()) {
+        return at;
+    }
     let t = d.table;
     let c = d.cells;
-    let note = c.note;
     let position = d.position;
-    let mark = c.failed;
-    let failed = slices::bit(mark.is_set()) as u64;
-    let numbers = write_cells(c, t.limit).field(b" failed ", failed);
-    let noted = write_note(numbers.word(b" note "), note).word(b" position ");
-    print_line(write_position(noted, position));
+    let begun = put_line(out, at, t.limit, c, position);
     let ps = t.parts;
     let healths = c.healths;
-    print_elements(ps, healths, t.count);
+    put_elements(out, begun, ps, healths, t.count)
 }

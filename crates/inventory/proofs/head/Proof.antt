@@ -1,0 +1,26 @@
+-- `inventory::head`.
+use borrow.Author.Needs.{needs}
+use Rattle.inventory.proofs.Inventory.{head-laid}
+use Rattle.inventory.proofs.head.Statement.{statement}
+use Rattle.inventory.proofs.head.Tie as tie
+
+pub head-spec : {M : Type 1} → statement M
+head-spec =
+    tie.close
+    (tie.spec
+    (λ c κs. search needs)
+    (λ c κs. search needs)
+    (λ c κs. search needs)
+    (λ c. search needs)
+    (λ c. search needs)
+    (λ c. search needs)
+    (λ c. search needs)
+    (λ c. search needs)
+    (λ c. search needs)
+    (λ c. search needs)
+    (λ c. search needs)
+    (λ c. search needs)
+    (λ c. search needs)
+    (λ c. search needs)
+    (λ c. search needs)
+    (λ c. search (head-laid)))
