@@ -1,41 +1,85 @@
-// What the bench prints of the page that it reads: what it holds, or where it is refused. No contract can say what was written.
+// What the bench says of the page that it reads: what it holds, or where it is refused; stored straight into a lent buffer.
+ghost use mathlib.Core.Path.{_≡_};
+ghost use Rattle.reader.specs.Judgement.{header, heard};
+ghost use Rattle.writing.specs.Private as writing·private;
+ghost use Rattle.writing.specs.Writing.{storedIn, endedIn};
+ghost use Rattle.contents.specs.Contents.{heldLine, slotLine, slotsBelow, readingFor, readingOf};
+ghost use Rattle.contents.specs.Private as private;
 use layout::Descriptor;
 use layout::Header;
-use print::print_line;
-use print::print_number;
-use print::print_words;
 use reader::Judgement;
 use reader::Slot;
 use request::Request;
-use text::Text;
 
-fn print_descriptor(d: Descriptor) {
-    let text = Text::nothing()
-        .hex8(d.id.0)
-        .field(b" ", slices::bit(d.restorable) as u64)
-        .word(b" ");
-    print_line(rows::write_values(text, d));
+// ---- A descriptor's line
+
+// Its identifier and bit, each with the space after it.
+fn head(d: Descriptor) -> [u8; 11]
+    ensures { λ r. ⌜ r ≡ private.headOf d ⌝ }
+{
+    let i = writing::hex8(d.id.0);
+    let bit = 48 + slices::bit(d.restorable);
+    [i[0], i[1], i[2], i[3], i[4], i[5], i[6], i[7], 32, bit, 32]
 }
 
-fn print_slot(slot: Slot) {
-    if let Slot::Holds(d) = slot {
-        print_descriptor(d);
+fn put_held(out: &mut [u8], at: usize, d: Descriptor) -> usize
+    ensures { λ r. ⌜ writing·private.Puts (now (out .entry)) at (heldLine d) (now (out .exit)) r ⌝ }
+{
+    let begun = head(d);
+    let a = writing::word(out, at, &begun);
+    let b = rows::put_values(out, a, d);
+    writing::word(out, b, b"\n")
+}
+
+fn put_slot(out: &mut [u8], at: usize, slot: Slot) -> usize
+    ensures { λ r. ⌜ writing·private.Puts (now (out .entry)) at (slotLine slot) (now (out .exit)) r ⌝ }
+{
+    match slot {
+        Slot::Outside => at,
+        Slot::Holds(d) => put_held(out, at, d),
     }
 }
 
-fn print_contents(page: &[u8], h: Header) {
-    print_words(b"0");
-    print_line(rows::write_header(Text::nothing(), h));
-    for k in 0..h.returned {
-        print_slot(reader::descriptor(page, k));
+// The lines of the first `count` descriptors.
+fn put_slots(out: &mut [u8], from: usize, page: &[u8], count: u32) -> usize
+    ensures { λ r. ⌜ writing·private.Puts (now (out .entry)) from (slotsBelow (now (page .entry)) count) (now (out .exit)) r ⌝ }
+{
+    let mut at = from;
+    let mut k: u32 = 0;
+    while k < count {
+        at = put_slot(out, at, reader::descriptor(page, k));
+        k += 1;
+    }
+    at
+}
+
+// ---- The whole text
+
+fn put_accepted(out: &mut [u8], at: usize, page: &[u8], h: Header) -> usize
+    ensures { λ r. ⌜ writing·private.Puts (now (out .entry)) at (readingFor (now (page .entry)) (header h)) (now (out .exit)) r ⌝ }
+{
+    let a = writing::word(out, at, b"0\n");
+    let b = heading::put_header(out, a, h);
+    put_slots(out, b, page, h.returned)
+}
+
+fn put_judged(out: &mut [u8], at: usize, page: &[u8], answer: Judgement) -> usize
+    ensures { λ r. ⌜ writing·private.Puts (now (out .entry)) at (readingFor (now (page .entry)) (heard answer .state)) (now (out .exit)) r ⌝ }
+{
+    match answer {
+        Judgement::Accepted(h) => put_accepted(out, at, page, h),
+        Judgement::Refused(place) => writing::numbered(out, at, b"9 at ", place as u64),
     }
 }
 
-// Of the first `kept` bytes of a page.
-pub fn print_reading(page: &[u8], kept: usize, request: Request) {
-    let whole = slices::head(page, kept);
-    match reader::read(whole, request) {
-        Judgement::Accepted(h) => print_contents(whole, h),
-        Judgement::Refused(place) => print_number(b"9 at ", place),
+// Stores it from a place on and answers where it ends; nothing, where fewer than 80,000 bytes are there, which are enough for every page.
+pub fn put_reading(out: &mut [u8], at: usize, page: &[u8], request: Request) -> usize
+    ensures { λ _. ⌜ now (out .exit) ≡ storedIn 80000 (now (out .entry)) at (readingOf (now (page .entry)) request) ⌝ }
+    ensures { λ r. ⌜ r ≡ endedIn 80000 (now (out .entry)) at (readingOf (now (page .entry)) request) ⌝ }
+{
+    if !slices::does_fit(80000, at, out.len()) {
+        return at;
     }
+    let kept = slices::head(page, 65536);
+    put_judged(out, at, kept, reader::read(kept, request))
 }

@@ -1,0 +1,5 @@
+-- What the bench says of the page that it reads.
+
+pub mod Contents
+pub mod Private
+pub mod Promises
