@@ -5,7 +5,7 @@ use mathlib.Core.List.{List, [], _∷_, _++_}
 use mathlib.Core.Path.{_≡_, refl, sym, ap, _∙_}
 use native.Mathlib.Numerals.{add-one}
 use native.Mathlib.Omega.{arith}
-use lib.Dec.{eqb}
+use lib.Dec.{eqb, leb}
 use lib.ListN.{length, take, drop, getD, replicate, length-append, length-take, length-drop, drop-of-length-le}
 use lib.Seq.{drop-cons, getD-take}
 use borrow.Author.Tests.{eq-eqb, ne-eqb, le-leb, lt-leb}
@@ -17,6 +17,7 @@ use Rattle.text.specs.Text.{ascii}
 use Rattle.writing.proofs.Puts.{ended-none, puts-none, puts-one, puts-same, puts-more, whole-stored-in, whole-ended-in}
 use Rattle.writing.specs.Private.{Puts}
 use Rattle.writing.specs.Writing.{numberLine, storedIn, endedIn}
+use Rattle.dump.specs.Promises.{Enough}
 use Rattle.dump.specs.Dump.{rowAt, rowLine, rowsBelow, isZero, shownOf, zerosLine, rowsOf, pageText, firstTouched, touchedText}
 
 -- ## A row
@@ -149,6 +150,20 @@ module _ (page w : List ℕ) (n k : ℕ) (is-w : w ≡ take 65536 page) (is-n : 
     pub page-ended : r ≡ endedIn 134000 d at (pageText page)
     page-ended = whole-ended-in (pageText page) d at 134000 t is-t yes length-page y r puts
 
+shown-few : (s : List ℕ) (n : ℕ) → shownOf s n ≤ n
+unfolding shownOf
+shown-few s zero = omega arith
+shown-few s (suc n) = by-test (isZero (rowAt s n)) (shown-few s n)
+  where
+    by-test : (t : Bool) → shownOf s n ≤ n → cond t (shownOf s n) (suc n) ≤ suc n
+    by-test true few = omega arith
+    by-test false few = omega arith
+
+pub enough : Enough
+enough s =
+    let w : List ℕ = take 65536 s in
+    length-page s w (length w / 32) (shownOf w (length w / 32)) refl refl refl (shown-few w (length w / 32))
+
 -- ## What was left alone
 
 module _ (lent : List ℕ) (from i : ℕ) (so : firstTouched i (drop i lent) ≡ firstTouched from (drop from lent)) where
@@ -187,3 +202,11 @@ module _ (lent d : List ℕ) (from at p : ℕ) (is-p : p ≡ firstTouched from (
 
     pub touched-ended : (r : ℕ) → r ≡ ended d at (numberLine (ascii "touched ") p) → r ≡ ended d at (touchedText lent from)
     touched-ended r is-r = is-r ∙ sym (ap (ended d at) line)
+
+pub length-touched : (lent : List ℕ) (from : ℕ) → length (touchedText lent from) ≤ 29
+unfolding touchedText
+length-touched lent from = by-test (leb (length lent) (firstTouched from (drop from lent)))
+  where
+    by-test : (t : Bool) → length (cond t [] (numberLine (ascii "touched ") (firstTouched from (drop from lent)))) ≤ 29
+    by-test true = omega arith
+    by-test false = simp length-append (omega (arith, length-decimal (firstTouched from (drop from lent))))

@@ -1,2 +1,3 @@
 -- A lent buffer as text.
 pub mod Dump
+pub mod Promises

@@ -1,0 +1,3 @@
+-- What the bench says, as text.
+pub mod Promises
+pub mod Replies

@@ -1,0 +1,48 @@
+-- docs/BENCH.md: what the bench says to a line, as text.
+use Prim.Native.Nat.{ℕ}
+use mathlib.Core.List.{List, [], _++_}
+use lib.ListN.{take}
+use Rattle.acts.specs.Acts.{Saying, nothing, notACall, noDevice, outside, longNow, answered, commanded, cells, reads}
+use Rattle.contents.specs.Contents.{readingOf}
+use Rattle.device.specs.declared.Device.{Device}
+use Rattle.dump.specs.Dump.{pageText, touchedText}
+use Rattle.inventory.specs.Inventory.{cellsOf}
+use Rattle.paper.specs.Answers.{senseOf}
+use Rattle.paper.specs.declared.Sense.{Sense}
+use Rattle.paper.specs.declared.Sensed.the-variants.{None, Codes}
+use Rattle.paper.specs.declared.Sensed.{Sensed}
+use Rattle.text.specs.Digits.{digits, decimalOf}
+use Rattle.text.specs.Text.{ascii}
+use Rattle.writing.specs.Writing.{numberLine}
+
+-- ## An answer
+
+-- "followed for 0 to 6 by a space and the sense `K/AA/QQ` (1, 2 and 2 upper hex digits)"
+abbrev pub codesText : Sense → List ℕ
+codesText s = ascii " " ++ digits 16 1 (s .key) ++ ascii "/" ++ digits 16 2 (s .asc) ++ ascii "/" ++ digits 16 2 (s .ascq)
+
+abbrev pub senseText : Sensed → List ℕ
+senseText None = []
+senseText (Codes s) = codesText s
+
+-- "An answer is the number in decimal"
+unfoldable pub answerLine : ℕ → List ℕ
+answerLine n = decimalOf n ++ senseText (senseOf n) ++ ascii "\n"
+
+-- the front call's, over a lent buffer of `room` bytes, of which it wrote the first `count`: "the page .. follows", then `touched`
+unfoldable pub lentText : ℕ → ℕ → ℕ → List ℕ → List ℕ
+lentText n room count lent = answerLine n ++ pageText (take count (take room lent)) ++ touchedText (take room lent) count
+
+-- ## A reply
+
+-- of the device, the kept page and the lent buffer after the call
+abbrev pub textOf : Saying → Device → List ℕ → List ℕ → List ℕ
+textOf nothing d page lent = []
+textOf notACall d page lent = ascii "not a call\n"
+textOf noDevice d page lent = ascii "no device\n"
+textOf outside d page lent = ascii "outside\n"
+textOf (longNow n) d page lent = numberLine (ascii "length ") n
+textOf (answered n) d page lent = answerLine n
+textOf (commanded n room count) d page lent = lentText n room count lent
+textOf cells d page lent = cellsOf d
+textOf (reads q) d page lent = readingOf page q
