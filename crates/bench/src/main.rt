@@ -1,12 +1,43 @@
-// Runs scripts of calls on one device, and answers each call. A script is a file that an argument names, after a line with its name;
-// without arguments it is standard input.
+// Runs scripts of calls on one device, and hands out what each line says. A script is a file that an argument names, after a line with its
+// name; without arguments it is standard input.
+ghost use mathlib.Core.Path.{_≡_};
+ghost use lib.ListN.{length};
 use libc::STDIN_FILENO;
 use libc::STDOUT_FILENO;
+use runs::Run;
+
+// Room for every reply.
+fn text_room() -> [u8; 140000]
+    ensures { λ r. ⌜ 140000 ≡ length r ⌝ }
+{
+    [0u8; 140000]
+}
+
+fn hand_out(text: &[u8]) {
+    if !io::write_all(STDOUT_FILENO, text) {
+        os::fail(b"bench: standard output");
+    }
+}
+
+// Runs the lines that end in a piece of input, over the kept page, the buffer of the front call and room for what a line says.
+fn run_piece(begun: Run, piece: &[u8], page: &mut [u8], lent: &mut [u8], out: &mut [u8]) -> Run {
+    let mut run = begun;
+    let mut at: usize = 0;
+    while at < piece.len() {
+        let went = runs::go_on(run, piece, at, page, lent, out);
+        hand_out(slices::head(out, went.said));
+        at = went.at;
+        run = went.run;
+    }
+    run
+}
 
 // A script from an empty bench; its end ends its last line. Nothing says that input ends, so its pieces are counted down from a number that
 // no run uses up.
 fn run_script(fd: i32, name: &[u8]) {
     let mut page = io::large_buffer();
+    let mut lent = io::large_buffer();
+    let mut out = text_room();
     let mut run = runs::new_run();
     let mut pieces = u64::MAX;
     while 0 < pieces {
@@ -20,10 +51,11 @@ fn run_script(fd: i32, name: &[u8]) {
         if n == 0 {
             break;
         }
-        run = runs::run_piece(run, &piece[..n], &mut page);
+        run = run_piece(run, &piece[..n], &mut page, &mut lent, &mut out);
         pieces -= 1;
     }
-    runs::end_run(run, &mut page);
+    let said = runs::end_run(run, &mut page, &mut lent, &mut out);
+    hand_out(slices::head(&out, said));
 }
 
 fn run_file(i: usize) {

@@ -1,2 +1,2 @@
--- What a script starts from.
-pub mod Begin
+-- A script as it runs.
+pub mod Runs
