@@ -1,16 +1,11 @@
-// Makes the call of each case twice, the proved one and the one in plain C, counts both by single steps and compares what they leave.
+// Makes the call of each case twice, the proved one and the one in plain C, counts both by the trap flag and compares what they leave.
 // Exit status: 0 within the limits, 1 a figure is over its limit, 2 trouble, a difference among it.
-#define _GNU_SOURCE
 #include "plain.h"
 #include "record.h"
-#include <signal.h>
-#include <stdio.h>
-#include <string.h>
-#include <sys/mman.h>
-#include <sys/ptrace.h>
-#include <sys/user.h>
-#include <sys/wait.h>
-#include <unistd.h>
+#include "traps.h"
+
+int dprintf(int file, const char *form, ...);
+int printf(const char *form, ...);
 
 // ---- The cases
 
@@ -74,8 +69,8 @@ static void take_steps(int steps)
 // The device of a case, brought there by plain C's calls, and a copy of it in the proved record.
 static void set_up(const struct kase *k, int elements)
 {
-    plain.count = elements;
-    plain.limit = 2;
+    plain = (struct plain_device){.count = elements, .limit = 2};
+    proved = (struct device){0};
     for (int i = 0; i < elements; i++)
         plain.elements[i] = (struct element){.id = 2 * i + 2, .kind = i == 0 ? 2 : 1, .health = 0x70, .blocks = i == 0 ? 0 : 1000};
     plain.native = plain.accessible = 1000 * (elements - 1) - 1;
@@ -204,98 +199,85 @@ struct figures {
     long tables, table_bytes, copies, copy_bytes, clears, clear_bytes;
 };
 
-// What a case has come to. Shared between the process that makes the calls and the one that follows it.
+// What a case has come to.
 struct row {
     struct figures proved, plain;
     const char *trouble;
 };
 
-static struct figures *counted;
+static struct figures uncounted, *counted = &uncounted;
+static uint64_t top; // The stack where the call begins.
 
-// Both objects copy and clear through these. 1 KB and more can only be the table, alone or with the rest of the device.
-void *counted_memcpy(void *to, const void *from, size_t size)
+// Both forms of a call copy and clear through these, which stand in the C library's place. 1 KB and more can only be the table, alone or with
+// the rest of the device. Their own instructions are in a section of their own, and are not counted.
+#define MOVE __attribute__((section("moves"))) void *
+extern char __start_moves[], __stop_moves[];
+
+MOVE memmove(void *to, const void *from, size_t size)
 {
+    char *t = to;
+    const char *f = from;
     *(size >= 1024 ? &counted->tables : &counted->copies) += 1;
     *(size >= 1024 ? &counted->table_bytes : &counted->copy_bytes) += size;
+    if (t <= f)
+        for (size_t i = 0; i < size; i++)
+            t[i] = f[i];
+    else
+        for (size_t i = size; i > 0; i--)
+            t[i - 1] = f[i - 1];
+    return to;
+}
+
+MOVE memcpy(void *to, const void *from, size_t size)
+{
     return memmove(to, from, size);
 }
 
-void *counted_memmove(void *to, const void *from, size_t size)
-{
-    return counted_memcpy(to, from, size);
-}
-
-void *counted_memset(void *to, int byte, size_t size)
+MOVE memset(void *to, int byte, size_t size)
 {
     counted->clears += 1;
     counted->clear_bytes += size;
-    return memset(to, byte, size);
+    for (size_t i = 0; i < size; i++)
+        ((char *)to)[i] = byte;
+    return to;
 }
 
-// The code of the two objects: `measure` has given each a section of its own.
-extern char __start_proved_text[], __stop_proved_text[], __start_plain_text[], __stop_plain_text[];
-
-// Where single steps end.
-__attribute__((noinline)) static void called(void)
+static void count(uint64_t at, uint64_t stack)
 {
-    __asm__ volatile("");
+    if (at >= (uint64_t)__start_moves && at < (uint64_t)__stop_moves)
+        return;
+    if (counted->own++ == 0)
+        top = stack;
+    if (counted->stack < (long)(top - stack))
+        counted->stack = top - stack;
 }
 
-static void make_calls(const struct kase *k, int elements, struct row *row)
-{
-    uint16_t count = k->asked.element == NONE ? k->asked.count : identifier(k->asked.element, elements);
-    set_up(k, elements);
-    counted = &row->proved;
-    raise(SIGTRAP);
-    int proved_answer = call_proved(k->call, &k->asked, count);
-    called();
-    counted = &row->plain;
-    raise(SIGTRAP);
-    int plain_answer = call_plain(k->call, &k->asked, count);
-    called();
-    row->trouble = proved_answer == plain_answer ? difference() : "another answer than plain C";
-}
+// Where each call begins, in both forms.
+static void *const proved_calls[] = {calls_step,     calls_media_error,    calls_power_cut,      calls_comreset,
+                                     calls_hardware_reset, calls_software_reset, calls_remove, calls_grade,
+                                     calls_command,  calls_show};
+static void *const plain_calls[] = {plain_step,  plain_media_error, plain_power_cut, plain_reset,   plain_reset,
+                                    plain_reset, plain_remove,      plain_grade,     plain_command, plain_show};
 
-// Steps through one call, from the trap before it. 0 if the process has ended.
-static int follow(pid_t child, const char *start, const char *stop, struct figures *f)
-{
-    struct user_regs_struct regs = {0};
-    unsigned long top = 0;
-    int status;
-    while (regs.rip != (unsigned long)called) {
-        if (waitpid(child, &status, 0) < 0 || !WIFSTOPPED(status))
-            return 0;
-        int other = WSTOPSIG(status) == SIGTRAP ? 0 : WSTOPSIG(status); // A signal that is none of ours is handed on.
-        if (ptrace(PTRACE_GETREGS, child, 0, &regs) != 0)
-            kill(child, SIGKILL);
-        if (!other && regs.rip >= (unsigned long)start && regs.rip < (unsigned long)stop) {
-            f->own++;
-            if (top == 0)
-                top = regs.rsp;
-            if (f->stack < (long)(top - regs.rsp))
-                f->stack = top - regs.rsp;
-        }
-        if (ptrace(regs.rip == (unsigned long)called ? PTRACE_CONT : PTRACE_SINGLESTEP, child, 0, other) != 0)
-            kill(child, SIGKILL);
-    }
-    return 1;
-}
-
-// Counts a case in a process of its own.
+// Makes the call of a case in both forms.
 static void measure(const struct kase *k, int elements, struct row *row)
 {
-    *row = (struct row){.trouble = "the calls did not return"};
-    pid_t child = fork();
-    if (child == 0) {
-        if (ptrace(PTRACE_TRACEME, 0, 0, 0) == 0)
-            make_calls(k, elements, row);
-        else
-            row->trouble = "single steps (ptrace) are not allowed here";
-        _exit(0);
-    }
-    if (child > 0 && follow(child, __start_proved_text, __stop_proved_text, &row->proved) &&
-        follow(child, __start_plain_text, __stop_plain_text, &row->plain))
-        waitpid(child, NULL, 0);
+    uint16_t number = k->asked.element == NONE ? k->asked.count : identifier(k->asked.element, elements);
+    *row = (struct row){0};
+    set_up(k, elements);
+    counted = &row->proved;
+    begin_traps(proved_calls[k->call]);
+    int proved_answer = call_proved(k->call, &k->asked, number);
+    end_traps();
+    counted = &row->plain;
+    begin_traps(plain_calls[k->call]);
+    int plain_answer = call_plain(k->call, &k->asked, number);
+    end_traps();
+    counted = &uncounted;
+    if (row->proved.own == 0 || row->plain.own == 0)
+        row->trouble = "no counter: the processor's trap flag does not work here";
+    else
+        row->trouble = proved_answer == plain_answer ? difference() : "another answer than plain C";
 }
 
 // ---- The table
@@ -316,7 +298,7 @@ static void print(const struct kase *k, int elements, const struct row *row)
 
 static void say(const struct kase *k, int elements, const char *words)
 {
-    fprintf(stderr, "speed: %s %s, %d elements: %s", names[k->call], k->path, elements, words);
+    dprintf(2, "speed: %s %s, %d elements: %s", names[k->call], k->path, elements, words);
 }
 
 // Says so if a figure is over its limit.
@@ -325,7 +307,7 @@ static int is_over(const struct kase *k, int elements, const char *what, long fi
     if (figure <= limit)
         return 0;
     say(k, elements, what);
-    fprintf(stderr, " %ld, limit %ld\n", figure, limit);
+    dprintf(2, " %ld, limit %ld\n", figure, limit);
     return 1;
 }
 
@@ -345,22 +327,18 @@ int main(void)
 {
     static const int sizes[] = {4, 128};
     int over = 0;
-    struct row *row = mmap(NULL, sizeof *row, PROT_READ | PROT_WRITE, MAP_SHARED | MAP_ANONYMOUS, -1, 0);
-    if (row == MAP_FAILED) {
-        perror("speed: mmap");
-        return 2;
-    }
+    struct row row;
     print_names();
     for (size_t s = 0; s < sizeof sizes / sizeof *sizes; s++)
         for (size_t i = 0; i < sizeof cases / sizeof *cases; i++) {
-            measure(&cases[i], sizes[s], row);
-            if (row->trouble) {
-                say(&cases[i], sizes[s], row->trouble);
-                fputc('\n', stderr);
+            measure(&cases[i], sizes[s], &row);
+            if (row.trouble) {
+                say(&cases[i], sizes[s], row.trouble);
+                dprintf(2, "\n");
                 return 2;
             }
-            print(&cases[i], sizes[s], row);
-            over |= does_exceed(&cases[i], sizes[s], row);
+            print(&cases[i], sizes[s], &row);
+            over |= does_exceed(&cases[i], sizes[s], &row);
         }
     return over;
 }

@@ -1,6 +1,5 @@
 // Document 01 in plain C, in place: what `./recorder speed` sets beside the proved calls.
 #include "plain.h"
-#include <string.h>
 
 #define LBA_BITS ((1ull << 48) - 1)
 
@@ -195,7 +194,7 @@ int plain_show(const struct plain_device *d, uint16_t feature, uint16_t pages, u
 // Open during a removal (002): the code, and masks for what FEATURE and LBA have to be.
 static const struct {
     uint8_t code, feature_mask, feature, lba_mask, lba;
-} open[] = {
+} open_codes[] = {
     {0xEC, 0, 0, 0, 0},
     {0xE1, 0, 0, 0, 0},
     {0x2F, 0, 0, 0xFF, 0x04},
@@ -216,8 +215,9 @@ static const struct {
 
 static int is_open(uint8_t code, uint16_t feature, uint64_t lba)
 {
-    for (size_t i = 0; i < sizeof open / sizeof *open; i++)
-        if (open[i].code == code && (feature & open[i].feature_mask) == open[i].feature && (lba & open[i].lba_mask) == open[i].lba)
+    for (size_t i = 0; i < sizeof open_codes / sizeof *open_codes; i++)
+        if (open_codes[i].code == code && (feature & open_codes[i].feature_mask) == open_codes[i].feature &&
+            (lba & open_codes[i].lba_mask) == open_codes[i].lba)
             return 1;
     return 0;
 }

@@ -1,6 +1,5 @@
 // The same device and calls in plain C.
-#include <stddef.h>
-#include <stdint.h>
+#include "libc.h"
 
 struct element {
     uint64_t blocks;

@@ -1,7 +1,6 @@
 // The device record and the lent calls as the kit's compiler lays them out: the fields are those of crates/table and crates/device, in their
 // order. A slip here shows as a difference from plain C.
-#include <stddef.h>
-#include <stdint.h>
+#include "libc.h"
 
 struct part {
     uint32_t id;
