@@ -253,11 +253,14 @@ static void count(uint64_t at, uint64_t stack)
 }
 
 // Where each call begins, in both forms.
-static void *const proved_calls[] = {calls_step,     calls_media_error,    calls_power_cut,      calls_comreset,
-                                     calls_hardware_reset, calls_software_reset, calls_remove, calls_grade,
-                                     calls_command,  calls_show};
-static void *const plain_calls[] = {plain_step,  plain_media_error, plain_power_cut, plain_reset,   plain_reset,
-                                    plain_reset, plain_remove,      plain_grade,     plain_command, plain_show};
+static void *const proved_calls[] = {
+    calls_step,           calls_media_error, calls_power_cut, calls_comreset, calls_hardware_reset,
+    calls_software_reset, calls_remove,      calls_grade,     calls_command,  calls_show,
+};
+static void *const plain_calls[] = {
+    plain_step,  plain_media_error, plain_power_cut, plain_reset,   plain_reset,
+    plain_reset, plain_remove,      plain_grade,     plain_command, plain_show,
+};
 
 // Makes the call of a case in both forms.
 static void measure(const struct kase *k, int elements, struct row *row)
