@@ -12,7 +12,7 @@ use Rattle.paper.specs.declared.ElementId.{ElementId}
 use Rattle.reach.specs.Pages.{countOf, elementAt, boundOf, endOf}
 use Rattle.compare.specs.Differences.{alike, absent, standing, differenceAt, differencesIn, differencesOf}
 use Rattle.compare.specs.Promises.{Walk-gives}
-use Rattle.compare.specs.Walk.{cursor, first, keyAt, agreeAt, foundBy, stepAt, nextOf, ahead, after, walkFrom}
+use Rattle.compare.specs.Walk.{cursor, first, frameOf, keyAt, agreeAt, foundBy, stepAt, nextOf, ahead, after, walkFrom}
 use Rattle.compare.specs.declared.Cursor.{Cursor}
 use Rattle.compare.specs.declared.Line.the-variants.{OnlyOlder, OnlyNewer, Changed}
 use Rattle.compare.specs.declared.Line.{Line}
@@ -49,7 +49,7 @@ module _ (s t : List ℕ) where
       let none = f (numbered a) (omega arith) (omega (arith, is-b)) in
       rw (one, at-none (numbered a) (none .0) (none .1)) (skip m n (m + n) (suc a) b refl (omega (arith, is-b)) (λ id l h. f id (omega (arith, l)) h))
 
-  end : ElementId
+  abbrev end : ElementId
   end = endOf (boundOf s t)
 
   -- ## From one cursor, if the walk is right from those further on
@@ -60,10 +60,10 @@ module _ (s t : List ℕ) where
   module _ (up-s : Ascends s) (up-t : Ascends t) (c : Cursor) (a n : ℕ) (all : a + n ≡ end .0 + 1) (of-s : Split s (c .older) a) (of-t : Split t (c .newer) a)
       (further : (d : Cursor) (b m : ℕ) → ahead s t d < ahead s t c → b + m ≡ end .0 + 1 → Split s (d .older) b → Split t (d .newer) b → walkFrom s t d ≡ differencesIn s t b m) where
     x : ℕ
-    x = keyAt s (c .older) end
+    x = keyAt s (countOf s) (c .older) end
 
     y : ℕ
-    y = keyAt t (c .newer) end
+    y = keyAt t (countOf t) (c .newer) end
 
     nowhere : (m : ℕ) → m ≤ x → m ≤ y → (id : ElementId) → a ≤ id .0 → id .0 < m → (standing s id ≡ absent) × (standing t id ≡ absent)
     unfolding x y
@@ -77,24 +77,24 @@ module _ (s t : List ℕ) where
         skip (m - a) (suc (end .0 - m)) n a m (omega (arith, all)) (omega arith) (nowhere m l r)
         ∙ ap (λ (k : ℕ). differenceAt s t (numbered m) ++ differencesIn s t k (end .0 - m)) (sym (add-one m))
 
-    steps : (r : Step) → agreeAt s t end c ≡ false → r ≡ stepAt s t end c → r ≡ nextOf s t c
-    unfolding nextOf end
-    steps r n is-r = next-here s t (endOf (boundOf s t)) c false (sym n) refl r is-r
+    steps : (r : Step) → agreeAt s t (frameOf s t) c ≡ false → r ≡ stepAt s t (frameOf s t) c → r ≡ nextOf s t c
+    unfolding nextOf
+    steps r n is-r = next-here s t (frameOf s t) c n r is-r
 
-    finds : (r : Step) → agreeAt s t end c ≡ false → min x y ≤ end .0 → r ≡ foundBy x y c → r ≡ nextOf s t c
+    finds : (r : Step) → agreeAt s t (frameOf s t) c ≡ false → min x y ≤ end .0 → r ≡ foundBy x y c → r ≡ nextOf s t c
     unfolding x y
-    finds r n l is-r = steps r n (step-found s t end c x y refl refl (min x y) refl l r is-r)
+    finds r n l is-r = steps r n (step-found s t (frameOf s t) c x y refl refl (min x y) refl l r is-r)
 
-    apart : (x ≡ y → ⊥) → agreeAt s t end c ≡ false
+    apart : (x ≡ y → ⊥) → agreeAt s t (frameOf s t) c ≡ false
     unfolding x y
-    apart n = sym (agree-other s t end c x y refl refl n)
+    apart n = sym (agree-other s t (frameOf s t) c x y refl refl n)
 
-    beyond : end .0 < x → agreeAt s t end c ≡ false
+    beyond : end .0 < x → agreeAt s t (frameOf s t) c ≡ false
     unfolding x y
     beyond l = by-test (eqb x y) refl
       where
-        by-test : (b : Bool) → eqb x y ≡ b → agreeAt s t end c ≡ false
-        by-test true p = sym (agree-beyond s t end c x y refl refl (eqb-true x y p) l)
+        by-test : (b : Bool) → eqb x y ≡ b → agreeAt s t (frameOf s t) c ≡ false
+        by-test true p = sym (agree-beyond s t (frameOf s t) c x y refl refl (eqb-true x y p) l)
         by-test false p = apart (eqb-false x y p)
 
     -- ## The four ways
@@ -102,14 +102,14 @@ module _ (s t : List ℕ) where
     none-left : end .0 < x → end .0 < y → Right c a n
     unfolding x y differencesIn Right
     none-left l r =
-        walk-done s t c (steps Done (beyond l) (step-done s t end c x y refl refl (min x y) refl (le-min l r)))
+        walk-done s t c (steps Done (beyond l) (step-done s t (frameOf s t) c x y refl refl (min x y) refl (le-min l r)))
         ∙ sym (skip n 0 n a (a + n) (omega arith) refl (nowhere (a + n) (omega (arith, all)) (omega (arith, all))))
 
     only-older : x < y → x ≤ end .0 → Right c a n
     unfolding x y Right differenceAt
     only-older l in-end =
         let low : a ≤ x = not-below s up-s (c .older) end a of-s x refl in-end in
-        let inside-s : c .older < countOf s = inside s (c .older) end in-end in
+        let inside-s : c .older < countOf s = inside s (countOf s) (c .older) end in-end in
         let line : differenceAt s t (numbered x) ≡ OnlyOlder (c .older) ∷ [] =
         rw (stands-there s up-s (c .older) end a of-s x refl in-end, between t up-t (c .newer) end a of-t (numbered x) low l) in
         walk-found s t c _ (finds _ (apart (λ e. omega arith)) (omega (arith, min-le-left x y)) (found-older x y c _ l refl))
@@ -124,7 +124,7 @@ module _ (s t : List ℕ) where
     unfolding x y Right differenceAt
     only-newer l in-end =
         let low : a ≤ y = not-below t up-t (c .newer) end a of-t y refl in-end in
-        let inside-t : c .newer < countOf t = inside t (c .newer) end in-end in
+        let inside-t : c .newer < countOf t = inside t (countOf t) (c .newer) end in-end in
         let line : differenceAt s t (numbered y) ≡ OnlyNewer (c .newer) ∷ [] =
         rw (between s up-s (c .older) end a of-s (numbered y) low l, stands-there t up-t (c .newer) end a of-t y refl in-end) in
         walk-found s t c _ (finds _ (apart (λ e. omega arith)) (omega (arith, min-le-right x y)) (found-newer x y c _ l refl))
@@ -146,7 +146,7 @@ module _ (s t : List ℕ) where
       rest : walkFrom s t on ≡ differencesIn s t (x + 1) (end .0 - x)
       unfolding x y on
       rest =
-          further (cursor (c .older + 1) (c .newer + 1)) (x + 1) (end .0 - x) (omega (arith, inside s (c .older) end in-end)) (omega (arith, in-end))
+          further (cursor (c .older + 1) (c .newer + 1)) (x + 1) (end .0 - x) (omega (arith, inside s (countOf s) (c .older) end in-end)) (omega (arith, in-end))
           (past-it s up-s (c .older) end a of-s x refl in-end)
           (past-it t up-t (c .newer) end a of-t x same in-end)
 
@@ -154,15 +154,15 @@ module _ (s t : List ℕ) where
       unfolding x y differenceAt
       both-stand = rw (stands-there s up-s (c .older) end a of-s x refl in-end, stands-there t up-t (c .newer) end a of-t x same in-end)
 
-      agree : alike (elementAt s (c .older)) (elementAt t (c .newer)) ≡ agreeAt s t end c
+      agree : alike (elementAt s (c .older)) (elementAt t (c .newer)) ≡ agreeAt s t (frameOf s t) c
       unfolding x y
-      agree = agree-if s t end c x y refl refl same in-end
+      agree = agree-if s t (frameOf s t) c x y refl refl same in-end
 
       unchanged : alike (elementAt s (c .older)) (elementAt t (c .newer)) ≡ true → walkFrom s t c ≡ differenceAt s t (numbered x) ++ differencesIn s t (x + 1) (end .0 - x)
-      unfolding nextOf end on
+      unfolding nextOf on
       unchanged e =
           let none : differenceAt s t (numbered x) ≡ [] = both-stand ∙ ap (λ (b : Bool). cond b [] (Changed c ∷ [])) e in
-          let next : nextOf s t c ≡ nextOf s t on = next-on s t (endOf (boundOf s t)) c true (sym e ∙ agree) refl in
+          let next : nextOf s t c ≡ nextOf s t on = next-on s t (frameOf s t) c (sym agree ∙ e) in
           walk-ends s t c ∙ ap (λ (r : Step). after r (walkFrom s t)) next ∙ sym (walk-ends s t on) ∙ rest
           ∙ ap (λ (ls : List Line). ls ++ differencesIn s t (x + 1) (end .0 - x)) (sym none)
 
@@ -204,7 +204,7 @@ module _ (s t : List ℕ) where
       right-here up-s up-t c a n all of-s of-t (λ d b m less. right up-s up-t left d b m (omega (arith, l, less)))
 
 pub walk-gives : Walk-gives
-unfolding differencesOf end
+unfolding differencesOf
 walk-gives s t q of-s of-t =
     let up-s : Ascends s = ascends s q of-s in
     let up-t : Ascends t = ascends t q of-t in

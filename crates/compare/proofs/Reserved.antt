@@ -12,8 +12,9 @@ use Rattle.reader.specs.Reserved.{Looks-alike}
 use Rattle.words.specs.declared.Order.the-variants.{Little}
 use Rattle.compare.specs.Differences.{alike, Standing, absent, stands, standingIn, standing, difference, differenceAt, differencesIn, differencesOf}
 use Rattle.compare.specs.Promises.{Reserved-uncompared}
-use Rattle.compare.specs.Walk.{cursor, keyAt, agreeAt, foundBy, stepAt, past, nextTo, nextOf}
+use Rattle.compare.specs.Walk.{cursor, frameOf, keyAt, agreeAt, foundBy, stepAt, past, nextTo, nextOf}
 use Rattle.compare.specs.declared.Cursor.{Cursor}
+use Rattle.compare.specs.declared.Frame.{Frame}
 use Rattle.compare.specs.declared.Line.the-variants.{Changed}
 use Rattle.compare.specs.declared.Step.the-variants.{Done}
 
@@ -28,9 +29,9 @@ module _ (s s′ : List ℕ) (same : Looks-alike Little s s′) where
   unfolding standing
   standing-same id = λ i. standing-below id (count-same s s′ same i) i
 
-  key-same : (k : ℕ) (end : ElementId) → keyAt s k end ≡ keyAt s′ k end
+  key-same : (count k : ℕ) (end : ElementId) → keyAt s count k end ≡ keyAt s′ count k end
   unfolding keyAt
-  key-same k end = λ i. cond (ltb k (count-same s s′ same i)) (element-same s s′ same k i .id .0) (end .0 + 1)
+  key-same count k end = λ i. cond (ltb k count) (element-same s s′ same k i .id .0) (end .0 + 1)
 
 -- ## Both
 
@@ -54,37 +55,40 @@ module _ (s s′ t t′ : List ℕ) (older : Looks-alike Little s s′) (newer :
   end-same : endOf (boundOf s t) ≡ endOf (boundOf s′ t′)
   end-same = λ i. endOf (bound-same s s′ t t′ older newer i)
 
+  frame-same : frameOf s t ≡ frameOf s′ t′
+  frame-same = λ i. record { last = cursor (count-same s s′ older i) (count-same t t′ newer i); end = end-same i }
+
   differences-same : differencesOf s t ≡ differencesOf s′ t′
   unfolding differencesOf
   differences-same = λ i. differences-in (end-same i .0) 1 i
 
-  module _ (end : ElementId) where
-    agree-same : (c : Cursor) → agreeAt s t end c ≡ agreeAt s′ t′ end c
+  module _ (f : Frame) where
+    agree-same : (c : Cursor) → agreeAt s t f c ≡ agreeAt s′ t′ f c
     unfolding agreeAt
     agree-same c = λ i.
-        let a = key-same s s′ older (c .older) end i in
-        eqb a (key-same t t′ newer (c .newer) end i)
-        && (leb a (end .0) && alike (element-same s s′ older (c .older) i) (element-same t t′ newer (c .newer) i))
+        let a = key-same s s′ older (f .last .older) (c .older) (f .end) i in
+        eqb a (key-same t t′ newer (f .last .newer) (c .newer) (f .end) i)
+        && (leb a (f .end .0) && alike (element-same s s′ older (c .older) i) (element-same t t′ newer (c .newer) i))
 
-    step-same : (c : Cursor) → stepAt s t end c ≡ stepAt s′ t′ end c
+    step-same : (c : Cursor) → stepAt s t f c ≡ stepAt s′ t′ f c
     unfolding stepAt
     step-same c = λ i.
-        let a = key-same s s′ older (c .older) end i in
-        let b = key-same t t′ newer (c .newer) end i in
-        cond (ltb (end .0) (min a b)) Done (foundBy a b c)
+        let a = key-same s s′ older (f .last .older) (c .older) (f .end) i in
+        let b = key-same t t′ newer (f .last .newer) (c .newer) (f .end) i in
+        cond (ltb (f .end .0) (min a b)) Done (foundBy a b c)
 
-    past-same : (n : ℕ) (c : Cursor) → past s t end n c ≡ past s′ t′ end n c
+    past-same : (n : ℕ) (c : Cursor) → past s t f n c ≡ past s′ t′ f n c
     unfolding past
     past-same zero c = refl
     past-same (suc n) c = λ i. cond (agree-same c i) (past-same n (cursor (c .older + 1) (c .newer + 1)) i) c
 
-    next-to : (c : Cursor) → nextTo s t end c ≡ nextTo s′ t′ end c
+    next-to : (c : Cursor) → nextTo s t f c ≡ nextTo s′ t′ f c
     unfolding nextTo
-    next-to c = λ i. step-same (past-same (count-same s s′ older i - c .older) c i) i
+    next-to c = λ i. step-same (past-same (f .last .older - c .older) c i) i
 
   next-same : (c : Cursor) → nextOf s t c ≡ nextOf s′ t′ c
   unfolding nextOf
-  next-same c = λ i. next-to (end-same i) c i
+  next-same c = λ i. next-to (frame-same i) c i
 
 pub reserved-uncompared : Reserved-uncompared
 reserved-uncompared s s′ t t′ older newer = (differences-same s s′ t t′ older newer, next-same s s′ t t′ older newer)

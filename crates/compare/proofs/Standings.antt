@@ -40,21 +40,21 @@ pub record Split (s : List ℕ) (i a : ℕ) : Type 0 where
   pub above : (k : ℕ) → i ≤ k → k < countOf s → a ≤ idAt s k
 
 module _ (s : List ℕ) (up : Ascends s) (i : ℕ) (end : ElementId) where
-  within-is : i < countOf s → keyAt s i end ≡ idAt s i
+  within-is : i < countOf s → keyAt s (countOf s) i end ≡ idAt s i
   unfolding keyAt
   within-is l = rw (lt-ltb _ _ l)
 
   -- nothing from the place on is below the identifier there
-  from-there : (k : ℕ) → i ≤ k → k < countOf s → keyAt s i end ≤ idAt s k
+  from-there : (k : ℕ) → i ≤ k → k < countOf s → keyAt s (countOf s) i end ≤ idAt s k
   from-there k l m = by-test (eqb i k) refl
     where
-      by-test : (b : Bool) → eqb i k ≡ b → keyAt s i end ≤ idAt s k
+      by-test : (b : Bool) → eqb i k ≡ b → keyAt s (countOf s) i end ≤ idAt s k
       by-test true p = omega (arith, within-is (omega arith), ap (idAt s) (eqb-true i k p))
       by-test false p = omega (arith, within-is (omega arith), up .rise i k (omega (arith, eqb-false i k p)) m)
 
   module _ (a : ℕ) (split : Split s i a) where
     -- an identifier between the two stands nowhere
-    pub between : (id : ElementId) → a ≤ id .0 → id .0 < keyAt s i end → standing s id ≡ absent
+    pub between : (id : ElementId) → a ≤ id .0 → id .0 < keyAt s (countOf s) i end → standing s id ≡ absent
     unfolding standing
     between id low high = none-of s id (countOf s) other
       where
@@ -66,16 +66,16 @@ module _ (s : List ℕ) (up : Ascends s) (i : ℕ) (end : ElementId) where
             by-test false p = omega (arith, from-there k (ltb-false _ _ p) l)
 
     -- up to any of them the place splits the page
-    pub nearer-to : (m : ℕ) → a ≤ m → m ≤ keyAt s i end → Split s i m
+    pub nearer-to : (m : ℕ) → a ≤ m → m ≤ keyAt s (countOf s) i end → Split s i m
     nearer-to m low high =
         record {
           below = λ k l n. omega (arith, split .below k l n);
           above = λ k l n. omega (arith, from-there k l n);
         }
 
-    module _ (m : ℕ) (is-m : m ≡ keyAt s i end) (low : m ≤ end .0) where
+    module _ (m : ℕ) (is-m : m ≡ keyAt s (countOf s) i end) (low : m ≤ end .0) where
       there : i < countOf s
-      there = inside s i end (omega (arith, is-m))
+      there = inside s (countOf s) i end (omega (arith, is-m))
 
       pub not-below : a ≤ m
       not-below = omega (arith, is-m, within-is there, split .above i (omega arith) there)

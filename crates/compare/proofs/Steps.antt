@@ -1,60 +1,74 @@
 -- What stands at a cursor, and the next difference: a law for each way out, and one for each turn of the loop.
-use Prim.Native.Nat.{ℕ, zero, suc, _+_, _-_, _≤_, _<_, min}
+use Prim.Native.Nat.{ℕ, zero, suc, _+_, _-_, _*_, _≤_, _<_, min}
 use mathlib.Core.Bool.{Bool, true, false, Bool·beq, cond, _&&_}
 use mathlib.Core.List.{List}
 use mathlib.Core.Path.{_≡_, refl, sym, ap, _∙_}
 use native.Mathlib.Nat.{min-eq-left, min-eq-right}
 use native.Mathlib.Omega.{arith}
 use lib.Dec.{eqb, leb, ltb}
+use lib.ListN.{length, take, drop}
 use borrow.Author.Tests.{eq-eqb, ne-eqb, le-leb, lt-leb, lt-ltb, le-ltb, leb-true, ltb-true, eqb-true}
-use Rattle.layout.specs.Bytes.{headerIn}
+use Rattle.layout.proofs.Reserved.{part-read}
+use Rattle.layout.specs.Bytes.{headerIn, descriptorIn}
 use Rattle.layout.specs.declared.Descriptor.{Descriptor}
 use Rattle.layout.specs.declared.Header.{Header}
 use Rattle.offences.specs.Checks.{descriptorAt}
 use Rattle.paper.specs.declared.ElementId.{ElementId}
 use Rattle.reach.proofs.Bounds.{count-read}
-use Rattle.reach.specs.Pages.{countOf, elementAt, boundOf, endOf}
+use Rattle.reach.specs.Pages.{elementAt, boundOf, endOf}
 use Rattle.reader.proofs.LayoutTheorem.{and-both}
 use Rattle.words.specs.declared.Order.the-variants.{Little}
 use Rattle.compare.specs.Differences.{alike}
-use Rattle.compare.specs.Private.{ends}
-use Rattle.compare.specs.Walk.{cursor, keyAt, agreeAt, found, foundBy, stepAt, past, nextTo, nextOf}
+use Rattle.compare.specs.Private.{agreeBy}
+use Rattle.compare.specs.Walk.{cursor, frameOf, keyAt, agreeAt, found, foundBy, stepAt, past, nextTo, nextOf}
 use Rattle.compare.specs.declared.Cursor.{Cursor}
+use Rattle.compare.specs.declared.Frame.{Frame}
 use Rattle.compare.specs.declared.Line.the-variants.{OnlyOlder, OnlyNewer, Changed}
 use Rattle.compare.specs.declared.Step.the-variants.{Done}
 use Rattle.compare.specs.declared.Step.{Step}
 
--- ## A key
-
-module _ (s : List ℕ) (k count : ℕ) (end : ElementId) (is-count : count ≡ countOf s) where
-  pub key-none : count ≤ k → end .0 + 1 ≡ keyAt s k end
-  unfolding keyAt
-  key-none l = sym (rw (le-ltb k (countOf s) (omega arith)))
-
-  pub key-there : k < count → (d : Descriptor) → d ≡ descriptorAt Little s k → d .id .0 ≡ keyAt s k end
-  unfolding keyAt elementAt
-  key-there l d is-d = ap (λ (x : Descriptor). x .id .0) is-d ∙ sym (rw (lt-ltb k (countOf s) (omega arith)))
+-- ## A descriptor
 
 pub element-read : (s : List ℕ) (k : ℕ) (d : Descriptor) → d ≡ descriptorAt Little s k → d ≡ elementAt s k
 unfolding elementAt
 element-read s k d is-d = is-d
 
--- the last places, read off the headers
-pub ends-read : (s t : List ℕ) (h g : Header) → h ≡ headerIn Little s → g ≡ headerIn Little t → cursor (h .returned) (g .returned) ≡ ends s t
-ends-read s t h g is-h is-g = λ i. cursor (count-read s h is-h i) (count-read t g is-g i)
+module _ (s : List ℕ) (k : ℕ) (b : Bool) (is-b : b ≡ leb (64 + 32 * k) (length s)) (so : b ≡ true) where
+  pub there-whole : 64 + 32 * k ≤ length s
+  there-whole = leb-true (64 + 32 * k) (length s) (sym is-b ∙ so)
 
-module _ (s t : List ℕ) (c : Cursor) (is-c : c ≡ ends s t) where
-  pub last-older : c .older ≡ countOf s
-  last-older = ap (λ (x : Cursor). x .older) is-c
+pub whole-read : (s : List ℕ) (k n : ℕ) → n ≡ 32 → (d : Descriptor) → d ≡ descriptorIn Little (take n (drop (32 + 32 * k) s)) → d ≡ elementAt s k
+unfolding elementAt
+whole-read s k n is-n d is-d = is-d ∙ rw is-n (part-read Little (drop (32 + 32 * k) s))
 
-  pub last-newer : c .newer ≡ countOf t
-  last-newer = ap (λ (x : Cursor). x .newer) is-c
+module _ (s : List ℕ) (k : ℕ) (d : Descriptor) where
+  pub id-whole : d ≡ elementAt s k → d .id ≡ elementAt s k .id
+  id-whole is-d = ap (λ (x : Descriptor). x .id) is-d
 
-pub inside : (s : List ℕ) (k : ℕ) (end : ElementId) → keyAt s k end ≤ end .0 → k < countOf s
+  pub id-read : d ≡ descriptorAt Little s k → d .id ≡ elementAt s k .id
+  id-read is-d = id-whole (element-read s k d is-d)
+
+-- ## A key
+
+module _ (s : List ℕ) (count k : ℕ) (end : ElementId) where
+  pub key-none : count ≤ k → end .0 + 1 ≡ keyAt s count k end
+  unfolding keyAt
+  key-none l = sym (rw (le-ltb k count l))
+
+  pub key-there : k < count → (id : ElementId) → id ≡ elementAt s k .id → id .0 ≡ keyAt s count k end
+  unfolding keyAt
+  key-there l id is-id = ap (λ (x : ElementId). x .0) is-id ∙ sym (rw (lt-ltb k count l))
+
+-- the frame, read off the headers
+pub frame-read : (s t : List ℕ) (h g : Header) (end : ElementId) → h ≡ headerIn Little s → g ≡ headerIn Little t → end ≡ endOf (boundOf s t)
+    → record { last = cursor (h .returned) (g .returned); end = end } ≡ frameOf s t
+frame-read s t h g end is-h is-g is-end = λ i. record { last = cursor (count-read s h is-h i) (count-read t g is-g i); end = is-end i }
+
+pub inside : (s : List ℕ) (count k : ℕ) (end : ElementId) → keyAt s count k end ≤ end .0 → k < count
 unfolding keyAt
-inside s k end = by-test (ltb k (countOf s)) refl
+inside s count k end = by-test (ltb k count) refl
   where
-    by-test : (b : Bool) → ltb k (countOf s) ≡ b → cond b (elementAt s k .id .0) (end .0 + 1) ≤ end .0 → k < countOf s
+    by-test : (b : Bool) → ltb k count ≡ b → cond b (elementAt s k .id .0) (end .0 + 1) ≤ end .0 → k < count
     by-test true e l = ltb-true _ _ e
     by-test false e l = absurd (omega arith)
 
@@ -82,31 +96,48 @@ module _ (d e : Descriptor) where
       pub alike-rest : Bool·beq (d .restorable) (e .restorable) ≡ true → eqb (d .capacity) (e .capacity) ≡ alike d e
       alike-rest y = sym (rw (eq-eqb _ _ k, eq-eqb _ _ h, y))
 
+-- ## Two descriptors at a cursor
+
+module _ (d e : Descriptor) (f : Frame) (c : Cursor) where
+  pub by-older : f .last .older ≤ c .older → false ≡ agreeBy d e f c
+  by-older l = sym (rw (le-ltb _ _ l))
+
+  module _ (in-older : c .older < f .last .older) where
+    pub by-newer : f .last .newer ≤ c .newer → false ≡ agreeBy d e f c
+    by-newer l = sym (rw (lt-ltb _ _ in-older, le-ltb _ _ l))
+
+    module _ (in-newer : c .newer < f .last .newer) where
+      pub by-other : (d .id .0 ≡ e .id .0 → ⊥) → false ≡ agreeBy d e f c
+      by-other n = sym (rw (lt-ltb _ _ in-older, lt-ltb _ _ in-newer, ne-eqb _ _ n))
+
+      module _ (same : d .id .0 ≡ e .id .0) where
+        pub by-beyond : f .end .0 < d .id .0 → false ≡ agreeBy d e f c
+        by-beyond l = sym (rw (lt-ltb _ _ in-older, lt-ltb _ _ in-newer, eq-eqb _ _ same, lt-leb _ _ l))
+
+        pub by-alike : d .id .0 ≤ f .end .0 → (r : Bool) → r ≡ alike d e → r ≡ agreeBy d e f c
+        by-alike l r is-r = is-r ∙ sym (rw (lt-ltb _ _ in-older, lt-ltb _ _ in-newer, eq-eqb _ _ same, le-leb _ _ l))
+
 -- ## At a cursor
 
-module _ (s t : List ℕ) (end : ElementId) (c : Cursor) (a b : ℕ) (is-a : a ≡ keyAt s (c .older) end) (is-b : b ≡ keyAt t (c .newer) end) where
-  pub agree-other : (a ≡ b → ⊥) → false ≡ agreeAt s t end c
+module _ (s t : List ℕ) (f : Frame) (c : Cursor) (a b : ℕ) (is-a : a ≡ keyAt s (f .last .older) (c .older) (f .end)) (is-b : b ≡ keyAt t (f .last .newer) (c .newer) (f .end)) where
+  pub agree-other : (a ≡ b → ⊥) → false ≡ agreeAt s t f c
   unfolding agreeAt
   agree-other n = sym (rw (← is-a, ← is-b, ne-eqb _ _ n))
 
-  pub agree-beyond : a ≡ b → end .0 < a → false ≡ agreeAt s t end c
+  pub agree-beyond : a ≡ b → f .end .0 < a → false ≡ agreeAt s t f c
   unfolding agreeAt
   agree-beyond e l = sym (rw (← is-a, ← is-b, eq-eqb _ _ e, lt-leb _ _ l))
 
-  module _ (i : a ≡ b) (l : a ≤ end .0) where
-    pub agree-if : alike (elementAt s (c .older)) (elementAt t (c .newer)) ≡ agreeAt s t end c
-    unfolding agreeAt
-    agree-if = sym (rw (← is-a, ← is-b, eq-eqb _ _ i, le-leb _ _ l))
-
-    pub agree-alike : (d e : Descriptor) → d ≡ elementAt s (c .older) → e ≡ elementAt t (c .newer) → (r : Bool) → r ≡ alike d e → r ≡ agreeAt s t end c
-    agree-alike d e is-d is-e r is-r = is-r ∙ (λ k. alike (is-d k) (is-e k)) ∙ agree-if
+  pub agree-if : a ≡ b → a ≤ f .end .0 → alike (elementAt s (c .older)) (elementAt t (c .newer)) ≡ agreeAt s t f c
+  unfolding agreeAt
+  agree-if i l = sym (rw (← is-a, ← is-b, eq-eqb _ _ i, le-leb _ _ l))
 
   module _ (m : ℕ) (is-m : m ≡ min a b) where
-    pub step-done : end .0 < m → Done ≡ stepAt s t end c
+    pub step-done : f .end .0 < m → Done ≡ stepAt s t f c
     unfolding stepAt
     step-done l = sym (rw (← is-a, ← is-b, ← is-m, lt-ltb _ _ l))
 
-    pub step-found : m ≤ end .0 → (x : Step) → x ≡ foundBy a b c → x ≡ stepAt s t end c
+    pub step-found : m ≤ f .end .0 → (x : Step) → x ≡ foundBy a b c → x ≡ stepAt s t f c
     unfolding stepAt
     step-found l x is-x = is-x ∙ sym (rw (← is-a, ← is-b, ← is-m, le-ltb _ _ l))
 
@@ -122,40 +153,80 @@ module _ (a b : ℕ) (c : Cursor) (x : Step) where
 
 -- ## Past what agrees
 
-module _ (s t : List ℕ) (end : ElementId) where
-  agree-inside : (c : Cursor) → agreeAt s t end c ≡ true → (c .older < countOf s) × (c .newer < countOf t)
+-- a key past the page is above the end, so that two keys up to it stand in both
+by-keys : (x y : Bool) (i j end : ℕ) (r : Bool) → x && (y && (eqb i j && (leb i end && r))) ≡ eqb (cond x i (end + 1)) (cond y j (end + 1)) && (leb (cond x i (end + 1)) end && r)
+by-keys true true i j end r = refl
+by-keys true false i j end r = sym (by-test (eqb i (end + 1)) refl)
+  where
+    by-test : (b : Bool) → eqb i (end + 1) ≡ b → b && (leb i end && r) ≡ false
+    by-test true e = rw (lt-leb i end (omega (arith, eqb-true i (end + 1) e)))
+    by-test false e = refl
+by-keys false y i j end r = sym (by-test (eqb (end + 1) (cond y j (end + 1))))
+  where
+    by-test : (b : Bool) → b && (leb (end + 1) end && r) ≡ false
+    by-test true = rw (lt-leb (end + 1) end (omega arith))
+    by-test false = refl
+
+module _ (s t : List ℕ) (f : Frame) where
+  pub agree-by : (c : Cursor) (d e : Descriptor) → d ≡ elementAt s (c .older) → e ≡ elementAt t (c .newer) → (r : Bool) → r ≡ agreeBy d e f c → r ≡ agreeAt s t f c
+  unfolding agreeAt keyAt
+  agree-by c d e is-d is-e r is-r =
+      is-r ∙ (λ i. agreeBy (is-d i) (is-e i) f c)
+      ∙ by-keys (ltb (c .older) (f .last .older)) (ltb (c .newer) (f .last .newer)) (elementAt s (c .older) .id .0) (elementAt t (c .newer) .id .0) (f .end .0)
+      (alike (elementAt s (c .older)) (elementAt t (c .newer)))
+
+  agree-inside : (c : Cursor) → agreeAt s t f c ≡ true → (c .older < f .last .older) × (c .newer < f .last .newer)
   unfolding agreeAt
   agree-inside c e =
-      let a : ℕ = keyAt s (c .older) end in
-      let b : ℕ = keyAt t (c .newer) end in
-      let same = and-both (eqb a b) (leb a (end .0) && alike (elementAt s (c .older)) (elementAt t (c .newer))) e in
-      let within = and-both (leb a (end .0)) (alike (elementAt s (c .older)) (elementAt t (c .newer))) (same .1) in
-      let low : a ≤ end .0 = leb-true _ _ (within .0) in
-      (inside s (c .older) end low, inside t (c .newer) end (omega (arith, low, eqb-true a b (same .0))))
+      let a : ℕ = keyAt s (f .last .older) (c .older) (f .end) in
+      let b : ℕ = keyAt t (f .last .newer) (c .newer) (f .end) in
+      let same = and-both (eqb a b) (leb a (f .end .0) && alike (elementAt s (c .older)) (elementAt t (c .newer))) e in
+      let within = and-both (leb a (f .end .0)) (alike (elementAt s (c .older)) (elementAt t (c .newer))) (same .1) in
+      let low : a ≤ f .end .0 = leb-true _ _ (within .0) in
+      (inside s (f .last .older) (c .older) (f .end) low, inside t (f .last .newer) (c .newer) (f .end) (omega (arith, low, eqb-true a b (same .0))))
 
-  pub next-on : (c : Cursor) (r : Bool) → r ≡ agreeAt s t end c → r ≡ true → nextTo s t end c ≡ nextTo s t end (cursor (c .older + 1) (c .newer + 1))
-  unfolding nextTo past
-  next-on c r is-r y =
-      let left : countOf s - c .older ≡ suc (countOf s - (c .older + 1)) = omega (arith, agree-inside c (sym is-r ∙ y) .0) in
-      rw (left, sym is-r ∙ y)
+  past-on : (c : Cursor) → agreeAt s t f c ≡ true
+      → past s t f (f .last .older - c .older) c ≡ past s t f (f .last .older - (c .older + 1)) (cursor (c .older + 1) (c .newer + 1))
+  unfolding past
+  past-on c so =
+      let left : f .last .older - c .older ≡ suc (f .last .older - (c .older + 1)) = omega (arith, agree-inside c so .0) in
+      rw (left, so)
 
-  module _ (c : Cursor) (r : Bool) (is-r : r ≡ agreeAt s t end c) (yes-r : r ≡ true) where
-    pub turn-less : countOf s - (c .older + 1) < countOf s - c .older
-    turn-less = omega (arith, agree-inside c (sym is-r ∙ yes-r) .0)
-
-    pub turn-again : (c₀ : Cursor) → nextTo s t end c₀ ≡ nextTo s t end c → nextTo s t end c₀ ≡ nextTo s t end (cursor (c .older + 1) (c .newer + 1))
-    turn-again c₀ inv = inv ∙ next-on c r is-r yes-r
-
-  stays : (c : Cursor) (n : ℕ) → agreeAt s t end c ≡ false → past s t end n c ≡ c
+  stays : (c : Cursor) (n : ℕ) → agreeAt s t f c ≡ false → past s t f n c ≡ c
   unfolding past
   stays c zero off = refl
   stays c (suc n) off = rw off
 
-  pub next-here : (c : Cursor) (r : Bool) → r ≡ agreeAt s t end c → r ≡ false → (x : Step) → x ≡ stepAt s t end c → x ≡ nextTo s t end c
-  unfolding nextTo
-  next-here c r is-r off x is-x = is-x ∙ ap (stepAt s t end) (sym (stays c (countOf s - c .older) (sym is-r ∙ off)))
+  pub turn-part : (c p q : Cursor) → p ≡ past s t f (f .last .older - c .older) c → q ≡ past s t f (f .last .older - c .older) c → q ≡ p
+  turn-part c p q inv is-q = is-q ∙ sym inv
 
-  pub next-whole : end ≡ endOf (boundOf s t) → (c at : Cursor) → nextTo s t end c ≡ nextTo s t end at
-      → (x : Step) → x ≡ nextTo s t end at → x ≡ nextOf s t c
+  module _ (c : Cursor) (d e : Descriptor) (is-d : d ≡ elementAt s (c .older)) (is-e : e ≡ elementAt t (c .newer)) (r : Bool) (is-r : r ≡ agreeBy d e f c) where
+    module _ (yes-r : r ≡ true) where
+      agrees : agreeAt s t f c ≡ true
+      agrees = sym (agree-by c d e is-d is-e r is-r) ∙ yes-r
+
+      pub turn-less : f .last .older - (c .older + 1) < f .last .older - c .older
+      turn-less = omega (arith, agree-inside c agrees .0)
+
+      pub turn-again : (p : Cursor) → p ≡ past s t f (f .last .older - c .older) c
+          → p ≡ past s t f (f .last .older - (c .older + 1)) (cursor (c .older + 1) (c .newer + 1))
+      turn-again p inv = inv ∙ past-on c agrees
+
+    pub turn-ends : r ≡ false → (p : Cursor) → p ≡ past s t f (f .last .older - c .older) c → c ≡ p
+    turn-ends off p inv = sym (inv ∙ stays c (f .last .older - c .older) (sym (agree-by c d e is-d is-e r is-r) ∙ off))
+
+  pub next-on : (c : Cursor) → agreeAt s t f c ≡ true → nextTo s t f c ≡ nextTo s t f (cursor (c .older + 1) (c .newer + 1))
+  unfolding nextTo
+  next-on c so = ap (stepAt s t f) (past-on c so)
+
+  pub next-here : (c : Cursor) → agreeAt s t f c ≡ false → (x : Step) → x ≡ stepAt s t f c → x ≡ nextTo s t f c
+  unfolding nextTo
+  next-here c off x is-x = is-x ∙ ap (stepAt s t f) (sym (stays c (f .last .older - c .older) off))
+
+  pub next-past : (c p : Cursor) → p ≡ past s t f (f .last .older - c .older) c → (x : Step) → x ≡ stepAt s t f p → x ≡ nextTo s t f c
+  unfolding nextTo
+  next-past c p is-p x is-x = is-x ∙ ap (stepAt s t f) is-p
+
+  pub next-whole : f ≡ frameOf s t → (c : Cursor) (x : Step) → x ≡ nextTo s t f c → x ≡ nextOf s t c
   unfolding nextOf
-  next-whole is-end c at inv x is-x = is-x ∙ sym inv ∙ ap (λ (e : ElementId). nextTo s t e c) is-end
+  next-whole is-f c x is-x = is-x ∙ ap (λ (g : Frame). nextTo s t g c) is-f

@@ -10,8 +10,9 @@ use Rattle.paper.specs.declared.ElementId.{ElementId}
 use Rattle.reach.specs.Pages.{countOf, boundOf, endOf}
 use Rattle.slices.specs.Lists.{sum}
 use Rattle.compare.specs.Promises.{Walk-ends}
-use Rattle.compare.specs.Walk.{cursor, keyAt, agreeAt, found, stepAt, past, nextTo, nextOf, ahead, after, walk, walkFrom}
+use Rattle.compare.specs.Walk.{cursor, frameOf, keyAt, agreeAt, found, stepAt, past, nextTo, nextOf, ahead, after, walk, walkFrom}
 use Rattle.compare.specs.declared.Cursor.{Cursor}
+use Rattle.compare.specs.declared.Frame.{Frame}
 use Rattle.compare.specs.declared.Hit.{Hit}
 use Rattle.compare.specs.declared.Line.the-variants.{OnlyOlder, OnlyNewer, Changed}
 use Rattle.compare.specs.declared.Line.{Line}
@@ -38,15 +39,18 @@ Leaves s t n Done = Unit {0}
 Leaves s t n (Found d) = passed (d .line) + ahead s t (d .next) ≤ n
 
 module _ (s t : List ℕ) where
-  step-leaves : (end : ElementId) (c : Cursor) → Leaves s t (ahead s t c) (stepAt s t end c)
+  step-leaves : (c : Cursor) → Leaves s t (ahead s t c) (stepAt s t (frameOf s t) c)
   unfolding stepAt
-  step-leaves end c = by-tests (ltb (end .0) (min a b)) refl (ltb a b) refl (ltb b a) refl
+  step-leaves c = by-tests (ltb (end .0) (min a b)) refl (ltb a b) refl (ltb b a) refl
     where
+      end : ElementId
+      end = endOf (boundOf s t)
+
       a : ℕ
-      a = keyAt s (c .older) end
+      a = keyAt s (countOf s) (c .older) end
 
       b : ℕ
-      b = keyAt t (c .newer) end
+      b = keyAt t (countOf t) (c .newer) end
 
       by-tests : (x : Bool) → ltb (end .0) (min a b) ≡ x → (y : Bool) → ltb a b ≡ y → (z : Bool) → ltb b a ≡ z
           → Leaves s t (ahead s t c)
@@ -55,23 +59,23 @@ module _ (s t : List ℕ) where
           (cond z (found (OnlyNewer (c .newer)) (c .older) (c .newer + 1)) (found (Changed c) (c .older + 1) (c .newer + 1)))))
       by-tests true p y q z r = tt
       by-tests false p true q z r =
-          omega (arith, inside s (c .older) end (least-first a b _ (end .0) refl (ltb-false _ _ p) (omega (arith, ltb-true a b q))))
+          omega (arith, inside s (countOf s) (c .older) end (least-first a b _ (end .0) refl (ltb-false _ _ p) (omega (arith, ltb-true a b q))))
       by-tests false p false q true r =
-          omega (arith, inside t (c .newer) end (least-second a b _ (end .0) refl (ltb-false _ _ p) (omega (arith, ltb-true b a r))))
+          omega (arith, inside t (countOf t) (c .newer) end (least-second a b _ (end .0) refl (ltb-false _ _ p) (omega (arith, ltb-true b a r))))
       by-tests false p false q false r =
           omega (
             arith,
-            inside s (c .older) end (least-first a b _ (end .0) refl (ltb-false _ _ p) (ltb-false b a r)),
-            inside t (c .newer) end (least-second a b _ (end .0) refl (ltb-false _ _ p) (ltb-false a b q)),
+            inside s (countOf s) (c .older) end (least-first a b _ (end .0) refl (ltb-false _ _ p) (ltb-false b a r)),
+            inside t (countOf t) (c .newer) end (least-second a b _ (end .0) refl (ltb-false _ _ p) (ltb-false a b q)),
           )
 
-  past-leaves : (end : ElementId) (n : ℕ) (c : Cursor) → ahead s t (past s t end n c) ≤ ahead s t c
+  past-leaves : (f : Frame) (n : ℕ) (c : Cursor) → ahead s t (past s t f n c) ≤ ahead s t c
   unfolding past
-  past-leaves end zero c = omega arith
-  past-leaves end (suc n) c = by-test (agreeAt s t end c) (past-leaves end n (cursor (c .older + 1) (c .newer + 1)))
+  past-leaves f zero c = omega arith
+  past-leaves f (suc n) c = by-test (agreeAt s t f c) (past-leaves f n (cursor (c .older + 1) (c .newer + 1)))
     where
-      by-test : (x : Bool) → ahead s t (past s t end n (cursor (c .older + 1) (c .newer + 1))) ≤ ahead s t (cursor (c .older + 1) (c .newer + 1))
-          → ahead s t (cond x (past s t end n (cursor (c .older + 1) (c .newer + 1))) c) ≤ ahead s t c
+      by-test : (x : Bool) → ahead s t (past s t f n (cursor (c .older + 1) (c .newer + 1))) ≤ ahead s t (cursor (c .older + 1) (c .newer + 1))
+          → ahead s t (cond x (past s t f n (cursor (c .older + 1) (c .newer + 1))) c) ≤ ahead s t c
       by-test true l = omega (arith, l)
       by-test false l = omega arith
 
@@ -82,9 +86,9 @@ module _ (s t : List ℕ) where
   next-leaves : (c : Cursor) → Leaves s t (ahead s t c) (nextOf s t c)
   unfolding nextOf nextTo
   next-leaves c =
-      let end : ElementId = endOf (boundOf s t) in
-      let c′ : Cursor = past s t end (countOf s - c .older) c in
-      more (stepAt s t end c′) (ahead s t c′) (ahead s t c) (past-leaves end (countOf s - c .older) c) (step-leaves end c′)
+      let f : Frame = frameOf s t in
+      let c′ : Cursor = past s t f (countOf s - c .older) c in
+      more (stepAt s t f c′) (ahead s t c′) (ahead s t c) (past-leaves f (countOf s - c .older) c) (step-leaves c′)
 
   -- ## The walk
 

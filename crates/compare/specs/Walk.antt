@@ -7,6 +7,7 @@ use Rattle.paper.specs.declared.ElementId.{ElementId}
 use Rattle.reach.specs.Pages.{countOf, elementAt, boundOf, endOf}
 use Rattle.compare.specs.Differences.{alike}
 use Rattle.compare.specs.declared.Cursor.{Cursor}
+use Rattle.compare.specs.declared.Frame.{Frame}
 use Rattle.compare.specs.declared.Line.the-variants.{OnlyOlder, OnlyNewer, Changed}
 use Rattle.compare.specs.declared.Line.{Line}
 use Rattle.compare.specs.declared.Step.the-variants.{Done, Found}
@@ -20,15 +21,21 @@ first = cursor 0 0
 
 -- ## At a cursor
 
--- the key of a place: the identifier's number there; where the page has none, one above the end, which no identifier may be
-unfoldable pub keyAt : List ℕ → ℕ → ElementId → ℕ
-keyAt s k end = cond (ltb k (countOf s)) (elementAt s k .id .0) (end .0 + 1)
+-- where a walk over the pages ends: past their last descriptors, and at the last identifier that is compared
+abbrev pub frameOf : List ℕ → List ℕ → Frame
+frameOf s t = record { last = cursor (countOf s) (countOf t); end = endOf (boundOf s t) }
+
+-- the key of a place, of a page with so many descriptors: the identifier's number there; where the page has none, one above the end, which no
+-- identifier may be
+unfoldable pub keyAt : List ℕ → ℕ → ℕ → ElementId → ℕ
+keyAt s count k end = cond (ltb k count) (elementAt s k .id .0) (end .0 + 1)
 
 -- one element stands there in both pages, not above the end, and unchanged
-unfoldable pub agreeAt : List ℕ → List ℕ → ElementId → Cursor → Bool
-agreeAt s t end c =
-    let a = keyAt s (c .older) end in
-    eqb a (keyAt t (c .newer) end) && (leb a (end .0) && alike (elementAt s (c .older)) (elementAt t (c .newer)))
+unfoldable pub agreeAt : List ℕ → List ℕ → Frame → Cursor → Bool
+agreeAt s t f c =
+    let a = keyAt s (f .last .older) (c .older) (f .end) in
+    eqb a (keyAt t (f .last .newer) (c .newer) (f .end))
+    && (leb a (f .end .0) && alike (elementAt s (c .older)) (elementAt t (c .newer)))
 
 abbrev pub found : Line → ℕ → ℕ → Step
 found l i j = Found (record { line = l; next = cursor i j })
@@ -43,25 +50,25 @@ foundBy a b c =
     (found (Changed c) (i + 1) (j + 1)))
 
 -- what stands there, where they do not agree
-unfoldable pub stepAt : List ℕ → List ℕ → ElementId → Cursor → Step
-stepAt s t end c =
-    let a = keyAt s (c .older) end in
-    let b = keyAt t (c .newer) end in
-    cond (ltb (end .0) (min a b)) Done (foundBy a b c)
+unfoldable pub stepAt : List ℕ → List ℕ → Frame → Cursor → Step
+stepAt s t f c =
+    let a = keyAt s (f .last .older) (c .older) (f .end) in
+    let b = keyAt t (f .last .newer) (c .newer) (f .end) in
+    cond (ltb (f .end .0) (min a b)) Done (foundBy a b c)
 
 -- ## From a cursor on
 
 -- past what agrees, at most n elements
-unfoldable pub past : List ℕ → List ℕ → ElementId → ℕ → Cursor → Cursor
-past s t end zero c = c
-past s t end (suc n) c = cond (agreeAt s t end c) (past s t end n (cursor (c .older + 1) (c .newer + 1))) c
+unfoldable pub past : List ℕ → List ℕ → Frame → ℕ → Cursor → Cursor
+past s t f zero c = c
+past s t f (suc n) c = cond (agreeAt s t f c) (past s t f n (cursor (c .older + 1) (c .newer + 1))) c
 
--- with the last identifier that is compared
-unfoldable pub nextTo : List ℕ → List ℕ → ElementId → Cursor → Step
-nextTo s t end c = stepAt s t end (past s t end (countOf s - c .older) c)
+-- in a frame
+unfoldable pub nextTo : List ℕ → List ℕ → Frame → Cursor → Step
+nextTo s t f c = stepAt s t f (past s t f (f .last .older - c .older) c)
 
 unfoldable pub nextOf : List ℕ → List ℕ → Cursor → Step
-nextOf s t c = nextTo s t (endOf (boundOf s t)) c
+nextOf s t c = nextTo s t (frameOf s t) c
 
 -- ## The whole walk
 

@@ -1,12 +1,14 @@
 // Two status pages compared: by ascending identifier what is only in the older, only in the newer, or in both and changed.
 ghost use mathlib.Core.Path.{_≡_};
 ghost use mathlib.Core.Bool.{true};
-ghost use Prim.Native.Nat.{_+_, _^_, _≤_, _<_};
+ghost use Prim.Native.Nat.{_+_, _-_, _*_, _^_, _≤_, _<_};
+ghost use lib.Dec.{leb};
+ghost use lib.ListN.{length};
 ghost use Rattle.compare.specs.Differences.{alike};
-ghost use Rattle.compare.specs.Walk as paper;
-ghost use Rattle.compare.specs.Walk.{first, keyAt, agreeAt, foundBy, stepAt, nextOf};
 ghost use Rattle.compare.specs.Private as private;
-ghost use Rattle.reach.specs.Pages.{countOf, elementAt};
+ghost use Rattle.compare.specs.Walk as paper;
+ghost use Rattle.compare.specs.Walk.{first, frameOf, keyAt, foundBy, stepAt, nextTo, nextOf};
+ghost use Rattle.reach.specs.Pages.{elementAt};
 use layout::Descriptor;
 use layout::Header;
 use paper::ElementId;
@@ -23,6 +25,12 @@ pub enum Line {
     OnlyOlder(u32),
     OnlyNewer(u32),
     Changed(Cursor),
+}
+
+// Where a walk ends: the place past the last descriptor of each page, and the last identifier that is compared.
+pub struct Frame {
+    pub last: Cursor,
+    pub end: ElementId,
 }
 
 // What the walk hits: a difference, and where it goes on.
@@ -45,29 +53,44 @@ impl Cursor {
     }
 }
 
-// What stands at a place: the key, by which the pages are merged, and the descriptor.
-struct Spot {
-    key: usize,
-    descriptor: Descriptor,
+// ---- A descriptor
+
+// Whether the bytes of descriptor k are there.
+fn is_there(page: &[u8], k: u32) -> bool
+    ensures { λ r. ⌜ r ≡ leb (64 + 32 * k) (length (now (page .entry))) ⌝ }
+{
+    64 + 32 * (k as usize) <= page.len()
 }
 
-// At place k of a page with `count` descriptors. After a key up to the end there is a place.
-fn spot_at(page: &[u8], count: u32, k: u32, end: ElementId) -> Spot
-    requires { ⌜ count ≡ countOf (now page) ⌝ }
-    ensures { λ r. ⌜ (r .key ≡ keyAt (now (page .entry)) k end) × (r .key ≤ end .0 → k + 1 < 2 ^ 32) × (r .descriptor ≡ elementAt (now (page .entry)) k) ⌝ }
+// Descriptor k, whose bytes are there: none is tested for.
+fn whole_at(page: &[u8], k: u32) -> Descriptor
+    requires { ⌜ 64 + 32 * k ≤ length (now page) ⌝ }
+    ensures { λ r. ⌜ r ≡ elementAt (now (page .entry)) k ⌝ }
 {
-    let descriptor = offences::descriptor_at(page, k, Order::Little);
+    let base = 32 + 32 * (k as usize);
+    Descriptor::read(&page[base..base + 32], Order::Little)
+}
+
+fn id_at(page: &[u8], k: u32) -> ElementId
+    ensures { λ r. ⌜ r ≡ elementAt (now (page .entry)) k .id ⌝ }
+{
+    if is_there(page, k) {
+        let d = whole_at(page, k);
+        return d.id;
+    }
+    let d = offences::descriptor_at(page, k, Order::Little);
+    d.id
+}
+
+// The key of place k, by which the pages are merged, of a page with `count` descriptors. After a key up to the end there is a place.
+fn key_at(page: &[u8], count: u32, k: u32, end: ElementId) -> usize
+    ensures { λ r. ⌜ (r ≡ keyAt (now (page .entry)) count k end) × (r ≤ end .0 → k + 1 < 2 ^ 32) ⌝ }
+{
     if count <= k {
-        return Spot {
-            key: end.0 as usize + 1,
-            descriptor,
-        };
+        return end.0 as usize + 1;
     }
-    let id = descriptor.id;
-    Spot {
-        key: id.0 as usize,
-        descriptor,
-    }
+    let id = id_at(page, k);
+    id.0 as usize
 }
 
 fn is_alike(d: Descriptor, e: Descriptor) -> bool
@@ -85,22 +108,72 @@ fn is_alike(d: Descriptor, e: Descriptor) -> bool
     d.capacity == e.capacity
 }
 
-// Whether one element stands at the cursor in both pages, not above the end, and unchanged. After it there is a place.
-fn do_agree(older: &[u8], newer: &[u8], last: Cursor, end: ElementId, at: Cursor) -> bool
-    requires { ⌜ last ≡ private.ends (now older) (now newer) ⌝ }
-    ensures { λ r. ⌜ (r ≡ agreeAt (now (older .entry)) (now (newer .entry)) end at) × (r ≡ true → (at .older + 1 < 2 ^ 32) × (at .newer + 1 < 2 ^ 32)) ⌝ }
+// ---- Past what agrees
+
+// Whether two descriptors at the cursor are one element, not above the end, and unchanged. After it there is a place.
+fn do_agree(d: Descriptor, e: Descriptor, frame: Frame, at: Cursor) -> bool
+    ensures { λ r. ⌜ (r ≡ private.agreeBy d e frame at) × (r ≡ true → (at .older + 1 < 2 ^ 32) × (at .newer + 1 < 2 ^ 32)) ⌝ }
 {
-    let a = spot_at(older, last.older, at.older, end);
-    let b = spot_at(newer, last.newer, at.newer, end);
-    if a.key != b.key {
+    let last = frame.last;
+    if last.older <= at.older {
         return false;
     }
-    if (end.0 as usize) < a.key {
+    if last.newer <= at.newer {
         return false;
     }
-    let d = a.descriptor;
-    is_alike(d, b.descriptor)
+    let id = d.id;
+    if id.0 != e.id.0 {
+        return false;
+    }
+    if frame.end.0 < id.0 {
+        return false;
+    }
+    is_alike(d, e)
 }
+
+// Past what agrees, of pages that may be short.
+fn past_part(older: &[u8], newer: &[u8], frame: Frame, from: Cursor) -> Cursor
+    ensures { λ r. ⌜ r ≡ paper.past (now (older .entry)) (now (newer .entry)) frame (frame .last .older - from .older) from ⌝ }
+{
+    let mut at = from;
+    loop {
+        let d = offences::descriptor_at(older, at.older, Order::Little);
+        let e = offences::descriptor_at(newer, at.newer, Order::Little);
+        if !do_agree(d, e, frame, at) {
+            return at;
+        }
+        at = Cursor {
+            older: at.older + 1,
+            newer: at.newer + 1,
+        };
+    }
+}
+
+// Past what agrees. As long as the bytes are there, nothing is tested for in reading them.
+fn past(older: &[u8], newer: &[u8], frame: Frame, from: Cursor) -> Cursor
+    ensures { λ r. ⌜ r ≡ paper.past (now (older .entry)) (now (newer .entry)) frame (frame .last .older - from .older) from ⌝ }
+{
+    let mut at = from;
+    loop {
+        if !is_there(older, at.older) {
+            return past_part(older, newer, frame, at);
+        }
+        if !is_there(newer, at.newer) {
+            return past_part(older, newer, frame, at);
+        }
+        let d = whole_at(older, at.older);
+        let e = whole_at(newer, at.newer);
+        if !do_agree(d, e, frame, at) {
+            return at;
+        }
+        at = Cursor {
+            older: at.older + 1,
+            newer: at.newer + 1,
+        };
+    }
+}
+
+// ---- A step
 
 fn found(line: Line, older: u32, newer: u32) -> Step
     ensures { λ r. ⌜ r ≡ paper.found line older newer ⌝ }
@@ -128,42 +201,46 @@ fn found_by(a: usize, b: usize, at: Cursor) -> Step
 }
 
 // What stands at the cursor, where the pages do not agree.
-fn step_at(older: &[u8], newer: &[u8], last: Cursor, end: ElementId, at: Cursor) -> Step
-    requires { ⌜ last ≡ private.ends (now older) (now newer) ⌝ }
-    ensures { λ r. ⌜ r ≡ stepAt (now (older .entry)) (now (newer .entry)) end at ⌝ }
+fn step_at(older: &[u8], newer: &[u8], frame: Frame, at: Cursor) -> Step
+    ensures { λ r. ⌜ r ≡ stepAt (now (older .entry)) (now (newer .entry)) frame at ⌝ }
 {
-    let a = spot_at(older, last.older, at.older, end);
-    let b = spot_at(newer, last.newer, at.newer, end);
-    if (end.0 as usize) < slices::smaller(a.key, b.key) {
+    let last = frame.last;
+    let end = frame.end;
+    let a = key_at(older, last.older, at.older, end);
+    let b = key_at(newer, last.newer, at.newer, end);
+    if (end.0 as usize) < slices::smaller(a, b) {
         return Step::Done;
     }
-    found_by(a.key, b.key, at)
+    found_by(a, b, at)
 }
 
-// The places past the last descriptor of each page.
-fn ends_of(older: &[u8], newer: &[u8]) -> Cursor
-    ensures { λ r. ⌜ r ≡ private.ends (now (older .entry)) (now (newer .entry)) ⌝ }
+// Where a walk over two pages ends.
+pub fn frame_of(older: &[u8], newer: &[u8]) -> Frame
+    ensures { λ r. ⌜ r ≡ frameOf (now (older .entry)) (now (newer .entry)) ⌝ }
 {
     let h = Header::read(older, Order::Little);
     let g = Header::read(newer, Order::Little);
-    Cursor {
-        older: h.returned,
-        newer: g.returned,
+    Frame {
+        last: Cursor {
+            older: h.returned,
+            newer: g.returned,
+        },
+        end: reach::last_compared(older, newer),
     }
+}
+
+// The next difference from a cursor on, in a frame that was made once for the whole walk.
+pub fn next_to(older: &[u8], newer: &[u8], frame: Frame, from: Cursor) -> Step
+    ensures { λ r. ⌜ r ≡ nextTo (now (older .entry)) (now (newer .entry)) frame from ⌝ }
+{
+    let at = past(older, newer, frame, from);
+    step_at(older, newer, frame, at)
 }
 
 // The next difference from a cursor on; what lies before the cursor counts as not there.
 pub fn next(older: &[u8], newer: &[u8], from: Cursor) -> Step
     ensures { λ r. ⌜ r ≡ nextOf (now (older .entry)) (now (newer .entry)) from ⌝ }
 {
-    let end = reach::last_compared(older, newer);
-    let last = ends_of(older, newer);
-    let mut at = from;
-    while do_agree(older, newer, last, end, at) {
-        at = Cursor {
-            older: at.older + 1,
-            newer: at.newer + 1,
-        };
-    }
-    step_at(older, newer, last, end, at)
+    let frame = frame_of(older, newer);
+    next_to(older, newer, frame, from)
 }

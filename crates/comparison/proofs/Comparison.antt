@@ -9,9 +9,11 @@ use lib.ListN.{length, drop, length-append}
 use borrow.Author.Tests.{leb-true, leb-false}
 use Rattle.changes.proofs.Lengths.{length-last}
 use Rattle.changes.specs.Changes.{lineOf, lastLine}
+use Rattle.compare.proofs.Steps.{next-whole}
 use Rattle.compare.proofs.Walking.{walk-done, walk-found, found-leaves}
-use Rattle.compare.specs.Walk.{first, nextOf, ahead}
+use Rattle.compare.specs.Walk.{first, frameOf, nextTo, ahead}
 use Rattle.compare.specs.declared.Cursor.{Cursor}
+use Rattle.compare.specs.declared.Frame.{Frame}
 use Rattle.compare.specs.declared.Hit.{Hit}
 use Rattle.compare.specs.declared.Step.the-variants.{Done, Found}
 use Rattle.compare.specs.declared.Step.{Step}
@@ -33,8 +35,8 @@ use Rattle.comparison.proofs.Lengths.{length-lines}
 
 -- ## A step
 
-pub step-accepted : (s t : List ℕ) (a : Bool) (c : Cursor) → a ≡ true → (x : Step) → x ≡ nextOf s t c → x ≡ stepOf a s t c
-step-accepted s t a c y x is-x = is-x ∙ rw y
+pub step-accepted : (s t : List ℕ) (f : Frame) → f ≡ frameOf s t → (a : Bool) (c : Cursor) → a ≡ true → (x : Step) → x ≡ nextTo s t f c → x ≡ stepOf a s t c
+step-accepted s t f is-f a c y x is-x = next-whole s t f is-f c x is-x ∙ rw y
 
 -- ## A turn of a loop
 

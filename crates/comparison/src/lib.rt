@@ -3,7 +3,7 @@ ghost use mathlib.Core.Path.{_≡_};
 ghost use Prim.Native.Nat.{_^_, _<_};
 ghost use lib.Dec.{leb};
 ghost use lib.ListN.{length};
-ghost use Rattle.compare.specs.Walk.{first};
+ghost use Rattle.compare.specs.Walk.{first, frameOf};
 ghost use Rattle.io.specs.Counts.{Counts};
 ghost use Rattle.listing.specs.Listing.{output, printed};
 ghost use Rattle.paper.specs.Told.{said};
@@ -12,6 +12,7 @@ ghost use Rattle.writing.specs.Private as writing·private;
 ghost use Rattle.comparison.specs.Comparison as paper;
 ghost use Rattle.comparison.specs.Private as private;
 use compare::Cursor;
+use compare::Frame;
 use compare::Step;
 use listing::Printed;
 use paper::Answer;
@@ -27,11 +28,12 @@ fn is_accepted(opening: Opening) -> bool
 }
 
 // The next difference of two pages, if they were accepted.
-fn next_of(older: &[u8], newer: &[u8], accepted: bool, at: Cursor) -> Step
+fn next_of(older: &[u8], newer: &[u8], frame: Frame, accepted: bool, at: Cursor) -> Step
+    requires { ⌜ frame ≡ frameOf (now older) (now newer) ⌝ }
     ensures { λ r. ⌜ r ≡ private.stepOf accepted (now (older .entry)) (now (newer .entry)) at ⌝ }
 {
     if accepted {
-        compare::next(older, newer, at)
+        compare::next_to(older, newer, frame, at)
     } else {
         Step::Done
     }
@@ -42,10 +44,11 @@ fn measure<'a>(older: &'a [u8], newer: &'a [u8], accepted: bool) -> usize
     requires { ⌜ length (private.linesFrom accepted (now older) (now newer) first) < 2 ^ 64 ⌝ }
     ensures { λ r. ⌜ r ≡ length (private.linesFrom accepted (now (older .entry)) (now (newer .entry)) first) ⌝ }
 {
+    let frame = compare::frame_of(older, newer);
     let mut size: usize = 0;
     let mut at = Cursor::first();
     loop {
-        let step = next_of(older, newer, accepted, at);
+        let step = next_of(older, newer, frame, accepted, at);
         let Step::Found(hit) = step else {
             return size;
         };
@@ -70,10 +73,11 @@ fn has_room<'a>(older: &'a [u8], newer: &'a [u8], opening: Opening, room: usize)
 fn put_lines<'a>(older: &'a [u8], newer: &'a [u8], accepted: bool, out: &mut [u8]) -> usize
     ensures { λ r. ⌜ writing·private.Puts (now (out .entry)) 0 (private.linesFrom accepted (now (older .entry)) (now (newer .entry)) first) (now (out .exit)) r ⌝ }
 {
+    let frame = compare::frame_of(older, newer);
     let mut size: usize = 0;
     let mut at = Cursor::first();
     loop {
-        let step = next_of(older, newer, accepted, at);
+        let step = next_of(older, newer, frame, accepted, at);
         let Step::Found(hit) = step else {
             return size;
         };

@@ -2,7 +2,7 @@
 use mathlib.Core.Bool.{false≢true}
 use native.Mathlib.Omega.{arith}
 use borrow.Author.Needs.{needs}
-use Rattle.compare.proofs.Steps.{last-older, last-newer, agree-other, agree-beyond, agree-alike}
+use Rattle.compare.proofs.Steps.{by-older, by-newer, by-other, by-beyond, by-alike}
 use Rattle.compare.proofs.do_agree.Statement.{statement}
 use Rattle.compare.proofs.do_agree.Tie as tie
 
@@ -10,11 +10,9 @@ pub do-agree-spec : {M : Type 1} → statement M
 do-agree-spec =
     tie.close
     (tie.spec
-    (λ c κs. search (last-older))
-    (λ c κs. search (last-newer))
-    (λ c. (search (agree-other), λ y. absurd (false≢true y)))
-    (λ c. search needs)
-    (λ c. (search (agree-beyond), λ y. absurd (false≢true y)))
+    (λ c. (search (by-older), λ y. absurd (false≢true y)))
+    (λ c. (search (by-newer), λ y. absurd (false≢true y)))
+    (λ c. (search (by-other), λ y. absurd (false≢true y)))
+    (λ c. (search (by-beyond), λ y. absurd (false≢true y)))
     (λ c κs. search needs)
-    (λ c. let second = c .before .before .before .before .before .before .before .before in
-    (search (agree-alike), λ y. (second .before .spot-at .ensures .1 (omega arith), second .spot-at2 .ensures .1 (omega arith)))))
+    (λ c. (search (by-alike), λ y. (omega arith, omega arith))))

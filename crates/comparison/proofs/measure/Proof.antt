@@ -10,10 +10,10 @@ use Rattle.comparison.proofs.measure.Statement.{statement}
 use Rattle.comparison.proofs.measure.Tie as tie
 
 abbrev Inv-loop : tie.InvT-loop
-Inv-loop older newer accepted size₀ at₀ size at = size + length (linesFrom accepted older newer at) ≡ length (linesFrom accepted older newer first)
+Inv-loop older newer accepted frame size₀ at₀ size at = size + length (linesFrom accepted older newer at) ≡ length (linesFrom accepted older newer first)
 
 abbrev μ-loop : tie.MeasureT-loop
-μ-loop older newer accepted size₀ at₀ size at = ahead older newer at
+μ-loop older newer accepted frame size₀ at₀ size at = ahead older newer at
 
 pub measure-spec : {M : Type 1} → statement M
 measure-spec =
@@ -21,6 +21,7 @@ measure-spec =
     (tie.spec
     Inv-loop
     μ-loop
+    (λ c κs. search needs)
     (λ c κs. search needs)
     (λ c. search (measure-first))
     (λ c κs. search needs)

@@ -8,10 +8,10 @@ use Rattle.comparison.proofs.put_lines.Statement.{statement}
 use Rattle.comparison.proofs.put_lines.Tie as tie
 
 abbrev Inv-loop : tie.InvT-loop
-Inv-loop older newer accepted out₀ size₀ at₀ out size at = Rest out₀ older newer accepted out size at × (length out ≡ length out₀)
+Inv-loop older newer accepted out₀ frame size₀ at₀ out size at = Rest out₀ older newer accepted out size at × (length out ≡ length out₀)
 
 abbrev μ-loop : tie.MeasureT-loop
-μ-loop older newer accepted out₀ size₀ at₀ out size at = ahead older newer at
+μ-loop older newer accepted out₀ frame size₀ at₀ out size at = ahead older newer at
 
 pub put-lines-spec : {M : Type 1} → statement M
 put-lines-spec =
@@ -19,6 +19,7 @@ put-lines-spec =
     (tie.spec
     Inv-loop
     μ-loop
+    (λ c κs. search needs)
     (λ c κs. search needs)
     (λ c. (search (rest-first), refl))
     (λ c κs. search needs)
