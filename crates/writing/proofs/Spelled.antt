@@ -1,14 +1,15 @@
 -- A short text at the end of 20 bytes; digits from the last to the first, and what each division puts in front.
 use Prim.Native.Nat.{ℕ, zero, suc, _+_, _-_, _/_, _%_, _≤_, _<_, min}
-use mathlib.Core.Bool.{Bool, true}
+use mathlib.Core.Bool.{Bool, true, false, cond, false≢true}
 use mathlib.Core.List.{List, [], _∷_, _++_}
 use mathlib.Core.Path.{_≡_, refl, sym, ap, _∙_}
 use native.Mathlib.Nat.{mod-lt}
 use native.Mathlib.Numerals.{add-one}
 use native.Mathlib.Omega.{arith}
-use lib.Dec.{lit<}
-use lib.ListN.{length, take, drop, set, replicate, length-append, length-replicate, length-drop}
+use lib.Dec.{lit<, eqb}
+use lib.ListN.{length, getD, take, drop, set, replicate, length-append, length-replicate, length-drop}
 use lib.Seq.{take-all, drop-at}
+use borrow.Author.Tests.{eqb-true, eqb-false}
 use Rattle.slices.specs.Lists.{fits, stored, ended}
 use Rattle.text.proofs.Digits.{glyph-low, length-digits, Counted, counted-next, counted-all}
 use Rattle.text.specs.Digits.{glyph, digits, placesOf, decimalOf}
@@ -19,6 +20,25 @@ use Rattle.writing.specs.declared.Spelling.{Spelling}
 use Rattle.writing.proofs.Puts.{puts-one, puts-more, whole-stored, whole-ended}
 
 -- ## Hexadecimal
+
+-- a test holds below n
+allBelow : ℕ → (ℕ → Bool) → Bool
+allBelow zero f = true
+allBelow (suc n) f = cond (f n) (allBelow n f) false
+
+each-below : (n : ℕ) (f : ℕ → Bool) → allBelow n f ≡ true → (d : ℕ) → d < n → f d ≡ true
+unfolding allBelow
+each-below zero f all d l = absurd (omega arith)
+each-below (suc n) f all d l = by-tests (f n) refl all (eqb d n) refl (λ rest. each-below n f rest d)
+  where
+    by-tests : (x : Bool) → f n ≡ x → cond x (allBelow n f) false ≡ true → (y : Bool) → eqb d n ≡ y → (allBelow n f ≡ true → d < n → f d ≡ true) → f d ≡ true
+    by-tests false p rest y e g = absurd (false≢true rest)
+    by-tests true p rest true e g = ap f (eqb-true d n e) ∙ p
+    by-tests true p rest false e g = g rest (omega (arith, eqb-false d n e))
+
+pub glyph-there : (d : ℕ) → d < 16 → getD (ascii "0123456789ABCDEF") d 0 ≡ glyph d
+unfolding allBelow
+glyph-there d l = eqb-true _ _ (each-below 16 (λ k. eqb (getD (ascii "0123456789ABCDEF") k 0) (glyph k)) refl d l)
 
 pub eight-laid : (x a b c d e f g h : ℕ)
     → a ≡ glyph (x / 16 / 16 / 16 / 16 / 16 / 16 / 16 % 16) → b ≡ glyph (x / 16 / 16 / 16 / 16 / 16 / 16 % 16) → c ≡ glyph (x / 16 / 16 / 16 / 16 / 16 % 16)

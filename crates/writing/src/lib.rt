@@ -12,7 +12,8 @@ fn digit(d: u8) -> u8
     requires { ⌜ d < 16 ⌝ }
     ensures { λ r. ⌜ r ≡ glyph d ⌝ }
 {
-    if d < 10 { 48 + d } else { 55 + d }
+    let glyphs = b"0123456789ABCDEF";
+    glyphs[d as usize]
 }
 
 // Two upper hexadecimal digits.

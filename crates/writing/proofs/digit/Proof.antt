@@ -1,14 +1,8 @@
 -- `writing::digit`.
 use borrow.Author.Needs.{needs}
-use Rattle.text.proofs.Digits.{glyph-low, glyph-high}
+use Rattle.writing.proofs.Spelled.{glyph-there}
 use Rattle.writing.proofs.digit.Statement.{statement}
 use Rattle.writing.proofs.digit.Tie as tie
 
 pub digit-spec : {M : Type 1} → statement M
-digit-spec =
-    tie.close
-    (tie.spec
-    (λ c. search needs)
-    (λ c. search needs)
-    (λ c. search (glyph-low))
-    (λ c. search (glyph-high)))
+digit-spec = tie.close (tie.spec (λ c. search needs) (λ c. search (glyph-there)))
