@@ -12,7 +12,7 @@ use Rattle.compare.specs.declared.Line.{Line}
 use Rattle.layout.specs.Bytes.{descriptorIn}
 use Rattle.layout.specs.declared.Descriptor.{Descriptor}
 use Rattle.paper.specs.declared.ElementId.{ElementId}
-use Rattle.parts.specs.Parts.{partOf}
+use Rattle.parts.specs.Parts.{descriptorPart, partOf}
 use Rattle.reach.specs.Opening.{heard}
 use Rattle.reach.specs.declared.Bound.the-variants.{Whole, UpTo}
 use Rattle.reach.specs.declared.Bound.{Bound}
@@ -30,7 +30,7 @@ use Rattle.words.specs.declared.Order.the-variants.{Little}
 use Rattle.writing.proofs.Puts.{puts-none, puts-one, puts-same, puts-more}
 use Rattle.writing.specs.Private.{Puts}
 use Rattle.changes.specs.Changes.{handed, olderOf, signed, changed, bodyOf, lineOf, boundLine, reachLine, refusedLine, lastLine}
-use Rattle.changes.specs.Private.{headOf}
+use Rattle.changes.specs.Private.{headOf, handedAt}
 use Rattle.changes.proofs.Lengths.{length-line}
 
 -- ## What a difference's line speaks of
@@ -42,6 +42,9 @@ handed-read s t l u is-u d is-d = is-d ∙ rw is-u
 older-is : (s t : List ℕ) (c : Cursor) → handed s t (OnlyOlder (c .older)) ≡ olderOf s c
 unfolding handed olderOf
 older-is s t c = refl
+
+pub handed-there : (s : List ℕ) (k : ℕ) (u : List ℕ) → u ≡ descriptorPart s k → (d : Descriptor) → d ≡ descriptorIn Little u → d ≡ handedAt s k
+handed-there s k u is-u d is-d = is-d ∙ rw is-u
 
 -- ## How long it is
 
@@ -112,26 +115,35 @@ signed-puts sign e d x y h at m r is-h is-x is-m is-y is-r =
     let H : List ℕ = headOf sign (e .id .0) in
     puts-more d x at m H (valuesOf e) y r (puts-one x y m r (valuesOf e) is-y is-r) (puts-same d x at m h H is-h is-x is-m)
 
-pub changed-puts : (e old : Descriptor) (d x y z : List ℕ) (at m n r : ℕ) → Puts d at (signed (ascii "~ ") e) x m
-    → y ≡ stored x m (ascii " <- ") → n ≡ ended x m (ascii " <- ") → z ≡ stored y n (valuesOf old) → r ≡ ended y n (valuesOf old) → Puts d at (changed e old) z r
-changed-puts e old d x y z at m n r one is-y is-n is-z is-r =
-    let E : List ℕ = signed (ascii "~ ") e in
-    let two : Puts x m (ascii " <- ") y n = puts-one x y m n (ascii " <- ") is-y is-n in
-    puts-more d y at n (E ++ ascii " <- ") (valuesOf old) z r (puts-one y z n r (valuesOf old) is-z is-r) (puts-more d x at m E (ascii " <- ") y n two one)
+module _ (s t : List ℕ) (c : Cursor) (e old : Descriptor) (is-e : e ≡ handedAt t (c .newer)) (is-old : old ≡ handedAt s (c .older)) where
+  body-changed : changed e old ≡ bodyOf s t (Changed c)
+  unfolding handed olderOf
+  body-changed = λ i. changed (is-e i) (is-old i)
 
-module _ (s t : List ℕ) (l : Line) (d : Descriptor) (is-d : d ≡ handed s t l) (b x : List ℕ) (at r : ℕ) where
+  pub changed-puts : (d x y z : List ℕ) (at m n r : ℕ) → Puts d at (signed (ascii "~ ") e) x m
+      → y ≡ stored x m (ascii " <- ") → n ≡ ended x m (ascii " <- ") → z ≡ stored y n (valuesOf old) → r ≡ ended y n (valuesOf old) → Puts d at (bodyOf s t (Changed c)) z r
+  changed-puts d x y z at m n r one is-y is-n is-z is-r =
+      let E : List ℕ = signed (ascii "~ ") e in
+      let two : Puts x m (ascii " <- ") y n = puts-one x y m n (ascii " <- ") is-y is-n in
+      let all : Puts d at (changed e old) z r =
+      puts-more d y at n (E ++ ascii " <- ") (valuesOf old) z r (puts-one y z n r (valuesOf old) is-z is-r) (puts-more d x at m E (ascii " <- ") y n two one) in
+      subst (λ (u : List ℕ). Puts d at u z r) body-changed all
+
+module _ (s t : List ℕ) (l : Line) (b x : List ℕ) (at r : ℕ) where
   named : (text : List ℕ) → text ≡ bodyOf s t l → Puts b at text x r → Puts b at (bodyOf s t l) x r
   named text e so = subst (λ (u : List ℕ). Puts b at u x r) e so
 
-  pub said-older : (k : ℕ) → l ≡ OnlyOlder k → Puts b at (signed (ascii "- ") d) x r → Puts b at (bodyOf s t l) x r
-  said-older k e = named (signed (ascii "- ") d) (rw (is-d, e))
+  module _ (k : ℕ) (d : Descriptor) where
+    pub said-older : l ≡ OnlyOlder k → d ≡ handedAt s k → Puts b at (signed (ascii "- ") d) x r → Puts b at (bodyOf s t l) x r
+    unfolding handed
+    said-older e is-d = named (signed (ascii "- ") d) (rw (is-d, e))
 
-  pub said-newer : (k : ℕ) → l ≡ OnlyNewer k → Puts b at (signed (ascii "+ ") d) x r → Puts b at (bodyOf s t l) x r
-  said-newer k e = named (signed (ascii "+ ") d) (rw (is-d, e))
+    pub said-newer : l ≡ OnlyNewer k → d ≡ handedAt t k → Puts b at (signed (ascii "+ ") d) x r → Puts b at (bodyOf s t l) x r
+    unfolding handed
+    said-newer e is-d = named (signed (ascii "+ ") d) (rw (is-d, e))
 
-  pub said-changed : (c : Cursor) → l ≡ Changed c → (old : Descriptor) → old ≡ handed s t (OnlyOlder (c .older))
-      → Puts b at (changed d old) x r → Puts b at (bodyOf s t l) x r
-  said-changed c e old is-old = named (changed d old) (rw (is-d, is-old ∙ older-is s t c, e))
+  pub said-changed : (c : Cursor) → l ≡ Changed c → Puts b at (bodyOf s t (Changed c)) x r → Puts b at (bodyOf s t l) x r
+  said-changed c e = named (bodyOf s t (Changed c)) (rw e)
 
 pub line-puts : (s t : List ℕ) (l : Line) (d x y : List ℕ) (at m r : ℕ) → Puts d at (bodyOf s t l) x m
     → y ≡ stored x m (ascii "\n") → r ≡ ended x m (ascii "\n") → Puts d at (lineOf s t l) y r

@@ -3,11 +3,13 @@
 ghost use mathlib.Core.List.{[], _∷_};
 ghost use mathlib.Core.Path.{_≡_};
 ghost use lib.ListN.{length};
+ghost use Rattle.compare.specs.declared.Line.the-variants.{Changed};
 ghost use Rattle.reach.specs.Opening.{heard};
 ghost use Rattle.slices.specs.Lists.{fits, stored, ended};
 ghost use Rattle.writing.specs.Private as writing·private;
 ghost use Rattle.changes.specs.Changes as paper;
 ghost use Rattle.changes.specs.Private as private;
+use compare::Cursor;
 use compare::Line;
 use layout::Descriptor;
 use paper::ElementId;
@@ -49,6 +51,13 @@ fn has_room<'a>(older: &'a [u8], newer: &'a [u8], line: Line, at: usize, room: u
     slices::does_fit(line_width(older, newer, line), at, room)
 }
 
+// The descriptor at a number, as a line hands it out.
+fn handed_at(page: &[u8], k: u32) -> Descriptor
+    ensures { λ r. ⌜ r ≡ private.handedAt (now (page .entry)) k ⌝ }
+{
+    Descriptor::read(parts::descriptor_part(page, k), Order::Little)
+}
+
 // A sign and the identifier, each with the space after it.
 fn head(sign: u8, id: ElementId) -> [u8; 11]
     ensures { λ r. ⌜ r ≡ private.headOf sign (id .0) ⌝ }
@@ -67,28 +76,28 @@ fn put_signed(out: &mut [u8], at: usize, sign: u8, d: Descriptor) -> usize
 }
 
 // The newer values, then the older after an arrow.
-fn put_changed(out: &mut [u8], at: usize, d: Descriptor, old: Descriptor) -> usize
-    ensures { λ r. ⌜ writing·private.Puts (now (out .entry)) at (paper.changed d old) (now (out .exit)) r ⌝ }
+fn put_changed<'a>(
+    older: &'a [u8],
+    newer: &'a [u8],
+    places: Cursor,
+    out: &mut [u8],
+    at: usize,
+) -> usize
+    ensures { λ r. ⌜ writing·private.Puts (now (out .entry)) at (paper.bodyOf (now (older .entry)) (now (newer .entry)) (Changed places)) (now (out .exit)) r ⌝ }
 {
-    let a = put_signed(out, at, b'~', d);
+    let a = put_signed(out, at, b'~', handed_at(newer, places.newer));
     let b = writing::word(out, a, b" <- ");
-    rows::put_values(out, b, old)
+    rows::put_values(out, b, handed_at(older, places.older))
 }
 
 // What a line says, without its end.
 fn put_body<'a>(older: &'a [u8], newer: &'a [u8], line: Line, out: &mut [u8], at: usize) -> usize
     ensures { λ r. ⌜ writing·private.Puts (now (out .entry)) at (paper.bodyOf (now (older .entry)) (now (newer .entry)) line) (now (out .exit)) r ⌝ }
 {
-    let d = handed(older, newer, line);
     match line {
-        Line::OnlyOlder(_) => put_signed(out, at, b'-', d),
-        Line::OnlyNewer(_) => put_signed(out, at, b'+', d),
-        Line::Changed(places) => put_changed(
-            out,
-            at,
-            d,
-            handed(older, newer, Line::OnlyOlder(places.older)),
-        ),
+        Line::OnlyOlder(k) => put_signed(out, at, b'-', handed_at(older, k)),
+        Line::OnlyNewer(k) => put_signed(out, at, b'+', handed_at(newer, k)),
+        Line::Changed(places) => put_changed(older, newer, places, out, at),
     }
 }
 

@@ -1,29 +1,23 @@
 // The descriptor itself that a line of a comparison speaks of, as part of the page that it came from.
 ghost use mathlib.Core.Path.{_≡_};
-ghost use Rattle.parts.specs.Parts.{firstPart, descriptorPart, partOf};
+ghost use Rattle.parts.specs.Parts.{descriptorPart, partOf};
 use compare::Line;
 use layout::Header;
 use words::Order;
 
-// The first 32 bytes; none of fewer.
-fn first_part(s: &[u8]) -> &[u8]
-    ensures { λ r. ⌜ now r ≡ firstPart (now (s .entry)) ⌝ }
-{
-    if s.len() < 32 {
-        return &s[..0];
-    }
-    &s[0..32]
-}
-
 // The 32 bytes of descriptor k; none where the page has no such descriptor.
-fn descriptor_part(page: &[u8], k: u32) -> &[u8]
+pub fn descriptor_part(page: &[u8], k: u32) -> &[u8]
     ensures { λ r. ⌜ now r ≡ descriptorPart (now (page .entry)) k ⌝ }
 {
     let h = Header::read(page, Order::Little);
     if h.returned <= k {
         return &page[..0];
     }
-    first_part(slices::tail(page, 32 + 32 * (k as usize)))
+    let base = 32 + 32 * (k as usize);
+    if page.len() < base + 32 {
+        return &page[..0];
+    }
+    &page[base..base + 32]
 }
 
 // The descriptor that a line speaks of, as part of the page that it came from, the newer if it is in both.
