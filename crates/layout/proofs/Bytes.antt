@@ -1,11 +1,14 @@
 -- The header's and the descriptor's 32 bytes: as the code lays them, and read back. Both orders compute, so each law goes by the order.
-use Prim.Native.Nat.{ℕ, _%_}
+use Prim.Native.Nat.{ℕ, _+_, _-_, _%_, _≤_}
 use mathlib.Core.Bool.{Bool, true, false}
 use mathlib.Core.List.{List, [], _∷_, _++_}
 use mathlib.Core.Path.{_≡_, refl, sym, ap, _∙_}
+use native.Mathlib.Omega.{arith}
 use lib.Dec.{eqb}
-use lib.ListN.{getD, replicate}
-use Rattle.slices.specs.Lists.{stored, one}
+use lib.ListN.{length, getD, take, drop, replicate, length-drop}
+use borrow.Author.Tests.{leb-true}
+use Rattle.slices.proofs.Lists.{part-end}
+use Rattle.slices.specs.Lists.{fits, stored, one}
 use Rattle.words.proofs.Bytes.{number-bytesOf, placed, number-placed}
 use Rattle.words.specs.Bytes.{bytesOf, number, numberAt}
 use Rattle.words.specs.declared.Order.the-variants.{Little, Big}
@@ -67,8 +70,19 @@ module _ (s : List ℕ) where
 pub header-little : {o : Order} (s : List ℕ) (h : Header) → o ≡ Little → h ≡ headerIn Little s → h ≡ headerIn o s
 header-little s h e so = so ∙ sym (ap (λ (p : Order). headerIn p s) e)
 
-pub descriptor-little : {o : Order} (s : List ℕ) (d : Descriptor) → o ≡ Little → d ≡ descriptorIn Little s → d ≡ descriptorIn o s
-descriptor-little s d e so = so ∙ sym (ap (λ (p : Order). descriptorIn p s) e)
+-- from a place on, where 32 bytes fit
+module _ (s : List ℕ) (at : ℕ) (b : Bool) (is-b : b ≡ fits 32 at (length s)) (so : b ≡ true) where
+  pub place-inside : at ≤ length s
+  place-inside = omega (arith, leb-true (at + 32) (length s) (sym is-b ∙ so))
+
+  pub place-there : 32 ≤ length (take (length s - at) (drop at s))
+  place-there = rw (part-end s at) (omega (arith, leb-true (at + 32) (length s) (sym is-b ∙ so), length-drop at s))
+
+pub descriptor-from : (o : Order) (s : List ℕ) (at : ℕ) (d : Descriptor) → o ≡ Little → d ≡ descriptorIn Little (take (length s - at) (drop at s)) → d ≡ descriptorIn o (drop at s)
+descriptor-from o s at d e so = so ∙ ap (descriptorIn Little) (part-end s at) ∙ sym (ap (λ (p : Order). descriptorIn p (drop at s)) e)
+
+pub descriptor-part : (o : Order) (s u : List ℕ) (at : ℕ) → u ≡ drop at s → (d : Descriptor) → d ≡ descriptorIn o u → d ≡ descriptorIn o (drop at s)
+descriptor-part o s u at is-u d is-d = is-d ∙ ap (descriptorIn o) is-u
 
 -- ## What was laid is read back, whatever follows it
 

@@ -1,7 +1,7 @@
 // What device and reader share of a status page: the header and the descriptor, in either byte order.
 ghost use mathlib.Core.Path.{_≡_};
 ghost use Prim.Native.Nat.{_≤_};
-ghost use lib.ListN.{length};
+ghost use lib.ListN.{length, drop};
 ghost use Rattle.layout.specs.Bytes.{headerBytes, headerIn, descriptorBytes, descriptorIn};
 use paper::ElementId;
 use words::Order;
@@ -95,12 +95,19 @@ impl Descriptor {
     pub fn read(s: &[u8], o: Order) -> Descriptor
         ensures { λ r. ⌜ r ≡ descriptorIn o (now (s .entry)) ⌝ }
     {
-        if s.len() < 32 {
-            return Descriptor::part(s, o);
+        Descriptor::read_at(s, 0, o)
+    }
+
+    // The descriptor that stands from a place on.
+    pub fn read_at(s: &[u8], at: usize, o: Order) -> Descriptor
+        ensures { λ r. ⌜ r ≡ descriptorIn o (drop at (now (s .entry))) ⌝ }
+    {
+        if !slices::does_fit(32, at, s.len()) {
+            return Descriptor::part(slices::tail(s, at), o);
         }
         match o {
-            Order::Little => Descriptor::whole(s),
-            Order::Big => Descriptor::part(s, o),
+            Order::Little => Descriptor::whole(&s[at..]),
+            Order::Big => Descriptor::part(slices::tail(s, at), o),
         }
     }
 

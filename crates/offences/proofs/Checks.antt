@@ -1,13 +1,11 @@
 -- The checks of a descriptor: a law for each way out.
-use Prim.Native.Nat.{ℕ, _+_, _*_}
+use Prim.Native.Nat.{ℕ, _+_}
 use mathlib.Core.Bool.{Bool, true, false}
 use mathlib.Core.List.{List}
 use mathlib.Core.Path.{_≡_, sym, ap, _∙_}
 use native.Mathlib.Numerals.{add-one}
 use lib.Dec.{eqb, ltb}
-use lib.ListN.{drop}
 use borrow.Author.Tests.{eq-eqb, ne-eqb}
-use Rattle.layout.specs.Bytes.{descriptorIn}
 use Rattle.layout.specs.declared.Descriptor.{Descriptor}
 use Rattle.request.specs.Requests.{filterOf, reportTypeOf, takesId, takesType, takesHealth}
 use Rattle.request.specs.declared.Request.{Request}
@@ -53,9 +51,6 @@ module _ (q : Request) (last base : ℕ) (d : Descriptor) (t : Bool) (is-t : t �
         judged-clean y = sym (rw (sym is-t ∙ in-turn, sym is-e ∙ is-earned, sym is-k ∙ of-type, sym is-h ∙ y))
 
 -- ## One turn over the descriptors
-
-pub descriptor-read : (o : Order) (s t : List ℕ) (k : ℕ) → t ≡ drop (32 + 32 * k) s → (d : Descriptor) → d ≡ descriptorIn o t → d ≡ descriptorAt o s k
-descriptor-read o s t k is-t d is-d = is-d ∙ ap (descriptorIn o) is-t
 
 module _ (o : Order) (s : List ℕ) (q : Request) (k : ℕ) (d : Descriptor) (is-d : d ≡ descriptorAt o s k) where
   pub judged-here : (last : ℕ) → last ≡ lastBefore o s k → (r : Offence) → r ≡ checkOf q last (baseOf k) d → r ≡ offenceAt o s q k

@@ -63,7 +63,7 @@ pub fn descriptor_at(page: &[u8], k: u32, o: Order) -> Descriptor
     ensures { λ r. ⌜ r ≡ descriptorAt o (now (page .entry)) k ⌝ }
 {
     let base = 32 + 32 * (k as usize);
-    Descriptor::read(slices::tail(page, base), o)
+    Descriptor::read_at(page, base, o)
 }
 
 // The first offence of the first `count` descriptors.
