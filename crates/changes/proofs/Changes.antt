@@ -1,11 +1,9 @@
 -- Laws of a comparison's lines: one for each way out of a function, and how long they are.
 use Prim.Native.Nat.{ℕ, _+_, _^_, _<_}
-use mathlib.Core.Bool.{Bool, true}
 use mathlib.Core.List.{List, [], _∷_, _++_}
-use mathlib.Core.Path.{_≡_, refl, sym, subst, _∙_}
+use mathlib.Core.Path.{_≡_, refl, subst, _∙_}
 use native.Mathlib.Omega.{arith}
 use lib.ListN.{length, getD, length-append}
-use borrow.Author.Tests.{le-leb, leb-true}
 use Rattle.compare.specs.declared.Cursor.{Cursor}
 use Rattle.compare.specs.declared.Line.the-variants.{OnlyOlder, OnlyNewer, Changed}
 use Rattle.compare.specs.declared.Line.{Line}
@@ -23,7 +21,7 @@ use Rattle.reach.specs.declared.Turn.{Turn}
 use Rattle.rows.proofs.Rows as rows
 use Rattle.rows.proofs.Rows.{length-values}
 use Rattle.rows.specs.Rows.{valuesOf, descriptorLine}
-use Rattle.slices.specs.Lists.{fits, stored, ended}
+use Rattle.slices.specs.Lists.{stored, ended}
 use Rattle.text.specs.Digits.{digits}
 use Rattle.text.specs.Text.{ascii}
 use Rattle.words.specs.declared.Order.the-variants.{Little}
@@ -31,7 +29,6 @@ use Rattle.writing.proofs.Puts.{puts-none, puts-one, puts-same, puts-more}
 use Rattle.writing.specs.Private.{Puts}
 use Rattle.changes.specs.Changes.{handed, olderOf, signed, changed, bodyOf, lineOf, boundLine, reachLine, refusedLine, lastLine}
 use Rattle.changes.specs.Private.{headOf, handedAt}
-use Rattle.changes.proofs.Lengths.{length-line}
 
 -- ## What a difference's line speaks of
 
@@ -94,14 +91,6 @@ module _ (d : Descriptor) (w : ℕ) (is-w : w ≡ length (descriptorLine d)) whe
 
   pub both-fit : (old : Descriptor) (v : ℕ) → v ≡ length (valuesOf old) → 2 + w + 4 + v < 2 ^ 64
   both-fit old v is-v = omega (arith, rows.length-line d, length-values old)
-
-module _ (s t : List ℕ) (l : Line) (at room : ℕ) (b : Bool) where
-  pub room-unmeasured : b ≡ fits 68 at room → b ≡ true → true ≡ fits (length (lineOf s t l)) at room
-  room-unmeasured is-b there =
-      sym (le-leb (at + length (lineOf s t l)) room (omega (arith, length-line s t l, leb-true (at + 68) room (sym is-b ∙ there))))
-
-  pub room-measured : (n : ℕ) → n ≡ length (lineOf s t l) → b ≡ fits n at room → b ≡ fits (length (lineOf s t l)) at room
-  room-measured n is-n is-b = is-b ∙ rw is-n
 
 -- ## What it says
 

@@ -15,10 +15,7 @@ use Rattle.text.specs.Digits.{digits, decimalOf}
 use Rattle.text.specs.Text.{ascii, written}
 use Rattle.text.specs.declared.Text.{Text}
 use Rattle.writing.proofs.Puts.{puts-one, puts-same, puts-more}
-use Rattle.writing.proofs.Spelled.{shown-spelled}
 use Rattle.writing.specs.Private.{Puts}
-use Rattle.writing.specs.Writing.{spelled, shown}
-use Rattle.writing.specs.declared.Spelling.{Spelling}
 use Rattle.rows.specs.Private.{gradeOf, headOf}
 use Rattle.rows.specs.Rows.{capacityOf, valuesOf, descriptorLine}
 
@@ -42,35 +39,56 @@ pub head-laid : (d : Descriptor) (i g : List ℕ) → i ≡ digits 16 8 (d .id .
     ≡ headOf d
 head-laid d i g is-i is-g = rw (is-i, is-g)
 
+-- ## A capacity, stored and measured
+
+module _ (c : ℕ) (b : Bool) (is-b : b ≡ eqb c allOnes) where
+  module _ (so : b ≡ true) where
+    dashed : ascii "-" ≡ capacityOf c
+    dashed = sym (rw (sym is-b ∙ so))
+
+    pub dash-wide : 1 ≡ length (capacityOf c)
+    dash-wide = ap length dashed
+
+    pub dash-stored : (d x : List ℕ) (at : ℕ) → x ≡ stored d at (ascii "-") → x ≡ stored d at (capacityOf c)
+    dash-stored d x at is-x = is-x ∙ ap (stored d at) dashed
+
+    pub dash-ended : (d : List ℕ) (at r : ℕ) → r ≡ ended d at (ascii "-") → r ≡ ended d at (capacityOf c)
+    dash-ended d at r is-r = is-r ∙ ap (ended d at) dashed
+
+  module _ (so : b ≡ false) where
+    numbered : decimalOf c ≡ capacityOf c
+    numbered = sym (rw (sym is-b ∙ so))
+
+    pub number-wide : (w : ℕ) → w ≡ length (decimalOf c) → w ≡ length (capacityOf c)
+    number-wide w is-w = is-w ∙ ap length numbered
+
+    pub number-stored : (d x : List ℕ) (at : ℕ) → x ≡ stored d at (decimalOf c) → x ≡ stored d at (capacityOf c)
+    number-stored d x at is-x = is-x ∙ ap (stored d at) numbered
+
+    pub number-ended : (d : List ℕ) (at r : ℕ) → r ≡ ended d at (decimalOf c) → r ≡ ended d at (capacityOf c)
+    number-ended d at r is-r = is-r ∙ ap (ended d at) numbered
+
 -- ## A descriptor's line
 
-module _ (c : ℕ) (s : Spelling) where
-  pub spelled-unreported : c ≡ allOnes → s ≡ spelled (ascii "-") → s ≡ spelled (capacityOf c)
-  spelled-unreported e so = so ∙ sym (rw (eq-eqb c allOnes e))
-
-  pub spelled-known : (c ≡ allOnes → ⊥) → s ≡ spelled (decimalOf c) → s ≡ spelled (capacityOf c)
-  spelled-known e so = so ∙ sym (rw (ne-eqb c allOnes e))
-
-module _ (e : Descriptor) (d x y z h : List ℕ) (s : Spelling) (at m n r : ℕ) where
-  pub line-puts : h ≡ headOf e → s ≡ spelled (capacityOf (e .capacity)) → x ≡ stored d at h → m ≡ ended d at h
-      → y ≡ stored x m (shown s) → n ≡ ended x m (shown s) → z ≡ stored y n (ascii "\n") → r ≡ ended y n (ascii "\n") → Puts d at (descriptorLine e) z r
-  line-puts is-h is-s is-x is-m is-y is-n is-z is-r =
+module _ (e : Descriptor) (d x y z h : List ℕ) (at m n r : ℕ) where
+  pub line-puts : h ≡ headOf e → x ≡ stored d at h → m ≡ ended d at h
+      → y ≡ stored x m (capacityOf (e .capacity)) → n ≡ ended x m (capacityOf (e .capacity)) → z ≡ stored y n (ascii "\n") → r ≡ ended y n (ascii "\n")
+      → Puts d at (descriptorLine e) z r
+  line-puts is-h is-x is-m is-y is-n is-z is-r =
       let C : List ℕ = capacityOf (e .capacity) in
       let one : Puts d at (headOf e) x m = puts-same d x at m h (headOf e) is-h is-x is-m in
-      let two : Puts x m C y n = puts-same x y m n (shown s) C (ap shown is-s ∙ shown-spelled C) is-y is-n in
+      let two : Puts x m C y n = puts-one x y m n C is-y is-n in
       let three : Puts y n (ascii "\n") z r = puts-one y z n r (ascii "\n") is-z is-r in
       puts-more d y at n (headOf e ++ C) (ascii "\n") z r three (puts-more d x at m (headOf e) C y n two one)
 
 -- ## An element's values
 
-module _ (e : Descriptor) (d x y g : List ℕ) (s : Spelling) (at m r : ℕ) where
-  pub values-puts : g ≡ gradeOf e → s ≡ spelled (capacityOf (e .capacity)) → x ≡ stored d at g → m ≡ ended d at g
-      → y ≡ stored x m (shown s) → r ≡ ended x m (shown s) → Puts d at (valuesOf e) y r
-  values-puts is-g is-s is-x is-m is-y is-r =
+module _ (e : Descriptor) (d x y g : List ℕ) (at m r : ℕ) where
+  pub values-puts : g ≡ gradeOf e → x ≡ stored d at g → m ≡ ended d at g
+      → y ≡ stored x m (capacityOf (e .capacity)) → r ≡ ended x m (capacityOf (e .capacity)) → Puts d at (valuesOf e) y r
+  values-puts is-g is-x is-m is-y is-r =
       let C : List ℕ = capacityOf (e .capacity) in
-      let one : Puts d at (gradeOf e) x m = puts-same d x at m g (gradeOf e) is-g is-x is-m in
-      let two : Puts x m C y r = puts-same x y m r (shown s) C (ap shown is-s ∙ shown-spelled C) is-y is-r in
-      puts-more d x at m (gradeOf e) C y r two one
+      puts-more d x at m (gradeOf e) C y r (puts-one x y m r C is-y is-r) (puts-same d x at m g (gradeOf e) is-g is-x is-m)
 
 -- ## How long
 
@@ -84,11 +102,12 @@ length-capacity n = by-test (eqb n allOnes)
 pub length-values : (d : Descriptor) → length (valuesOf d) ≤ 26
 length-values d = simp length-append (omega (arith, length-capacity (d .capacity)))
 
-pub width-values : (d : Descriptor) (s : Spelling) → s ≡ spelled (capacityOf (d .capacity)) → 6 + s .count ≡ length (valuesOf d)
-width-values d s is-s = simp length-append (omega (arith, ap (λ (t : Spelling). t .count) is-s))
-
-pub width-line : (d : Descriptor) (s : Spelling) → s ≡ spelled (capacityOf (d .capacity)) → 16 + s .count ≡ length (descriptorLine d)
-width-line d s is-s = simp length-append (omega (arith, ap (λ (t : Spelling). t .count) is-s))
-
 pub length-line : (d : Descriptor) → length (descriptorLine d) ≤ 36
 length-line d = simp length-append (omega (arith, length-capacity (d .capacity)))
+
+module _ (d : Descriptor) (w : ℕ) (is-w : w ≡ length (capacityOf (d .capacity))) where
+  pub width-values : 6 + w ≡ length (valuesOf d)
+  width-values = simp length-append (omega (arith, is-w))
+
+  pub width-line : 16 + w ≡ length (descriptorLine d)
+  width-line = simp length-append (omega (arith, is-w))

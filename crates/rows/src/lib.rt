@@ -1,16 +1,16 @@
 // The lines of a listing: a descriptor's, and an element's values, stored straight into a lent buffer; a header's numbers and an element's values,
 // after a text.
 ghost use mathlib.Core.Path.{_≡_};
+ghost use lib.Dec.{eqb};
 ghost use lib.ListN.{length};
-ghost use Rattle.slices.specs.Lists.{stored, ended};
+ghost use Rattle.layout.specs.Bytes.{allOnes};
+ghost use Rattle.slices.specs.Lists.{fits, stored, ended};
 ghost use Rattle.text.specs.Text.{written};
-ghost use Rattle.writing.specs.Writing.{spelled};
 ghost use Rattle.rows.specs.Private as private;
 ghost use Rattle.rows.specs.Rows.{capacityOf, valuesOf, descriptorLine, headerOf};
 use layout::Descriptor;
 use layout::Header;
 use text::Text;
-use writing::Spelling;
 
 // A capacity after a text.
 fn write_capacity(t: Text, capacity: u64) -> Text
@@ -42,18 +42,30 @@ pub fn write_header(t: Text, h: Header) -> Text
         .field(b" removed ", h.removed as u64)
 }
 
-fn capacity_of(blocks: u64) -> Spelling
-    ensures { λ r. ⌜ r ≡ spelled (capacityOf blocks) ⌝ }
+// Whether a capacity is all ones.
+fn is_unreported(blocks: u64) -> bool
+    ensures { λ r. ⌜ r ≡ eqb blocks allOnes ⌝ }
 {
-    if blocks == 0xFFFF_FFFF_FFFF_FFFF {
-        let mut dash = [0u8; 20];
-        dash[19] = b'-';
-        return Spelling {
-            bytes: dash,
-            count: 1,
-        };
+    blocks == 0xFFFF_FFFF_FFFF_FFFF
+}
+
+fn capacity_width(blocks: u64) -> usize
+    ensures { λ r. ⌜ r ≡ length (capacityOf blocks) ⌝ }
+{
+    if is_unreported(blocks) {
+        return 1;
     }
-    writing::decimal_of(blocks)
+    writing::width(blocks)
+}
+
+fn put_capacity(out: &mut [u8], at: usize, blocks: u64) -> usize
+    ensures { λ _. ⌜ now (out .exit) ≡ stored (now (out .entry)) at (capacityOf blocks) ⌝ }
+    ensures { λ r. ⌜ r ≡ ended (now (out .entry)) at (capacityOf blocks) ⌝ }
+{
+    if is_unreported(blocks) {
+        return writing::word(out, at, b"-");
+    }
+    writing::decimal(out, at, blocks)
 }
 
 // Type and health, each with the space after it.
@@ -94,7 +106,17 @@ fn head(d: Descriptor) -> [u8; 15]
 pub fn descriptor_width(d: Descriptor) -> usize
     ensures { λ r. ⌜ r ≡ length (descriptorLine d) ⌝ }
 {
-    16 + capacity_of(d.capacity).count
+    16 + capacity_width(d.capacity)
+}
+
+// Whether a descriptor's line fits from a place on. Each fits 36 bytes, so that where these are there nothing is measured.
+fn line_fits(d: Descriptor, at: usize, room: usize) -> bool
+    ensures { λ r. ⌜ r ≡ fits (length (descriptorLine d)) at room ⌝ }
+{
+    if slices::does_fit(36, at, room) {
+        return true;
+    }
+    slices::does_fit(descriptor_width(d), at, room)
 }
 
 // Stores a descriptor's line from a place on and answers where it ends; nothing, if it does not fit.
@@ -102,13 +124,12 @@ pub fn put_descriptor(out: &mut [u8], at: usize, d: Descriptor) -> usize
     ensures { λ _. ⌜ now (out .exit) ≡ stored (now (out .entry)) at (descriptorLine d) ⌝ }
     ensures { λ r. ⌜ r ≡ ended (now (out .entry)) at (descriptorLine d) ⌝ }
 {
-    let capacity = capacity_of(d.capacity);
-    if !slices::does_fit(16 + capacity.count, at, out.len()) {
+    if !line_fits(d, at, out.len()) {
         return at;
     }
     let begun = head(d);
     let a = writing::word(out, at, &begun);
-    let b = capacity.put(out, a);
+    let b = put_capacity(out, a, d.capacity);
     writing::word(out, b, b"\n")
 }
 
@@ -116,7 +137,17 @@ pub fn put_descriptor(out: &mut [u8], at: usize, d: Descriptor) -> usize
 pub fn values_width(d: Descriptor) -> usize
     ensures { λ r. ⌜ r ≡ length (valuesOf d) ⌝ }
 {
-    6 + capacity_of(d.capacity).count
+    6 + capacity_width(d.capacity)
+}
+
+// Whether an element's values fit from a place on: each fit 26 bytes.
+fn values_fit(d: Descriptor, at: usize, room: usize) -> bool
+    ensures { λ r. ⌜ r ≡ fits (length (valuesOf d)) at room ⌝ }
+{
+    if slices::does_fit(26, at, room) {
+        return true;
+    }
+    slices::does_fit(values_width(d), at, room)
 }
 
 // Stores an element's values from a place on and answers where they end; nothing, if they do not fit.
@@ -124,11 +155,10 @@ pub fn put_values(out: &mut [u8], at: usize, d: Descriptor) -> usize
     ensures { λ _. ⌜ now (out .exit) ≡ stored (now (out .entry)) at (valuesOf d) ⌝ }
     ensures { λ r. ⌜ r ≡ ended (now (out .entry)) at (valuesOf d) ⌝ }
 {
-    let capacity = capacity_of(d.capacity);
-    if !slices::does_fit(6 + capacity.count, at, out.len()) {
+    if !values_fit(d, at, out.len()) {
         return at;
     }
     let begun = grade(d);
     let a = writing::word(out, at, &begun);
-    capacity.put(out, a)
+    put_capacity(out, a, d.capacity)
 }

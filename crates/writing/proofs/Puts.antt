@@ -41,7 +41,17 @@ module _ (d x : List ℕ) (at r : ℕ) where
       let second : (y ≡ stored x r b) × (m ≡ r + length b) = two (omega arith) in
       (second .0 ∙ rw (first .0, first .1) (stored-more d at a b room), omega arith)
 
--- after the test of the room
+-- ## The test of the room
+
+module _ (text : List ℕ) (n at room : ℕ) (b : Bool) (is-b : b ≡ fits n at room) where
+  -- where more bytes fit than the text can have, it is not measured
+  pub fits-unmeasured : length text ≤ n → b ≡ true → true ≡ fits (length text) at room
+  fits-unmeasured short so = sym (le-leb (at + length text) room (omega (arith, leb-true (at + n) room (sym is-b ∙ so))))
+
+  pub fits-measured : n ≡ length text → b ≡ fits (length text) at room
+  fits-measured is-n = is-b ∙ rw is-n
+
+-- after it
 module _ (text d : List ℕ) (at n : ℕ) (t : Bool) (is-n : n ≡ length text) (is-t : t ≡ fits n at (length d)) where
   same-test : t ≡ fits (length text) at (length d)
   same-test = is-t ∙ rw is-n

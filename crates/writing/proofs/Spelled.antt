@@ -94,7 +94,7 @@ module _ (n : ℕ) (t : List ℕ) (rest m : ℕ) (so : Spelled n t rest m) where
 
 -- ## What is shown
 
-pub shown-spelled : (l : List ℕ) → shown (spelled l) ≡ l
+shown-spelled : (l : List ℕ) → shown (spelled l) ≡ l
 shown-spelled l = drop-at (replicate (20 - length l) 0) l (20 - length l) (length-replicate (20 - length l) 0)
 
 module _ (s : Spelling) (l d : List ℕ) (at : ℕ) (is-s : s ≡ spelled l) where

@@ -1,6 +1,7 @@
 -- `changes::has_room`.
 use borrow.Author.Needs.{needs}
-use Rattle.changes.proofs.Changes.{room-unmeasured, room-measured}
+use Rattle.writing.proofs.Puts.{fits-unmeasured, fits-measured}
+use Rattle.changes.proofs.Lengths.{length-line}
 use Rattle.changes.proofs.has_room.Statement.{statement}
 use Rattle.changes.proofs.has_room.Tie as tie
 
@@ -9,7 +10,7 @@ has-room-spec =
     tie.close
     (tie.spec
     (λ c κs. search needs)
-    (λ c. search (room-unmeasured))
+    (λ c. search (fits-unmeasured, length-line))
     (λ c κs. search needs)
     (λ c κs. search needs)
-    (λ c. search (room-measured)))
+    (λ c. search (fits-measured)))

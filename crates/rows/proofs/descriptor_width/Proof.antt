@@ -10,7 +10,7 @@ descriptor-width-spec =
     tie.close
     (tie.spec
     (λ c κs. search needs)
-    (λ c. let d = c .before .before .args .d in
-    let capacity = c .before .capacity-of in
+    (λ c. let d = c .before .args .d in
+    let capacity = c .capacity-width in
     omega (arith, width-line d (capacity .result) (capacity .ensures), length-line d))
     (λ c. search (width-line)))

@@ -10,7 +10,7 @@ values-width-spec =
     tie.close
     (tie.spec
     (λ c κs. search needs)
-    (λ c. let d = c .before .before .args .d in
-    let capacity = c .before .capacity-of in
+    (λ c. let d = c .before .args .d in
+    let capacity = c .capacity-width in
     omega (arith, width-values d (capacity .result) (capacity .ensures), length-values d))
     (λ c. search (width-values)))
