@@ -71,6 +71,7 @@ fn whole_at(page: &[u8], k: u32) -> Descriptor
     Descriptor::read(&page[base..base + 32], Order::Little)
 }
 
+// The identifier of descriptor k: where its bytes are there, no other is read.
 fn id_at(page: &[u8], k: u32) -> ElementId
     ensures { λ r. ⌜ r ≡ elementAt (now (page .entry)) k .id ⌝ }
 {
@@ -149,7 +150,7 @@ fn past_part(older: &[u8], newer: &[u8], frame: Frame, from: Cursor) -> Cursor
     }
 }
 
-// Past what agrees. As long as the bytes are there, nothing is tested for in reading them.
+// Past what agrees. As long as the bytes are there they are not tested for one by one; where they are not, the rest of the way is `past_part`'s.
 fn past(older: &[u8], newer: &[u8], frame: Frame, from: Cursor) -> Cursor
     ensures { λ r. ⌜ r ≡ paper.past (now (older .entry)) (now (newer .entry)) frame (frame .last .older - from .older) from ⌝ }
 {
