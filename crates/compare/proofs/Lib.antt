@@ -3,6 +3,7 @@ pub mod Ascending
 pub mod EveryComparison
 pub mod Examples
 pub mod Merging
+pub mod Places
 pub mod Reserved
 pub mod Standings
 pub mod Steps

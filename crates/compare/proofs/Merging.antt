@@ -19,8 +19,9 @@ use Rattle.compare.specs.declared.Line.{Line}
 use Rattle.compare.specs.declared.Step.the-variants.{Done}
 use Rattle.compare.specs.declared.Step.{Step}
 use Rattle.compare.proofs.Ascending.{Ascends, ascends}
+use Rattle.compare.proofs.Places.{inside}
 use Rattle.compare.proofs.Standings.{Split, between, nearer-to, not-below, stands-there, past-it}
-use Rattle.compare.proofs.Steps.{inside, agree-other, agree-beyond, agree-if, step-done, step-found, found-older, found-newer, found-changed, least-first, least-second, next-on, next-here}
+use Rattle.compare.proofs.Steps.{agree-other, agree-beyond, agree-if, step-done, step-found, found-older, found-newer, found-changed, least-first, least-second, next-on, next-here}
 use Rattle.compare.proofs.Walking.{walk-done, walk-found, walk-ends}
 
 -- an identifier of a number

@@ -11,7 +11,7 @@ use Rattle.reach.specs.Pages.{countOf}
 use Rattle.compare.specs.Differences.{absent, stands, standingIn, standing}
 use Rattle.compare.specs.Walk.{keyAt}
 use Rattle.compare.proofs.Ascending.{idAt, Ascends}
-use Rattle.compare.proofs.Steps.{inside}
+use Rattle.compare.proofs.Places.{inside}
 
 -- ## Among the first n
 

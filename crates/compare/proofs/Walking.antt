@@ -18,7 +18,8 @@ use Rattle.compare.specs.declared.Line.the-variants.{OnlyOlder, OnlyNewe
 use Rattle.compare.specs.declared.Line.{Line}
 use Rattle.compare.specs.declared.Step.the-variants.{Done, Found}
 use Rattle.compare.specs.declared.Step.{Step}
-use Rattle.compare.proofs.Steps.{inside, least-first, least-second}
+use Rattle.compare.proofs.Places.{inside}
+use Rattle.compare.proofs.Steps.{least-first, least-second}
 
 -- ## A step
 

@@ -2,7 +2,7 @@
 use mathlib.Core.Bool.{false≢true}
 use native.Mathlib.Omega.{arith}
 use borrow.Author.Needs.{needs}
-use Rattle.compare.proofs.Steps.{by-older, by-newer, by-other, by-beyond, by-alike}
+use Rattle.compare.proofs.Places.{by-older, by-newer, by-other, by-beyond, by-alike}
 use Rattle.compare.proofs.do_agree.Statement.{statement}
 use Rattle.compare.proofs.do_agree.Tie as tie
 

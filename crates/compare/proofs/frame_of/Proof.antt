@@ -1,6 +1,6 @@
 -- `compare::frame_of`.
 use borrow.Author.Needs.{needs}
-use Rattle.compare.proofs.Steps.{frame-read}
+use Rattle.compare.proofs.Places.{frame-read}
 use Rattle.compare.proofs.frame_of.Statement.{statement}
 use Rattle.compare.proofs.frame_of.Tie as tie
 

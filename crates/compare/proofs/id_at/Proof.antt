@@ -1,6 +1,6 @@
 -- `compare::id_at`.
 use borrow.Author.Needs.{needs}
-use Rattle.compare.proofs.Steps.{there-whole, id-whole, id-read}
+use Rattle.compare.proofs.Places.{there-whole, id-whole, id-read}
 use Rattle.compare.proofs.id_at.Statement.{statement}
 use Rattle.compare.proofs.id_at.Tie as tie
 

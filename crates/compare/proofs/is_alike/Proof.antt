@@ -1,6 +1,6 @@
 -- `compare::is_alike`.
 use borrow.Author.Tests.{not-true, not-false}
-use Rattle.compare.proofs.Steps.{alike-kind, alike-health, alike-flag, alike-rest}
+use Rattle.compare.proofs.Places.{alike-kind, alike-health, alike-flag, alike-rest}
 use Rattle.compare.proofs.is_alike.Statement.{statement}
 use Rattle.compare.proofs.is_alike.Tie as tie
 

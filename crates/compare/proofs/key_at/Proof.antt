@@ -1,7 +1,7 @@
 -- `compare::key_at`.
 use native.Mathlib.Omega.{arith}
 use borrow.Author.Needs.{needs}
-use Rattle.compare.proofs.Steps.{key-none, key-there}
+use Rattle.compare.proofs.Places.{key-none, key-there}
 use Rattle.compare.proofs.key_at.Statement.{statement}
 use Rattle.compare.proofs.key_at.Tie as tie
 

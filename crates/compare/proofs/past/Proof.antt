@@ -1,11 +1,12 @@
 -- `compare::past`. The invariant is that of `past_part`.
 use Prim.Native.Nat.{_-_}
-use mathlib.Core.Path.{_≡_, refl, sym, _∙_}
+use mathlib.Core.Path.{_≡_, refl}
 use native.Mathlib.Omega.{arith}
 use borrow.Author.Needs.{needs}
 use borrow.Author.Tests.{not-true, not-false}
 use Rattle.compare.specs.Walk as paper
-use Rattle.compare.proofs.Steps.{there-whole, turn-part, turn-less, turn-again, turn-ends}
+use Rattle.compare.proofs.Places.{there-whole}
+use Rattle.compare.proofs.Steps.{turn-part, turn-less, turn-again, turn-ends}
 use Rattle.compare.proofs.past.Statement.{statement}
 use Rattle.compare.proofs.past.Tie as tie
 

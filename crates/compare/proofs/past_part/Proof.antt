@@ -5,7 +5,8 @@ use native.Mathlib.Omega.{arith}
 use borrow.Author.Needs.{needs}
 use borrow.Author.Tests.{not-true, not-false}
 use Rattle.compare.specs.Walk.{past}
-use Rattle.compare.proofs.Steps.{element-read, turn-less, turn-again, turn-ends}
+use Rattle.compare.proofs.Places.{element-read}
+use Rattle.compare.proofs.Steps.{turn-less, turn-again, turn-ends}
 use Rattle.compare.proofs.past_part.Statement.{statement}
 use Rattle.compare.proofs.past_part.Tie as tie
 

@@ -3,7 +3,7 @@ use Prim.Native.Nat.{_+_, _-_, _*_}
 use native.Mathlib.Omega.{arith}
 use denote.Ref.{now}
 use borrow.Author.Needs.{needs}
-use Rattle.compare.proofs.Steps.{whole-read}
+use Rattle.compare.proofs.Places.{whole-read}
 use Rattle.compare.proofs.whole_at.Statement.{statement}
 use Rattle.compare.proofs.whole_at.Tie as tie
 
