@@ -1,6 +1,7 @@
 // The descriptors of a status page, in either byte order: the one at a number, and the first offence of a list, in document 01's order.
 ghost use mathlib.Core.Path.{_≡_};
-ghost use Prim.Native.Nat.{_+_, _^_, _<_};
+ghost use Prim.Native.Nat.{_+_, _*_, _^_, _≤_, _<_};
+ghost use lib.ListN.{length};
 ghost use Rattle.offences.specs.Checks.{descriptorAt, inTurn, earned, checkOf, offenceAt};
 ghost use Rattle.offences.specs.First.{firstBelow};
 use layout::Descriptor;
@@ -66,8 +67,28 @@ pub fn descriptor_at(page: &[u8], k: u32, o: Order) -> Descriptor
     Descriptor::read_at(page, base, o)
 }
 
-// The first offence of the first `count` descriptors.
-pub fn check_list(page: &[u8], request: Request, count: u32, o: Order) -> Offence
+// The first offence of the first `count` descriptors, which are all there.
+fn check_whole(page: &[u8], request: Request, count: u32, o: Order) -> Offence
+    requires { ⌜ 32 + 32 * count ≤ length (now page) ⌝ }
+    ensures { λ r. ⌜ r ≡ firstBelow count (offenceAt o (now (page .entry)) request) ⌝ }
+{
+    let end = 32 + 32 * (count as usize);
+    let mut last = ElementId(0);
+    let mut at: usize = 32;
+    while at < end {
+        let d = Descriptor::read(&page[at..at + 32], o);
+        let found = judge(d, request, last, at);
+        if let Offence::At(place) = found {
+            return Offence::At(place);
+        }
+        last = d.id;
+        at += 32;
+    }
+    Offence::Clean
+}
+
+// Of as many as there may be; a byte past the end counts as 0.
+fn check_any(page: &[u8], request: Request, count: u32, o: Order) -> Offence
     ensures { λ r. ⌜ r ≡ firstBelow count (offenceAt o (now (page .entry)) request) ⌝ }
 {
     let mut last = ElementId(0);
@@ -82,4 +103,14 @@ pub fn check_list(page: &[u8], request: Request, count: u32, o: Order) -> Offenc
         k += 1;
     }
     Offence::Clean
+}
+
+// The first offence of the first `count` descriptors. Of those that are there no byte is tested for.
+pub fn check_list(page: &[u8], request: Request, count: u32, o: Order) -> Offence
+    ensures { λ r. ⌜ r ≡ firstBelow count (offenceAt o (now (page .entry)) request) ⌝ }
+{
+    if slices::does_fit(32 * (count as usize), 32, page.len()) {
+        return check_whole(page, request, count, o);
+    }
+    check_any(page, request, count, o)
 }
