@@ -1,13 +1,28 @@
 // A lent buffer as the bench shows it, stored straight into another: a page in rows of hexadecimal digits, and the first byte that was touched.
 ghost use mathlib.Core.Path.{_≡_};
-ghost use Prim.Native.Nat.{_*_, _≤_};
+ghost use Prim.Native.Nat.{_*_, _≤_, _<_};
 ghost use lib.ListN.{length, take, drop};
 ghost use Rattle.slices.specs.Lists.{stored, ended};
-ghost use Rattle.writing.specs.Private.{Puts};
+ghost use Rattle.text.specs.Digits.{glyph, digits};
+ghost use Rattle.writing.specs.Private as writing·private;
 ghost use Rattle.writing.specs.Writing.{storedIn, endedIn};
 ghost use Rattle.dump.specs.Dump.{rowLine, rowsBelow, isZero, shownOf, zerosLine, pageText, firstTouched, touchedText};
 
 // ---- A page
+
+fn digit(d: u8) -> u8
+    requires { ⌜ d < 16 ⌝ }
+    ensures { λ r. ⌜ r ≡ glyph d ⌝ }
+{
+    if d < 10 { 48 + d } else { 55 + d }
+}
+
+// Two upper hexadecimal digits: by sums and not from a table, so that the compiler makes those of many bytes at once.
+fn pair(x: u8) -> [u8; 2]
+    ensures { λ r. ⌜ r ≡ digits 16 2 x ⌝ }
+{
+    [digit(x / 16 % 16), digit(x % 16)]
+}
 
 // The line of the 32 bytes at the front.
 fn row(bytes: &[u8]) -> [u8; 65]
@@ -17,7 +32,7 @@ fn row(bytes: &[u8]) -> [u8; 65]
     let mut line = [b'\n'; 65];
     let mut k: usize = 0;
     while k < 32 {
-        let digits = writing::hex2(bytes[k]);
+        let digits = pair(bytes[k]);
         slices::put(&mut line, 2 * k, &digits);
         k += 1;
     }
@@ -56,7 +71,7 @@ fn shown_rows(page: &[u8], n: usize) -> usize
 
 fn put_rows(out: &mut [u8], at: usize, page: &[u8], n: usize) -> usize
     requires { ⌜ 32 * n ≤ length (now page) ⌝ }
-    ensures { λ r. ⌜ Puts (now (out .entry)) at (rowsBelow (now (page .entry)) n) (now (out .exit)) r ⌝ }
+    ensures { λ r. ⌜ writing·private.Puts (now (out .entry)) at (rowsBelow (now (page .entry)) n) (now (out .exit)) r ⌝ }
 {
     let mut end = at;
     let mut k: usize = 0;
@@ -69,7 +84,7 @@ fn put_rows(out: &mut [u8], at: usize, page: &[u8], n: usize) -> usize
 }
 
 fn put_zeros(out: &mut [u8], at: usize, n: usize) -> usize
-    ensures { λ r. ⌜ Puts (now (out .entry)) at (zerosLine n) (now (out .exit)) r ⌝ }
+    ensures { λ r. ⌜ writing·private.Puts (now (out .entry)) at (zerosLine n) (now (out .exit)) r ⌝ }
 {
     if n == 0 {
         return at;

@@ -4,7 +4,7 @@ ghost use Prim.Native.Nat.{_≤_};
 ghost use lib.ListN.{length};
 ghost use Rattle.acts.specs.Acts.{heard};
 ghost use Rattle.paper.specs.Answers.{numberOf, senseOf};
-ghost use Rattle.writing.specs.Private.{Puts};
+ghost use Rattle.writing.specs.Private as writing·private;
 ghost use Rattle.writing.specs.Writing.{storedIn, endedIn};
 ghost use Rattle.replies.specs.Replies.{codesText, senseText, answerLine, lentText, textOf};
 use acts::Lent;
@@ -27,7 +27,7 @@ fn codes(s: Sense) -> [u8; 8]
 }
 
 fn put_sense(out: &mut [u8], at: usize, sense: Sensed) -> usize
-    ensures { λ r. ⌜ Puts (now (out .entry)) at (senseText sense) (now (out .exit)) r ⌝ }
+    ensures { λ r. ⌜ writing·private.Puts (now (out .entry)) at (senseText sense) (now (out .exit)) r ⌝ }
 {
     match sense {
         Sensed::None => at,
@@ -40,7 +40,7 @@ fn put_sense(out: &mut [u8], at: usize, sense: Sensed) -> usize
 
 // The number, and its sense if it has one.
 fn put_answer(out: &mut [u8], at: usize, answer: Answer) -> usize
-    ensures { λ r. ⌜ Puts (now (out .entry)) at (answerLine (numberOf answer)) (now (out .exit)) r ⌝ }
+    ensures { λ r. ⌜ writing·private.Puts (now (out .entry)) at (answerLine (numberOf answer)) (now (out .exit)) r ⌝ }
 {
     let a = writing::decimal(out, at, paper::number_of(answer) as u64);
     let b = put_sense(out, a, paper::sense_of(answer));
@@ -52,7 +52,7 @@ fn put_answer(out: &mut [u8], at: usize, answer: Answer) -> usize
 // The answer of the front call, and what it left in the lent buffer.
 fn put_lent(out: &mut [u8], said: Lent, lent: &[u8]) -> usize
     requires { ⌜ 140000 ≤ length (now out) ⌝ }
-    ensures { λ r. ⌜ Puts (now (out .entry)) 0 (lentText (numberOf (said .answer)) (said .room) (said .count) (now (lent .entry))) (now (out .exit)) r ⌝ }
+    ensures { λ r. ⌜ writing·private.Puts (now (out .entry)) 0 (lentText (numberOf (said .answer)) (said .room) (said .count) (now (lent .entry))) (now (out .exit)) r ⌝ }
 {
     let answer = said.answer;
     let whole = slices::head(lent, said.room);
@@ -63,7 +63,7 @@ fn put_lent(out: &mut [u8], said: Lent, lent: &[u8]) -> usize
 
 fn put_text(out: &mut [u8], reply: Reply, d: Device, page: &[u8], lent: &[u8]) -> usize
     requires { ⌜ 140000 ≤ length (now out) ⌝ }
-    ensures { λ r. ⌜ Puts (now (out .entry)) 0 (textOf (heard reply) d (now (page .entry)) (now (lent .entry))) (now (out .exit)) r ⌝ }
+    ensures { λ r. ⌜ writing·private.Puts (now (out .entry)) 0 (textOf (heard reply) d (now (page .entry)) (now (lent .entry))) (now (out .exit)) r ⌝ }
 {
     match reply {
         Reply::Nothing => 0,

@@ -12,21 +12,11 @@ use Rattle.layout.specs.declared.Descriptor.{Descriptor}
 use Rattle.slices.specs.Lists.{stored, ended}
 use Rattle.text.proofs.Digits.{length-decimal}
 use Rattle.text.specs.Digits.{digits, decimalOf}
-use Rattle.text.specs.Text.{ascii, written}
-use Rattle.text.specs.declared.Text.{Text}
+use Rattle.text.specs.Text.{ascii}
 use Rattle.writing.proofs.Puts.{puts-one, puts-same, puts-more}
 use Rattle.writing.specs.Private.{Puts}
 use Rattle.rows.specs.Private.{gradeOf, headOf}
 use Rattle.rows.specs.Rows.{capacityOf, valuesOf, descriptorLine}
-
--- ## A capacity
-
-module _ (t r : Text) (n : ℕ) where
-  pub capacity-unreported : n ≡ allOnes → r ≡ written t (ascii "-") → r ≡ written t (capacityOf n)
-  capacity-unreported e h = h ∙ sym (rw (eq-eqb n allOnes e))
-
-  pub capacity-known : (n ≡ allOnes → ⊥) → r ≡ written t (decimalOf n) → r ≡ written t (capacityOf n)
-  capacity-known e h = h ∙ sym (rw (ne-eqb n allOnes e))
 
 -- ## Before the capacity
 

@@ -1,46 +1,12 @@
-// The lines of a listing: a descriptor's, and an element's values, stored straight into a lent buffer; a header's numbers and an element's values,
-// after a text.
+// The lines of a listing: a descriptor's, and an element's values, stored straight into a lent buffer.
 ghost use mathlib.Core.Path.{_≡_};
 ghost use lib.Dec.{eqb};
 ghost use lib.ListN.{length};
 ghost use Rattle.layout.specs.Bytes.{allOnes};
 ghost use Rattle.slices.specs.Lists.{fits, stored, ended};
-ghost use Rattle.text.specs.Text.{written};
 ghost use Rattle.rows.specs.Private as private;
-ghost use Rattle.rows.specs.Rows.{capacityOf, valuesOf, descriptorLine, headerOf};
+ghost use Rattle.rows.specs.Rows.{capacityOf, valuesOf, descriptorLine};
 use layout::Descriptor;
-use layout::Header;
-use text::Text;
-
-// A capacity after a text.
-fn write_capacity(t: Text, capacity: u64) -> Text
-    ensures { λ r. ⌜ r ≡ written t (capacityOf capacity) ⌝ }
-{
-    if capacity == 0xFFFF_FFFF_FFFF_FFFF {
-        return t.word(b"-");
-    }
-    t.decimal(capacity)
-}
-
-// An element's type, health and capacity after a text.
-pub fn write_values(t: Text, d: Descriptor) -> Text
-    ensures { λ r. ⌜ r ≡ written t (valuesOf d) ⌝ }
-{
-    let begun = t.hex2(d.kind).word(b" ").hex2(d.health).word(b" ");
-    write_capacity(begun, d.capacity)
-}
-
-// The header's numbers after a text.
-pub fn write_header(t: Text, h: Header) -> Text
-    ensures { λ r. ⌜ r ≡ written t (headerOf h) ⌝ }
-{
-    t.field(b"number ", h.number as u64)
-        .field(b" returned ", h.returned as u64)
-        .word(b" busy ")
-        .hex8(h.busy.0)
-        .field(b" limit ", h.limit as u64)
-        .field(b" removed ", h.removed as u64)
-}
 
 // Whether a capacity is all ones.
 fn is_unreported(blocks: u64) -> bool

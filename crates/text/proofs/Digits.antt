@@ -1,8 +1,8 @@
--- Laws of digits and their number: for each way out of a function, and a bound on their length.
-use Prim.Native.Nat.{ℕ, zero, suc, _+_, _-_, _/_, _%_, _^_, _≤_, _<_}
+-- Laws of digits: of each, how many a number has as a loop counts them, and how long they are.
+use Prim.Native.Nat.{ℕ, zero, suc, _+_, _-_, _/_, _^_, _≤_, _<_}
 use mathlib.Core.Bool.{Bool, true, false, cond}
 use mathlib.Core.Path.{_≡_, refl, sym}
-use native.Mathlib.Nat.{pow-suc, mod-lt, div-lt-iff-lt-mul}
+use native.Mathlib.Nat.{pow-suc, div-lt-iff-lt-mul}
 use native.Mathlib.Numerals.{add-one}
 use native.Mathlib.Omega.{arith}
 use lib.Dec.{ltb, lit<}
@@ -17,9 +17,6 @@ glyph-low d h = sym (rw (lt-ltb _ _ h))
 
 pub glyph-high : (d : ℕ) → 10 ≤ d → 55 + d ≡ glyph d
 glyph-high d h = sym (rw (le-ltb _ _ h))
-
-pub digit-below : (b n : ℕ) → 2 ≤ b → b ≤ 16 → n % b < 16
-digit-below b n low high = let h : n % b < b = mod-lt n (omega arith) in omega arith
 
 -- ## How many
 

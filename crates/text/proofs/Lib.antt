@@ -1,4 +1,3 @@
--- What is proved of `text`'s definitions, and of its functions.
+-- What is proved of words and numbers as text.
 pub mod Digits
 pub mod ReadBack
-pub mod Written

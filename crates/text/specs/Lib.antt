@@ -1,4 +1,4 @@
--- Numbers as text, and a line of text under construction.
+-- Words and numbers as text.
 
 pub mod Digits
 pub mod Promises
