@@ -56,22 +56,32 @@ pub struct Spelling {
     pub count: usize,
 }
 
-// A number in decimal, with no zero in front: the last digit, then one more before it as long as there is one.
+// A number in decimal, with no zero in front: from the last digit on, two by a division.
 pub fn decimal_of(n: u64) -> Spelling
     ensures { λ r. ⌜ r ≡ spelled (decimalOf n) ⌝ }
 {
     let mut t = [0u8; 20];
     let mut rest = n;
     let mut m: usize = 0;
-    while 10 <= rest {
-        t[19 - m] = 48 + (rest % 10) as u8;
-        rest /= 10;
-        m += 1;
+    while 100 <= rest {
+        let two = (rest % 100) as u8;
+        t[19 - m] = 48 + two % 10;
+        t[18 - m] = 48 + two / 10;
+        rest /= 100;
+        m += 2;
     }
-    t[19 - m] = 48 + rest as u8;
+    if rest < 10 {
+        t[19 - m] = 48 + rest as u8;
+        return Spelling {
+            bytes: t,
+            count: m + 1,
+        };
+    }
+    t[19 - m] = 48 + (rest % 10) as u8;
+    t[18 - m] = 48 + (rest / 10) as u8;
     Spelling {
         bytes: t,
-        count: m + 1,
+        count: m + 2,
     }
 }
 
