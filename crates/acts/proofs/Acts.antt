@@ -23,7 +23,7 @@ use Rattle.making.specs.Making.{madeOf}
 use Rattle.offer.specs.declared.Element.{Element}
 use Rattle.offer.specs.declared.Offer.{Offer}
 use Rattle.paper.specs.Answers.{numberOf}
-use Rattle.paper.specs.Told.{Told, said}
+use Rattle.paper.specs.Told.{said}
 use Rattle.paper.specs.declared.Answer.{Answer}
 use Rattle.slices.specs.Lists.{stored}
 use Rattle.workbench.specs.Changes.{offering, withRecord, withDevice, withKept, afterMaking}
@@ -51,13 +51,13 @@ module _ (b : Bench) (c : Command) (lent after part : List ℕ) (l : Left) (is-l
   pub command-page : (page x : List ℕ) → x ≡ stored page 0 part → x ≡ keptPage b c page lent
   command-page page x is-x = is-x ∙ ap (stored page 0) is-written
 
-  pub command-act : (k : ℕ) (x y : Bench) (z : Act) → k ≡ keptWith (b .kept) part → x ≡ withDevice b (l .device) → y ≡ withKept x k
-      → z ≡ act y (commanded (numberOf (l .answer)) (l .room) (l .count)) → z ≡ afterCommand b c lent
-  command-act k x y z is-k is-x is-y is-z =
-      let kept : k ≡ keptWith (b .kept) (written b c lent) = is-k ∙ ap (keptWith (b .kept)) is-written in
-      let bench : y ≡ withKept (withDevice b (l .device)) (keptWith (b .kept) (written b c lent)) = is-y ∙ (λ i. withKept (is-x i) (kept i)) in
+  pub command-act : (page : List ℕ) (k : ℕ) (x y : Bench) (z : Act) → k ≡ keptWith (b .kept) part page → x ≡ withDevice b (l .device) → y ≡ withKept x k
+      → z ≡ act y (commanded (numberOf (l .answer)) (l .room) (l .count)) → z ≡ afterCommand b c page lent
+  command-act page k x y z is-k is-x is-y is-z =
+      let kept : k ≡ keptWith (b .kept) (written b c lent) page = is-k ∙ ap (λ (w : List ℕ). keptWith (b .kept) w page) is-written in
+      let bench : y ≡ withKept (withDevice b (l .device)) (keptWith (b .kept) (written b c lent) page) = is-y ∙ (λ i. withKept (is-x i) (kept i)) in
       is-z ∙ ap (λ (v : Bench). act v (commanded (numberOf (l .answer)) (l .room) (l .count))) bench
-      ∙ ap (λ (f : Fronted). act (withKept (withDevice b (f .told .state)) (keptWith (b .kept) (written b c lent))) (commanded (f .told .number) (f .room) (f .count))) is-l
+      ∙ ap (λ (f : Fronted). act (withKept (withDevice b (f .told .state)) (keptWith (b .kept) (written b c lent) page)) (commanded (f .told .number) (f .room) (f .count))) is-l
 
 -- ## The kept page
 

@@ -1,2 +1,3 @@
 -- What is proved of the calls of a script.
 pub mod Acts
+pub mod Once

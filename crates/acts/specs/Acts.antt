@@ -85,10 +85,10 @@ written b c lent = take (front.leftAfter (b .device) c lent .count) (front.lentA
 abbrev pub keptPage : Bench → Command → List ℕ → List ℕ → List ℕ
 keptPage b c page lent = stored page 0 (written b c lent)
 
-abbrev pub afterCommand : Bench → Command → List ℕ → Act
-afterCommand b c lent =
+abbrev pub afterCommand : Bench → Command → List ℕ → List ℕ → Act
+afterCommand b c page lent =
     let f = front.leftAfter (b .device) c lent in
-    act (changes.withKept (changes.withDevice b (f .told .state)) (kept.keptWith (b .kept) (written b c lent))) (commanded (f .told .number) (f .room) (f .count))
+    act (changes.withKept (changes.withDevice b (f .told .state)) (kept.keptWith (b .kept) (written b c lent) page)) (commanded (f .told .number) (f .room) (f .count))
 
 -- ## The kept page
 
@@ -111,7 +111,7 @@ actOf b lines.Passed page lent = act b nothing
 actOf b lines.NotACall page lent = act b notACall
 actOf b (lines.Element e) page lent = act (changes.withRecord b e) nothing
 actOf b (lines.Make limit) page lent = afterOffer b (madeOf (b .device) (changes.offering b limit))
-actOf b (lines.Command c) page lent = afterCommand b c lent
+actOf b (lines.Command c) page lent = afterCommand b c page lent
 actOf b (lines.Bare e) page lent = afterEvent b (told (b .device) (bareEvent e))
 actOf b (lines.Grade g) page lent = afterEvent b (told (b .device) (gradeEvent g))
 actOf b lines.Cells page lent = act b cells

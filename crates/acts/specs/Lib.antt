@@ -1,2 +1,3 @@
 -- The calls of a script.
 pub mod Acts
+pub mod Promises

@@ -68,7 +68,7 @@ fn make(bench: Bench, limit: u16) -> Acted
 
 // The front call; a page that it wrote is kept.
 fn command(bench: Bench, c: Command, page: &mut [u8], lent: &mut [u8]) -> Acted
-    ensures { λ r. ⌜ paper.acted r ≡ paper.afterCommand bench c (now (lent .entry)) ⌝ }
+    ensures { λ r. ⌜ paper.acted r ≡ paper.afterCommand bench c (now (page .entry)) (now (lent .entry)) ⌝ }
     ensures { λ _. ⌜ now (page .exit) ≡ paper.keptPage bench c (now (page .entry)) (now (lent .entry)) ⌝ }
     ensures { λ _. ⌜ now (lent .exit) ≡ lentAfter (bench .device) c (now (lent .entry)) ⌝ }
 {

@@ -12,13 +12,13 @@ use borrow.Author.Tests.{eq-eqb, ne-eqb, le-leb, lt-leb}
 use Rattle.slices.proofs.Lists.{stored-front, stored-none, stored-each, length-flat}
 use Rattle.slices.specs.Lists.{flat, fits, stored, ended}
 use Rattle.text.proofs.Digits.{length-digits, length-decimal}
-use Rattle.text.specs.Digits.{digits, decimalOf}
+use Rattle.text.specs.Digits.{digits}
 use Rattle.text.specs.Text.{ascii}
 use Rattle.writing.proofs.Puts.{ended-none, puts-none, puts-one, puts-same, puts-more, whole-stored-in, whole-ended-in}
 use Rattle.writing.specs.Private.{Puts}
 use Rattle.writing.specs.Writing.{numberLine, storedIn, endedIn}
 use Rattle.dump.specs.Promises.{Enough}
-use Rattle.dump.specs.Dump.{rowAt, rowLine, rowsBelow, isZero, shownOf, zerosLine, rowsOf, pageText, firstTouched, touchedText}
+use Rattle.dump.specs.Dump.{rowAt, rowLine, rowsBelow, isZero, rowsShown, zerosLine, pageText, firstTouched, touchedText}
 
 -- ## A row
 
@@ -62,25 +62,25 @@ module _ (s row : List ℕ) (n k : ℕ) (long : 32 * n ≤ length s) where
   pub last-there : 0 < k → k ≤ n → row ≡ drop (32 * (k - 1)) s → 32 ≤ length row
   last-there some less is-row = rw is-row (simp length-drop (omega arith))
 
-module _ (s : List ℕ) (n k : ℕ) (so : shownOf s k ≡ shownOf s n) (some : 0 < k) where
-  last : shownOf s k ≡ cond (isZero (rowAt s (k - 1))) (shownOf s (k - 1)) k
-  unfolding shownOf
+module _ (s : List ℕ) (n k : ℕ) (so : rowsShown s k ≡ rowsShown s n) (some : 0 < k) where
+  last : rowsShown s k ≡ cond (isZero (rowAt s (k - 1))) (rowsShown s (k - 1)) k
+  unfolding rowsShown
   last =
       let one : k ≡ suc (k - 1) = omega arith in
-      ap (shownOf s) one ∙ ap (λ (m : ℕ). cond (isZero (rowAt s (k - 1))) (shownOf s (k - 1)) m) (sym one)
+      ap (rowsShown s) one ∙ ap (λ (m : ℕ). cond (isZero (rowAt s (k - 1))) (rowsShown s (k - 1)) m) (sym one)
 
   module _ (row : List ℕ) (is-row : row ≡ drop (32 * (k - 1)) s) (t : Bool) (is-t : t ≡ isZero (take 32 row)) where
     test : isZero (rowAt s (k - 1)) ≡ t
     test = sym (is-t ∙ rw is-row)
 
-    pub shown-here : t ≡ false → k ≡ shownOf s n
+    pub shown-here : t ≡ false → k ≡ rowsShown s n
     shown-here e = sym (last ∙ rw (test ∙ e)) ∙ so
 
-    pub shown-less : t ≡ true → shownOf s (k - 1) ≡ shownOf s n
+    pub shown-less : t ≡ true → rowsShown s (k - 1) ≡ rowsShown s n
     shown-less e = sym (last ∙ rw (test ∙ e)) ∙ so
 
-pub shown-none : (s : List ℕ) (n k : ℕ) → shownOf s k ≡ shownOf s n → k ≤ 0 → k ≡ shownOf s n
-unfolding shownOf
+pub shown-none : (s : List ℕ) (n k : ℕ) → rowsShown s k ≡ rowsShown s n → k ≤ 0 → k ≡ rowsShown s n
+unfolding rowsShown
 shown-none s n zero so none = so
 shown-none s n (suc k) so none = absurd (omega arith)
 
@@ -128,7 +128,7 @@ length-zeros n = by-test (eqb n 0)
     by-test true = omega arith
     by-test false = simp length-append (omega (arith, length-decimal n))
 
-module _ (page w : List ℕ) (n k : ℕ) (is-w : w ≡ take 65536 page) (is-n : n ≡ length w / 32) (is-k : k ≡ shownOf w n) (less : k ≤ n) where
+module _ (page w : List ℕ) (n k : ℕ) (is-w : w ≡ take 65536 page) (is-n : n ≡ length w / 32) (is-k : k ≡ rowsShown w n) (less : k ≤ n) where
   is-page : pageText page ≡ rowsBelow w k ++ zerosLine (n - k)
   unfolding pageText
   is-page = rw (← is-w, ← is-n, ← is-k)
@@ -150,19 +150,19 @@ module _ (page w : List ℕ) (n k : ℕ) (is-w : w ≡ take 65536 page) (is-n : 
     pub page-ended : r ≡ endedIn 134000 d at (pageText page)
     page-ended = whole-ended-in (pageText page) d at 134000 t is-t yes length-page y r puts
 
-shown-few : (s : List ℕ) (n : ℕ) → shownOf s n ≤ n
-unfolding shownOf
+shown-few : (s : List ℕ) (n : ℕ) → rowsShown s n ≤ n
+unfolding rowsShown
 shown-few s zero = omega arith
 shown-few s (suc n) = by-test (isZero (rowAt s n)) (shown-few s n)
   where
-    by-test : (t : Bool) → shownOf s n ≤ n → cond t (shownOf s n) (suc n) ≤ suc n
+    by-test : (t : Bool) → rowsShown s n ≤ n → cond t (rowsShown s n) (suc n) ≤ suc n
     by-test true few = omega arith
     by-test false few = omega arith
 
 pub enough : Enough
 enough s =
     let w : List ℕ = take 65536 s in
-    length-page s w (length w / 32) (shownOf w (length w / 32)) refl refl refl (shown-few w (length w / 32))
+    length-page s w (length w / 32) (rowsShown w (length w / 32)) refl refl refl (shown-few w (length w / 32))
 
 -- ## What was left alone
 

@@ -1,2 +1,3 @@
 -- What is proved of a lent buffer as text.
 pub mod Dump
+pub mod Examples

@@ -28,18 +28,18 @@ abbrev pub isZero : List ℕ → Bool
 isZero row = all (λ (b : ℕ). eqb b 0) row
 
 -- how many of the first n rows come before "the run of all-zero rows at its end"
-unfoldable pub shownOf : List ℕ → ℕ → ℕ
-shownOf s zero = zero
-shownOf s (suc n) = cond (isZero (rowAt s n)) (shownOf s n) (suc n)
+unfoldable pub rowsShown : List ℕ → ℕ → ℕ
+rowsShown s zero = zero
+rowsShown s (suc n) = cond (isZero (rowAt s n)) (rowsShown s n) (suc n)
 
 -- "is one line `zeros N` (N decimal; no such line without such a row)"
 abbrev pub zerosLine : ℕ → List ℕ
 zerosLine n = cond (eqb n 0) [] (numberLine (ascii "zeros ") n)
 
 abbrev pub rowsOf : List ℕ → ℕ → List ℕ
-rowsOf s n = rowsBelow s (shownOf s n) ++ zerosLine (n - shownOf s n)
+rowsOf s n = rowsBelow s (rowsShown s n) ++ zerosLine (n - rowsShown s n)
 
--- of a page's 65,536 bytes; a page is made of whole rows
+-- of a page's whole rows, up to 65,536 bytes
 unfoldable pub pageText : List ℕ → List ℕ
 pageText s = rowsOf (take 65536 s) (length (take 65536 s) / 32)
 

@@ -6,7 +6,7 @@ ghost use Rattle.slices.specs.Lists.{stored, ended};
 ghost use Rattle.text.specs.Digits.{glyph, digits};
 ghost use Rattle.writing.specs.Private as writing·private;
 ghost use Rattle.writing.specs.Writing.{storedIn, endedIn};
-ghost use Rattle.dump.specs.Dump.{rowLine, rowsBelow, isZero, shownOf, zerosLine, pageText, firstTouched, touchedText};
+ghost use Rattle.dump.specs.Dump.{rowLine, rowsBelow, isZero, rowsShown, zerosLine, pageText, firstTouched, touchedText};
 
 // ---- A page
 
@@ -57,7 +57,7 @@ fn is_zero(bytes: &[u8]) -> bool
 // How many of the first n rows come before the run of all-zero rows at their end.
 fn shown_rows(page: &[u8], n: usize) -> usize
     requires { ⌜ 32 * n ≤ length (now page) ⌝ }
-    ensures { λ r. ⌜ (r ≡ shownOf (now (page .entry)) n) × (r ≤ n) ⌝ }
+    ensures { λ r. ⌜ (r ≡ rowsShown (now (page .entry)) n) × (r ≤ n) ⌝ }
 {
     let mut k = n;
     while 0 < k {
@@ -92,7 +92,8 @@ fn put_zeros(out: &mut [u8], at: usize, n: usize) -> usize
     writing::numbered(out, at, b"zeros ", n as u64)
 }
 
-// A row for each 32 bytes, and how many all-zero rows there are at the end.
+// A row for each whole 32 bytes, and how many all-zero rows there are at the end; nothing, where fewer than 134,000 bytes are there, which are
+// enough for every page.
 pub fn put_page(out: &mut [u8], at: usize, page: &[u8]) -> usize
     ensures { λ _. ⌜ now (out .exit) ≡ storedIn 134000 (now (out .entry)) at (pageText (now (page .entry))) ⌝ }
     ensures { λ r. ⌜ r ≡ endedIn 134000 (now (out .entry)) at (pageText (now (page .entry))) ⌝ }

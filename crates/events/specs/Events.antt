@@ -6,10 +6,14 @@ use Rattle.arguments.specs.declared.Command.{Command}
 use Rattle.arguments.specs.declared.Grade.{Grade}
 use Rattle.device.specs.Machine as machine
 use Rattle.device.specs.Machine.{Event}
+use Rattle.paper.specs.Registers.{Registers}
 
 -- "`command STATE CODE FEATURE COUNT LBA LENGTH`: the front call", over a lent buffer of `room` bytes
+abbrev pub registersOf : Command → Registers
+registersOf c = record { code = c .code; feature = c .feature; count = c .count; lba = c .lba }
+
 abbrev pub eventOf : Command → ℕ → Event
-eventOf c room = machine.command (c .security) (record { code = c .code; feature = c .feature; count = c .count; lba = c .lba }) room
+eventOf c room = machine.command (c .security) (registersOf c) room
 
 -- "`step`, `error`, `cut`, `comreset`, `hardreset`, `softreset`"
 abbrev pub bareEvent : Bare → Event

@@ -1,7 +1,7 @@
 -- Laws of the front call: one for each way out of a function, and one for each turn of the loop.
 use Prim.Native.Nat.{ℕ, _+_, _-_, _*_, _≤_, _<_, min}
 use mathlib.Core.List.{List, _++_, append-nil}
-use mathlib.Core.Path.{_≡_, refl, sym, ap, _∙_}
+use mathlib.Core.Path.{_≡_, sym, ap, _∙_}
 use native.Mathlib.Omega.{arith}
 use lib.ListN.{length, drop, set, replicate, drop-of-length-le}
 use borrow.Author.Fill.{fill-more}
@@ -16,8 +16,7 @@ use Rattle.paper.specs.declared.Answer.{Answer}
 use Rattle.request.specs.Requests.{asked}
 use Rattle.request.specs.declared.Request.{Request}
 use Rattle.status.specs.Page.{shown}
-use Rattle.front.specs.Front.{Fronted, left, writtenBy, after, lentOf, roomOf, leftAfter, lentAfter}
-use Rattle.front.specs.declared.Left.{Left}
+use Rattle.front.specs.Front.{Fronted, writtenBy, after, lentOf, roomOf, leftAfter, lentAfter}
 
 -- ## The filling
 

@@ -7,7 +7,7 @@ use lib.ListN.{length, drop, replicate}
 use Rattle.arguments.specs.declared.Command.{Command}
 use Rattle.device.specs.Machine.{told}
 use Rattle.device.specs.declared.Device.{Device}
-use Rattle.events.specs.Events.{eventOf}
+use Rattle.events.specs.Events.{registersOf, eventOf}
 use Rattle.paper.specs.Answers.{numberOf}
 use Rattle.paper.specs.Told.{Told}
 use Rattle.status.specs.Lent.{lent}
@@ -32,7 +32,7 @@ after d c room = let t = told d (eventOf c room) in record { told = t; room = ro
 
 -- what it leaves in the buffer
 abbrev pub lentOf : Device → Command → List ℕ → List ℕ
-lentOf d c buf = lent d (c .security) (record { code = c .code; feature = c .feature; count = c .count; lba = c .lba }) buf
+lentOf d c buf = lent d (c .security) (registersOf c) buf
 
 -- "LENGTH is the lent buffer's", as far as there are bytes
 abbrev pub roomOf : Command → List ℕ → ℕ

@@ -1,2 +1,3 @@
--- What the bench's front call leaves of the device.
+-- The bench's front call.
 pub mod Front
+pub mod Promises

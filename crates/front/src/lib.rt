@@ -1,8 +1,6 @@
 // The bench's front call, over a lent buffer that is filled with A5h before.
 ghost use mathlib.Core.Path.{_≡_};
 ghost use lib.ListN.{length, replicate};
-ghost use Rattle.device.specs.Machine.{told};
-ghost use Rattle.events.specs.Events.{eventOf};
 ghost use Rattle.paper.specs.Answers.{numberOf};
 ghost use Rattle.front.specs.Front.{lentOf, writtenBy, left, after, lentAfter, leftAfter};
 use arguments::Command;

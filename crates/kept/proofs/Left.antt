@@ -1,11 +1,12 @@
 -- Laws of what a call leaves of the kept page: one for each way out.
 use Prim.Native.Nat.{ℕ, _≤_, _<_}
 use mathlib.Core.List.{List, [], _∷_}
-use mathlib.Core.Path.{_≡_, sym, _∙_}
+use mathlib.Core.Path.{_≡_, sym, ap, _∙_}
 use lib.ListN.{length}
 use borrow.Author.Tests.{eq-eqb, ne-eqb, le-leb, lt-leb}
 use Rattle.arguments.specs.declared.PageCall.{PageCall}
 use Rattle.arguments.specs.declared.Poke.{Poke}
+use Rattle.slices.proofs.Lists.{length-stored}
 use Rattle.slices.specs.Lists.{stored}
 use Rattle.kept.specs.Kept.{lengthened, poked, keptAfter, pageAfter, keptWith}
 
@@ -27,9 +28,17 @@ module _ (call found : PageCall) (is-found : call ≡ found) (kept : ℕ) (page 
   pub page-of : (r : List ℕ) → r ≡ pageAfter found kept page → r ≡ pageAfter call kept page
   page-of r is-r = is-r ∙ sym (rw is-found)
 
-module _ (kept : ℕ) (written : List ℕ) where
-  pub none-kept : length written ≡ 0 → kept ≡ keptWith kept written
+-- `after` is the page once the bytes were stored
+module _ (kept : ℕ) (written page : List ℕ) where
+  pub none-kept : length written ≡ 0 → kept ≡ keptWith kept written page
   none-kept e = sym (rw (eq-eqb (length written) 0 e))
 
-  pub some-kept : (length written ≡ 0 → ⊥) → length written ≡ keptWith kept written
-  some-kept e = sym (rw (ne-eqb (length written) 0 e))
+  module _ (e : length written ≡ 0 → ⊥) (after : List ℕ) (is-after : after ≡ stored page 0 written) where
+    same : length after ≡ length page
+    same = ap length is-after ∙ length-stored page written 0
+
+    pub long-kept : length after < length written → kept ≡ keptWith kept written page
+    long-kept h = sym (rw (ne-eqb (length written) 0 e, lt-leb (length written) (length page) (rw (← same) h)))
+
+    pub some-kept : length written ≤ length after → length written ≡ keptWith kept written page
+    some-kept h = sym (rw (ne-eqb (length written) 0 e, le-leb (length written) (length page) (rw (← same) h)))

@@ -29,6 +29,6 @@ pageAfter (calls.Length n) kept page = lengthened kept (min n (length page)) pag
 pageAfter (calls.Poke p) kept page = poked kept p page
 pageAfter (calls.Read q) kept page = page
 
--- how long it is after an answer: "After a 12h that is answered 0 the page .. is kept"
-abbrev pub keptWith : ℕ → List ℕ → ℕ
-keptWith kept written = cond (eqb (length written) 0) kept (length written)
+-- how long it is after an answer that wrote some bytes: "the page .. is kept", if there is one and room for it. No byte is no page
+abbrev pub keptWith : ℕ → List ℕ → List ℕ → ℕ
+keptWith kept written page = cond (eqb (length written) 0) kept (cond (leb (length written) (length page)) (length written) kept)

@@ -51,12 +51,15 @@ pub fn call(page: &mut [u8], kept: usize, call: PageCall) -> usize
     }
 }
 
-// Keeps the page that an answer wrote, if it wrote one, and returns how long the kept page then is.
+// Keeps the page that an answer wrote, if it wrote one and there is room, and returns how long the kept page then is.
 pub fn keep(page: &mut [u8], kept: usize, written: &[u8]) -> usize
-    ensures { λ r. ⌜ (r ≡ keptWith kept (now (written .entry))) × (now (page .exit) ≡ stored (now (page .entry)) 0 (now (written .entry))) ⌝ }
+    ensures { λ r. ⌜ (r ≡ keptWith kept (now (written .entry)) (now (page .entry))) × (now (page .exit) ≡ stored (now (page .entry)) 0 (now (written .entry))) ⌝ }
 {
     slices::put(page, 0, written);
     if written.len() == 0 {
+        return kept;
+    }
+    if page.len() < written.len() {
         return kept;
     }
     written.len()

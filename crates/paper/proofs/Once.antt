@@ -10,7 +10,7 @@ use Rattle.paper.specs.Told.{Told, said}
 use Rattle.paper.specs.declared.Answer.the-variants.{Done, SecurityLocked, InProgress, Failed, InvalidField, BeyondMax, UnknownCommand, SmallBuffer, TableRefused, NoRemoval, GradeRefused}
 use Rattle.paper.specs.declared.Answer.{Answer}
 
-answerOf : ℕ → Answer
+pub answerOf : ℕ → Answer
 answerOf n =
     cond (eqb n 0) Done
     (cond (eqb n 1) SecurityLocked
@@ -23,7 +23,7 @@ answerOf n =
     (cond (eqb n 8) TableRefused
     (cond (eqb n 10) NoRemoval GradeRefused)))))))))
 
-answer-number : (a : Answer) → answerOf (numberOf a) ≡ a
+pub answer-number : (a : Answer) → answerOf (numberOf a) ≡ a
 unfolding answerOf
 answer-number Done = refl
 answer-number SecurityLocked = refl

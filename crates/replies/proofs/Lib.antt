@@ -1,2 +1,3 @@
 -- What is proved of replies.
+pub mod Examples
 pub mod Replies

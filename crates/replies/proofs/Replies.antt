@@ -1,6 +1,6 @@
 -- Laws of the replies: one for each way out of a function, and how long they are.
 use Prim.Native.Nat.{ℕ, _+_, _≤_, _<_}
-use mathlib.Core.Bool.{Bool, true, false}
+use mathlib.Core.Bool.{true, false}
 use mathlib.Core.List.{List, [], _∷_, _++_}
 use mathlib.Core.Path.{_≡_, refl, sym, ap, subst, _∙_}
 use native.Mathlib.Omega.{arith}
@@ -26,7 +26,7 @@ use Rattle.text.specs.Digits.{digits, decimalOf}
 use Rattle.text.specs.Text.{ascii}
 use Rattle.writing.proofs.Puts.{puts-none, puts-one, puts-same, puts-more, puts-in, none-stored-in, none-ended-in, whole-stored-in, whole-ended-in}
 use Rattle.writing.specs.Private.{Puts}
-use Rattle.writing.specs.Writing.{numberLine, storedIn, endedIn}
+use Rattle.writing.specs.Writing.{storedIn, endedIn}
 use Rattle.replies.specs.Promises.{Enough}
 use Rattle.replies.specs.Replies.{codesText, senseText, answerLine, lentText, textOf}
 
@@ -66,7 +66,7 @@ length-answer n = simp length-append (omega (arith, length-decimal n, length-sen
 -- ## The lent buffer
 
 module _ (n room count : ℕ) (lent whole part d x y z : List ℕ) (m k r : ℕ) (long : 140000 ≤ length d) (is-whole : whole ≡ take room lent)
-    (is-part : part ≡ take count whole) (one : Puts d 0 (answerLine n) x m) where
+    (is-part : part ≡ take count lent) (one : Puts d 0 (answerLine n) x m) where
   begun : (x ≡ stored d 0 (answerLine n)) × (m ≡ 0 + length (answerLine n))
   unfolding Puts
   begun = one (omega (arith, length-answer n))
@@ -86,14 +86,14 @@ module _ (n room count : ℕ) (lent whole part d x y z : List ℕ) (m k r : ℕ)
       let two : Puts x m P y k = puts-in P x y m 134000 k page-room is-y is-k in
       let all : Puts d 0 ((A ++ P) ++ T) z r =
       puts-more d y 0 k (A ++ P) T z r (puts-one y z k r T is-z is-r) (puts-more d x 0 m A P y k two one) in
-      let named : (A ++ P) ++ T ≡ (A ++ pageText (take count (take room lent))) ++ touchedText (take room lent) count = rw (is-part, is-whole) in
+      let named : (A ++ P) ++ T ≡ (A ++ pageText (take count lent)) ++ touchedText (take room lent) count = rw (is-part, is-whole) in
       subst (λ (l : List ℕ). Puts d 0 l z r) named all
 
 length-lent : (n room count : ℕ) (lent : List ℕ) → length (lentText n room count lent) ≤ 140000
 unfolding lentText
 length-lent n room count lent =
     simp length-append
-    (omega (arith, length-answer n, enough-page (take count (take room lent)), length-touched (take room lent) count))
+    (omega (arith, length-answer n, enough-page (take count lent), length-touched (take room lent) count))
 
 -- ## A reply
 

@@ -6,6 +6,6 @@ use Rattle.acts.specs.Acts.{Saying}
 use Rattle.device.specs.declared.Device.{Device}
 use Rattle.replies.specs.Replies.{textOf}
 
--- room for every reply: the longest is a page of 65,536 bytes
+-- room for every reply
 abbrev pub Enough : Type 0
 Enough = (s : Saying) (d : Device) (page lent : List ℕ) → length (textOf s d page lent) ≤ 140000

@@ -31,7 +31,7 @@ answerLine n = decimalOf n ++ senseText (senseOf n) ++ ascii "\n"
 
 -- the front call's, over a lent buffer of `room` bytes, of which it wrote the first `count`: "the page .. follows", then `touched`
 unfoldable pub lentText : ℕ → ℕ → ℕ → List ℕ → List ℕ
-lentText n room count lent = answerLine n ++ pageText (take count (take room lent)) ++ touchedText (take room lent) count
+lentText n room count lent = answerLine n ++ pageText (take count lent) ++ touchedText (take room lent) count
 
 -- ## A reply
 

@@ -3,7 +3,7 @@ ghost use mathlib.Core.Path.{_≡_};
 ghost use Prim.Native.Nat.{_≤_};
 ghost use lib.ListN.{length};
 ghost use Rattle.acts.specs.Acts.{heard};
-ghost use Rattle.paper.specs.Answers.{numberOf, senseOf};
+ghost use Rattle.paper.specs.Answers.{numberOf};
 ghost use Rattle.writing.specs.Private as writing·private;
 ghost use Rattle.writing.specs.Writing.{storedIn, endedIn};
 ghost use Rattle.replies.specs.Replies.{codesText, senseText, answerLine, lentText, textOf};
@@ -57,7 +57,7 @@ fn put_lent(out: &mut [u8], said: Lent, lent: &[u8]) -> usize
     let answer = said.answer;
     let whole = slices::head(lent, said.room);
     let a = put_answer(out, 0, answer);
-    let b = dump::put_page(out, a, slices::head(whole, said.count));
+    let b = dump::put_page(out, a, slices::head(lent, said.count));
     dump::put_touched(out, b, whole, said.count)
 }
 

@@ -14,8 +14,8 @@ use Rattle.slices.specs.Lists.{fits, stored, ended}
 use Rattle.text.proofs.Digits.{glyph-low, length-digits, Counted, counted-next, counted-all}
 use Rattle.text.specs.Digits.{glyph, digits, placesOf, decimalOf}
 use Rattle.text.specs.Text.{ascii}
-use Rattle.writing.specs.Private.{Puts}
-use Rattle.writing.specs.Writing.{spelled, shown, numberLine}
+use Rattle.writing.specs.Private.{Puts, spelled, shown}
+use Rattle.writing.specs.Writing.{numberLine}
 use Rattle.writing.specs.declared.Spelling.{Spelling}
 use Rattle.writing.proofs.Puts.{puts-one, puts-more, whole-stored, whole-ended}
 

@@ -1,19 +1,11 @@
--- A short text of at most 20 bytes, at the end of 20; a line with a number; and a text that is stored where there is room for the longest of its kind.
-use Prim.Native.Nat.{ℕ, _-_}
+-- A line with a number, and a text that is stored where there is room for the longest of its kind.
+use Prim.Native.Nat.{ℕ}
 use mathlib.Core.Bool.{cond}
 use mathlib.Core.List.{List, _++_}
-use lib.ListN.{length, drop, replicate}
+use lib.ListN.{length}
 use Rattle.slices.specs.Lists.{fits, stored, ended}
 use Rattle.text.specs.Digits.{decimalOf}
 use Rattle.text.specs.Text.{ascii}
-use Rattle.writing.specs.declared.Spelling.{Spelling}
-
--- after zeros
-abbrev pub spelled : List ℕ → Spelling
-spelled l = record { bytes = replicate (20 - length l) 0 ++ l; count = length l }
-
-abbrev pub shown : Spelling → List ℕ
-shown s = drop (20 - s .count) (s .bytes)
 
 -- a word and a number in decimal
 abbrev pub numberLine : List ℕ → ℕ → List ℕ

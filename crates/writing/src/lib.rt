@@ -6,7 +6,8 @@ ghost use Prim.Native.Nat.{_+_, _<_};
 ghost use lib.ListN.{length};
 ghost use Rattle.slices.specs.Lists.{fits, stored, ended};
 ghost use Rattle.text.specs.Digits.{glyph, digits, decimalOf};
-ghost use Rattle.writing.specs.Writing.{spelled, shown, numberLine};
+ghost use Rattle.writing.specs.Private as private;
+ghost use Rattle.writing.specs.Writing.{numberLine};
 
 fn digit(d: u8) -> u8
     requires { ⌜ d < 16 ⌝ }
@@ -51,14 +52,14 @@ pub fn word(out: &mut [u8], at: usize, s: &[u8]) -> usize
 }
 
 // A short text: the last `count` bytes.
-pub struct Spelling {
-    pub bytes: [u8; 20],
-    pub count: usize,
+struct Spelling {
+    bytes: [u8; 20],
+    count: usize,
 }
 
 // A number in decimal, with no zero in front: from the last digit on, two by a division.
-pub fn decimal_of(n: u64) -> Spelling
-    ensures { λ r. ⌜ r ≡ spelled (decimalOf n) ⌝ }
+fn decimal_of(n: u64) -> Spelling
+    ensures { λ r. ⌜ r ≡ private.spelled (decimalOf n) ⌝ }
 {
     let mut t = [0u8; 20];
     let mut rest = n;
@@ -93,9 +94,9 @@ pub fn width(n: u64) -> usize
 }
 
 impl Spelling {
-    pub fn put(self, out: &mut [u8], at: usize) -> usize
-        ensures { λ _. ⌜ now (out .exit) ≡ stored (now (out .entry)) at (shown self) ⌝ }
-        ensures { λ r. ⌜ r ≡ ended (now (out .entry)) at (shown self) ⌝ }
+    fn put(self, out: &mut [u8], at: usize) -> usize
+        ensures { λ _. ⌜ now (out .exit) ≡ stored (now (out .entry)) at (private.shown self) ⌝ }
+        ensures { λ r. ⌜ r ≡ ended (now (out .entry)) at (private.shown self) ⌝ }
     {
         let bytes = self.bytes;
         let from = 20 - slices::smaller(self.count, 20);

@@ -1,6 +1,5 @@
 -- `acts::call`.
 use borrow.Author.Needs.{needs}
-use borrow.Author.Tests.{not-true, not-false}
 use Rattle.acts.proofs.Acts.{lacking-act, lacking-page, lacking-lent, having-act, having-page, having-lent}
 use Rattle.acts.proofs.call.Statement.{statement}
 use Rattle.acts.proofs.call.Tie as tie

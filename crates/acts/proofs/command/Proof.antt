@@ -20,7 +20,7 @@ command-spec =
     let call = c .before .before .before .before .before .before .before .before .before .before .before .before .command in
     let head = c .before .before .before .before .before .before .before .head .ensures in
     let keep = c .before .before .before .before .before .before .keep .ensures in (
-      command-act (s .bench) (s .c) (s .lent .now) _ _ (call .result) (call .ensures .0) (call .ensures .1) head _ _ _ _ (keep .0)
+      command-act (s .bench) (s .c) (s .lent .now) _ _ (call .result) (call .ensures .0) (call .ensures .1) head (s .page .now) _ _ _ _ (keep .0)
           (c .before .before .with-device .ensures) (c .before .with-kept .ensures) (c .replied .ensures),
       (command-page (s .bench) (s .c) (s .lent .now) _ _ (call .result) (call .ensures .0) (call .ensures .1) head (s .page .now) _ (keep .1), call .ensures .1),
     )))

@@ -1,5 +1,4 @@
 -- `acts::poke_reply`.
-use borrow.Author.Needs.{needs}
 use Rattle.acts.proofs.Acts.{poke-outside, poke-inside}
 use Rattle.acts.proofs.poke_reply.Statement.{statement}
 use Rattle.acts.proofs.poke_reply.Tie as tie

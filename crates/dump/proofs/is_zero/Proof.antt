@@ -1,7 +1,6 @@
 -- `dump::is_zero`. The invariant: the row is zero if what is left of it is.
-use Prim.Native.Nat.{_-_, _≤_}
+use Prim.Native.Nat.{_-_}
 use mathlib.Core.Path.{_≡_, refl}
-use native.Mathlib.Omega.{arith}
 use lib.ListN.{take, drop}
 use borrow.Author.Needs.{needs}
 use Rattle.dump.specs.Dump.{isZero}

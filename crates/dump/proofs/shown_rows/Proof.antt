@@ -4,13 +4,13 @@ use mathlib.Core.Path.{_≡_, refl}
 use native.Mathlib.Omega.{arith}
 use borrow.Author.Needs.{needs}
 use borrow.Author.Tests.{not-true, not-false}
-use Rattle.dump.specs.Dump.{shownOf}
+use Rattle.dump.specs.Dump.{rowsShown}
 use Rattle.dump.proofs.Dump.{last-there, shown-here, shown-less, shown-none}
 use Rattle.dump.proofs.shown_rows.Statement.{statement}
 use Rattle.dump.proofs.shown_rows.Tie as tie
 
 abbrev Inv-loop : tie.InvT-loop
-Inv-loop page n k₀ k = (shownOf page k ≡ shownOf page n) × (k ≤ n)
+Inv-loop page n k₀ k = (rowsShown page k ≡ rowsShown page n) × (k ≤ n)
 
 abbrev μ-loop : tie.MeasureT-loop
 μ-loop page n k₀ k = k

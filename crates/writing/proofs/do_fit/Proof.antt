@@ -1,5 +1,4 @@
 -- `writing::do_fit`.
-use native.Mathlib.Omega.{arith}
 use borrow.Author.Needs.{needs}
 use borrow.Author.Tests.{not-true, not-false}
 use Rattle.writing.proofs.Puts.{first-out, first-in, both-in}
