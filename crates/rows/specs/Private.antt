@@ -1,14 +1,18 @@
 -- Parts of an element's line.
 use Prim.Native.Nat.{ℕ}
 use mathlib.Core.List.{List, _++_}
-use Rattle.layout.specs.declared.Descriptor.{Descriptor}
 use Rattle.text.specs.Digits.{digits}
 use Rattle.text.specs.Text.{ascii}
+use Rattle.rows.specs.Rows.{capacityOf}
 
 -- type and health, each with the space after it
-abbrev pub gradeOf : Descriptor → List ℕ
-gradeOf d = digits 16 2 (d .kind) ++ ascii " " ++ digits 16 2 (d .health) ++ ascii " "
+abbrev pub gradeOf : ℕ → ℕ → List ℕ
+gradeOf kind health = digits 16 2 kind ++ ascii " " ++ digits 16 2 health ++ ascii " "
 
--- the identifier before them
-abbrev pub headOf : Descriptor → List ℕ
-headOf d = digits 16 8 (d .id .0) ++ ascii " " ++ gradeOf d
+-- an element's values, of the numbers that they tell
+abbrev pub valuesFor : ℕ → ℕ → ℕ → List ℕ
+valuesFor kind health capacity = gradeOf kind health ++ capacityOf capacity
+
+-- an identifier and the space after it
+abbrev pub headOf : ℕ → List ℕ
+headOf id = digits 16 8 id ++ ascii " "

@@ -4,11 +4,15 @@ ghost use lib.Dec.{eqb};
 ghost use lib.ListN.{length};
 ghost use Rattle.layout.specs.Bytes.{allOnes};
 ghost use Rattle.slices.specs.Lists.{fits, stored, ended};
+ghost use Rattle.writing.specs.Private as writing·private;
 ghost use Rattle.rows.specs.Private as private;
 ghost use Rattle.rows.specs.Rows.{capacityOf, valuesOf, descriptorLine};
 use layout::Descriptor;
+use paper::ElementId;
 
-// Whether a capacity is all ones.
+// ---- A capacity
+
+// Whether it is all ones.
 fn is_unreported(blocks: u64) -> bool
     ensures { λ r. ⌜ r ≡ eqb blocks allOnes ⌝ }
 {
@@ -35,40 +39,58 @@ fn put_capacity(out: &mut [u8], at: usize, blocks: u64) -> usize
 }
 
 // Type and health, each with the space after it.
-fn grade(d: Descriptor) -> [u8; 6]
-    ensures { λ r. ⌜ r ≡ private.gradeOf d ⌝ }
+fn grade(kind: u8, health: u8) -> [u8; 6]
+    ensures { λ r. ⌜ r ≡ private.gradeOf kind health ⌝ }
 {
-    let k = writing::hex2(d.kind);
-    let h = writing::hex2(d.health);
+    let k = writing::hex2(kind);
+    let h = writing::hex2(health);
     [k[0], k[1], 32, h[0], h[1], 32]
 }
 
-// The identifier and its space before them.
-fn head(d: Descriptor) -> [u8; 15]
-    ensures { λ r. ⌜ r ≡ private.headOf d ⌝ }
+// ---- An element's values
+
+// How long they are.
+pub fn values_width(d: Descriptor) -> usize
+    ensures { λ r. ⌜ r ≡ length (valuesOf d) ⌝ }
 {
-    let i = writing::hex8(d.id.0);
-    let g = grade(d);
-    [
-        i[0],
-        i[1],
-        i[2],
-        i[3],
-        i[4],
-        i[5],
-        i[6],
-        i[7],
-        32,
-        g[0],
-        g[1],
-        g[2],
-        g[3],
-        g[4],
-        g[5],
-    ]
+    6 + capacity_width(d.capacity)
 }
 
-// How long a descriptor's line is.
+// Stores them at the front of 26 bytes, which hold each, and answers how long they are.
+fn put_front(part: &mut [u8], kind: u8, health: u8, capacity: u64) -> usize
+    requires { ⌜ length (now part) ≡ 26 ⌝ }
+    ensures { λ _. ⌜ now (part .exit) ≡ stored (now (part .entry)) 0 (private.valuesFor kind health capacity) ⌝ }
+    ensures { λ r. ⌜ r ≡ length (private.valuesFor kind health capacity) ⌝ }
+{
+    let begun = grade(kind, health);
+    slices::put(&mut part[0..6], 0, &begun);
+    6 + put_capacity(&mut part[6..26], 0, capacity)
+}
+
+// Stores them from a place on and answers where they end; nothing, if they do not fit. Where 26 bytes are not there they are made apart.
+pub fn put_values(out: &mut [u8], at: usize, d: Descriptor) -> usize
+    ensures { λ _. ⌜ now (out .exit) ≡ stored (now (out .entry)) at (valuesOf d) ⌝ }
+    ensures { λ r. ⌜ r ≡ ended (now (out .entry)) at (valuesOf d) ⌝ }
+{
+    if slices::does_fit(26, at, out.len()) {
+        return at + put_front(&mut out[at..at + 26], d.kind, d.health, d.capacity);
+    }
+    let mut apart = [0u8; 26];
+    let size = put_front(&mut apart, d.kind, d.health, d.capacity);
+    writing::word(out, at, &apart[..size])
+}
+
+// ---- A descriptor's line
+
+// The identifier and the space after it.
+fn head(id: ElementId) -> [u8; 9]
+    ensures { λ r. ⌜ r ≡ private.headOf (id .0) ⌝ }
+{
+    let i = writing::hex8(id.0);
+    [i[0], i[1], i[2], i[3], i[4], i[5], i[6], i[7], 32]
+}
+
+// How long it is.
 pub fn descriptor_width(d: Descriptor) -> usize
     ensures { λ r. ⌜ r ≡ length (descriptorLine d) ⌝ }
 {
@@ -85,6 +107,16 @@ fn line_fits(d: Descriptor, at: usize, room: usize) -> bool
     slices::does_fit(descriptor_width(d), at, room)
 }
 
+// Identifier, values and the line's end.
+fn put_parts(out: &mut [u8], at: usize, d: Descriptor) -> usize
+    ensures { λ r. ⌜ writing·private.Puts (now (out .entry)) at (descriptorLine d) (now (out .exit)) r ⌝ }
+{
+    let begun = head(d.id);
+    let a = writing::word(out, at, &begun);
+    let b = put_values(out, a, d);
+    writing::word(out, b, b"\n")
+}
+
 // Stores a descriptor's line from a place on and answers where it ends; nothing, if it does not fit.
 pub fn put_descriptor(out: &mut [u8], at: usize, d: Descriptor) -> usize
     ensures { λ _. ⌜ now (out .exit) ≡ stored (now (out .entry)) at (descriptorLine d) ⌝ }
@@ -93,38 +125,5 @@ pub fn put_descriptor(out: &mut [u8], at: usize, d: Descriptor) -> usize
     if !line_fits(d, at, out.len()) {
         return at;
     }
-    let begun = head(d);
-    let a = writing::word(out, at, &begun);
-    let b = put_capacity(out, a, d.capacity);
-    writing::word(out, b, b"\n")
-}
-
-// How long an element's values are.
-pub fn values_width(d: Descriptor) -> usize
-    ensures { λ r. ⌜ r ≡ length (valuesOf d) ⌝ }
-{
-    6 + capacity_width(d.capacity)
-}
-
-// Whether an element's values fit from a place on: each fit 26 bytes.
-fn values_fit(d: Descriptor, at: usize, room: usize) -> bool
-    ensures { λ r. ⌜ r ≡ fits (length (valuesOf d)) at room ⌝ }
-{
-    if slices::does_fit(26, at, room) {
-        return true;
-    }
-    slices::does_fit(values_width(d), at, room)
-}
-
-// Stores an element's values from a place on and answers where they end; nothing, if they do not fit.
-pub fn put_values(out: &mut [u8], at: usize, d: Descriptor) -> usize
-    ensures { λ _. ⌜ now (out .exit) ≡ stored (now (out .entry)) at (valuesOf d) ⌝ }
-    ensures { λ r. ⌜ r ≡ ended (now (out .entry)) at (valuesOf d) ⌝ }
-{
-    if !values_fit(d, at, out.len()) {
-        return at;
-    }
-    let begun = grade(d);
-    let a = writing::word(out, at, &begun);
-    put_capacity(out, a, d.capacity)
+    put_parts(out, at, d)
 }

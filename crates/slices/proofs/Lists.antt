@@ -8,7 +8,7 @@ use native.Mathlib.Numerals.{add-one}
 use native.Mathlib.Omega.{arith}
 use lib.Dec.{leb}
 use lib.ListN.{length, getD, take, drop, set, length-append, length-take, length-drop, length-replicate, drop-of-length-le, take-append-drop, replicate, replicate-append-replicate}
-use lib.Seq.{take-suc, drop-cons, getD-take, drop-append-add, drop-drop, take-at, length-take-le, paste, take-all, set-split, set-append-seam, append-snoc}
+use lib.Seq.{take-suc, drop-cons, getD-take, drop-append-le, drop-append-add, drop-drop, take-at, length-take-le, paste, take-all, set-split, set-append-seam, append-snoc}
 use borrow.Author.Tests.{le-leb, lt-leb, leb-true, leb-false}
 use Rattle.slices.specs.Lists.{keep, upTo, Every, flat, fits, stored, ended, sum}
 
@@ -213,6 +213,33 @@ module _ {A : Type 0} (d : List A) (at : ℕ) where
       rw (length-append P (drop (at + length a) d), front, length-drop) (omega arith) in
       rw (stored-fits d a at (omega arith), stored-fits d (a ++ b) at h, stored-fits (P ++ drop (at + length a) d) b (at + length a) room, both, ← add-assoc)
       (lay P b d (at + length a) (length b) front ∙ simp append-assoc)
+
+-- ## Stored at the front of a part
+
+-- the k elements from a place on, lent and put back
+module _ {A : Type 0} (d b : List A) (at k : ℕ) (room : at + k ≤ length d) (short : length b ≤ k) where
+  part-long : length (take k (drop at d)) ≡ k
+  part-long = length-take-le k (drop at d) (simp length-drop (omega arith))
+
+  tail-back : drop (length b) (take k (drop at d)) ++ drop k (drop at d) ≡ drop (at + length b) d
+  tail-back =
+      sym (drop-append-le (length b) (take k (drop at d)) (drop k (drop at d)) (rw part-long short))
+      ∙ ap (drop (length b)) (take-append-drop k (drop at d))
+      ∙ drop-drop (length b) at d
+
+  pub part-stored : (y : List A) → y ≡ stored (take k (drop at d)) 0 b → take at d ++ (y ++ drop k (drop at d)) ≡ stored d at b
+  part-stored y is-y =
+      let front : y ≡ b ++ drop (length b) (take k (drop at d)) = is-y ∙ stored-front (take k (drop at d)) b (rw part-long short) in
+      let behind : y ++ drop k (drop at d) ≡ b ++ drop (at + length b) d =
+      ap (λ (l : List A). l ++ drop k (drop at d)) front ∙ append-assoc b _ _ ∙ ap (λ (l : List A). b ++ l) tail-back in
+      ap (λ (l : List A). take at d ++ l) behind ∙ sym (append-assoc (take at d) b (drop (at + length b) d)) ∙ sym (stored-fits d b at (omega arith))
+
+  pub part-ended : (r : ℕ) → r ≡ length b → at + r ≡ ended d at b
+  part-ended r is-r = ap (λ (n : ℕ). at + n) is-r ∙ ended-yes d b at true (sym (le-leb (at + length b) (length d) (omega arith))) refl
+
+-- what stands at the front of a list is itself
+pub front-shown : {A : Type 0} (z b : List A) → length b ≤ length z → take (length b) (stored z 0 b) ≡ b
+front-shown z b h = rw (stored-front z b h) (take-at b (drop (length b) z) (length b) refl)
 
 -- a loop that stores zeros from a place on: none yet, and one more
 pub zero-none : (d : List ℕ) (at : ℕ) → d ≡ stored d at (replicate (at - at) 0)

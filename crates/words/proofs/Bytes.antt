@@ -3,10 +3,11 @@
 --     number-halves    a number of two halves, as the code reads it
 --     number-placed    the number of the bytes at a place
 --     number-same      the number at a place goes by its bytes alone
+--     low-parts        the bytes of a number of two parts
 use Prim.Native.Nat.{ℕ, zero, suc, _+_, _*_, _/_, _%_, _^_, _<_}
 use mathlib.Core.List.{List, [], _∷_, _++_, reverse, reverse-append, reverse-reverse}
 use mathlib.Core.Path.{_≡_, refl, sym, ap, _∙_}
-use native.Mathlib.Nat.{pow-suc, zero-add, add-zero, suc-add, add-mul, mul-assoc, add-assoc, div-add-mod', div-lt-iff-lt-mul}
+use native.Mathlib.Nat.{pow-suc, zero-add, add-zero, suc-add, add-mul, mul-assoc, add-assoc, div-add-mod', div-lt-iff-lt-mul, mul-add-mod-self-right, mul-add-div-right}
 use native.Mathlib.Omega.{arith}
 use lib.Dec.{lit<}
 use lib.ListN.{length, getD, drop, length-reverse}
@@ -23,6 +24,18 @@ value-lowBytes zero x h = omega arith
 value-lowBytes (suc w) x h =
     let high : x / 256 < 256 ^ w = div-lt-iff-lt-mul (lit< tt) .1 (rw (pow-suc 256 w) at h) in
     ap (λ (n : ℕ). n * 256 + x % 256) (value-lowBytes w (x / 256) high) ∙ div-add-mod' x 256
+
+-- the bytes of a number of two parts, the low one's first
+pub low-parts : (v w a b : ℕ) → a < 256 ^ v → lowBytes (v + w) (b * 256 ^ v + a) ≡ lowBytes v a ++ lowBytes w b
+low-parts zero w a b h =
+    let same : b * 256 ^ 0 + a ≡ b = omega arith in
+    rw (zero-add w, same)
+low-parts (suc v) w a b h =
+    let high : a / 256 < 256 ^ v = div-lt-iff-lt-mul (lit< tt) .1 (rw (pow-suc 256 v) at h) in
+    let more : b * 256 ^ suc v + a ≡ b * 256 ^ v * 256 + a = rw (pow-suc 256 v, ← mul-assoc) in
+    let low : (b * 256 ^ suc v + a) % 256 ≡ a % 256 = ap (λ (x : ℕ). x % 256) more ∙ mul-add-mod-self-right (b * 256 ^ v) 256 a in
+    let rest : (b * 256 ^ suc v + a) / 256 ≡ b * 256 ^ v + a / 256 = ap (λ (x : ℕ). x / 256) more ∙ mul-add-div-right (lit< tt) (b * 256 ^ v) a in
+    rw (suc-add v w, low, rest, low-parts v w (a / 256) b high)
 
 ordered-twice : (o : Order) (bs : List ℕ) → ordered o (ordered o bs) ≡ bs
 ordered-twice Little bs = refl

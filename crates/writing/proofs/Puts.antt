@@ -106,11 +106,17 @@ module _ (text d : List ℕ) (at n : ℕ) (t : Bool) (is-t : t ≡ fits n at (le
     unfolding Puts
     stands = puts fit
 
+    pub room-stored : x ≡ stored d at text
+    room-stored = stands .0
+
+    pub room-ended : r ≡ ended d at text
+    room-ended = stands .1 ∙ ended-yes d text at true (sym (le-leb (at + length text) (length d) fit)) refl
+
     pub whole-stored-in : x ≡ storedIn n d at text
-    whole-stored-in = stands .0 ∙ sym (rw (sym is-t ∙ yes))
+    whole-stored-in = room-stored ∙ sym (rw (sym is-t ∙ yes))
 
     pub whole-ended-in : r ≡ endedIn n d at text
-    whole-ended-in = stands .1 ∙ ended-yes d text at true (sym (le-leb (at + length text) (length d) fit)) refl ∙ sym (rw (sym is-t ∙ yes))
+    whole-ended-in = room-ended ∙ sym (rw (sym is-t ∙ yes))
 
 pub puts-in : (text d x : List ℕ) (at n r : ℕ) → at + n ≤ length d → x ≡ storedIn n d at text → r ≡ endedIn n d at text → Puts d at text x r
 puts-in text d x at n r room is-x is-r =

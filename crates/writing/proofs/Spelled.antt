@@ -1,5 +1,5 @@
 -- A short text at the end of 20 bytes; digits from the last to the first, and what each division puts in front.
-use Prim.Native.Nat.{ℕ, zero, suc, _+_, _-_, _*_, _/_, _%_, _≤_, _<_, min}
+use Prim.Native.Nat.{ℕ, zero, suc, _+_, _-_, _/_, _%_, _≤_, _<_, min}
 use mathlib.Core.Bool.{Bool, true, false, cond, false≢true}
 use mathlib.Core.List.{List, [], _∷_, _++_}
 use mathlib.Core.Path.{_≡_, refl, sym, ap, _∙_}
@@ -36,15 +36,34 @@ each-below (suc n) f all d l = by-tests (f n) refl all (eqb d n) refl (λ rest. 
     by-tests true p rest true e g = ap f (eqb-true d n e) ∙ p
     by-tests true p rest false e g = g rest (omega (arith, eqb-false d n e))
 
-pub glyph-there : (d : ℕ) → d < 16 → getD (ascii "0123456789ABCDEF") d 0 ≡ glyph d
+glyph-there : (d : ℕ) → d < 16 → getD (ascii "0123456789ABCDEF") d 0 ≡ glyph d
 unfolding allBelow
 glyph-there d l = eqb-true _ _ (each-below 16 (λ k. eqb (getD (ascii "0123456789ABCDEF") k 0) (glyph k)) refl d l)
 
-pub eight-laid : (x a b c d e f g h : ℕ)
-    → a ≡ glyph (x / 16 / 16 / 16 / 16 / 16 / 16 / 16 % 16) → b ≡ glyph (x / 16 / 16 / 16 / 16 / 16 / 16 % 16) → c ≡ glyph (x / 16 / 16 / 16 / 16 / 16 % 16)
-    → d ≡ glyph (x / 16 / 16 / 16 / 16 % 16) → e ≡ glyph (x / 16 / 16 / 16 % 16) → f ≡ glyph (x / 16 / 16 % 16) → g ≡ glyph (x / 16 % 16) → h ≡ glyph (x % 16)
-    → a ∷ b ∷ c ∷ d ∷ e ∷ f ∷ g ∷ h ∷ [] ≡ digits 16 8 x
-eight-laid x a b c d e f g h is-a is-b is-c is-d is-e is-f is-g is-h = rw (is-a, is-b, is-c, is-d, is-e, is-f, is-g, is-h)
+-- a digit as it is looked up
+abbrev looked : ℕ → ℕ
+looked y = getD (ascii "0123456789ABCDEF") (y % 16) 0
+
+digit-there : (y : ℕ) → looked y ≡ glyph (y % 16)
+digit-there y = glyph-there (y % 16) (mod-lt y (lit< tt))
+
+pub two-there : (x : ℕ) → looked (x / 16) ∷ looked x ∷ [] ≡ digits 16 2 x
+two-there x i = digit-there (x / 16) i ∷ digit-there x i ∷ []
+
+pub eight-there : (x : ℕ)
+    → looked (x / 16 / 16 / 16 / 16 / 16 / 16 / 16) ∷ looked (x / 16 / 16 / 16 / 16 / 16 / 16) ∷ looked (x / 16 / 16 / 16 / 16 / 16) ∷ looked (x / 16 / 16 / 16 / 16)
+    ∷ looked (x / 16 / 16 / 16) ∷ looked (x / 16 / 16) ∷ looked (x / 16) ∷ looked x ∷ []
+    ≡ digits 16 8 x
+eight-there x i =
+    digit-there (x / 16 / 16 / 16 / 16 / 16 / 16 / 16) i
+    ∷ digit-there (x / 16 / 16 / 16 / 16 / 16 / 16) i
+    ∷ digit-there (x / 16 / 16 / 16 / 16 / 16) i
+    ∷ digit-there (x / 16 / 16 / 16 / 16) i
+    ∷ digit-there (x / 16 / 16 / 16) i
+    ∷ digit-there (x / 16 / 16) i
+    ∷ digit-there (x / 16) i
+    ∷ digit-there x i
+    ∷ []
 
 -- ## Decimal
 
@@ -91,34 +110,6 @@ module _ (n : ℕ) (t : List ℕ) (rest m : ℕ) (so : Spelled n t rest m) where
       let all : m + 1 ≡ placesOf n = counted-all n rest (m + 1) (so .2) h in
       let wide : length (decimalOf n) ≡ m + 1 = length-digits 10 (placesOf n) n ∙ sym all in
       rw (wide, ← all) (λ i. record { bytes = (ap (λ (x : ℕ). set t (19 - m) (48 + x)) one ∙ more) i; count = m + 1 })
-
-tens : (q a : ℕ) → a < 10 → (10 * q + a) % 10 ≡ a
-tens q a less = omega arith
-
--- two digits of a division by 100
-module _ (n : ℕ) (t : List ℕ) (rest m : ℕ) (so : Spelled n t rest m) (two : 10 ≤ rest) where
-  one : Spelled n (set t (19 - m) (48 + rest % 10)) (rest / 10) (m + 1)
-  one = spelled-next n t rest m so two
-
-  pub spelled-room-two : m ≤ 18
-  spelled-room-two = let few : m + 1 ≤ 19 = spelled-room n (set t (19 - m) (48 + rest % 10)) (rest / 10) (m + 1) one in omega arith
-
-  before : 18 - m ≡ 19 - (m + 1)
-  before = omega arith
-
-  pub spelled-next-two : 100 ≤ rest → Spelled n (set (set t (19 - m) (48 + rest % 100 % 10)) (18 - m) (48 + rest % 100 / 10)) (rest / 100) (m + 2)
-  spelled-next-two h =
-      let last : rest % 100 % 10 ≡ rest % 10 = omega arith in
-      let split : rest / 10 ≡ 10 * (rest / 100) + rest % 100 / 10 = omega arith in
-      let next : rest % 100 / 10 ≡ rest / 10 % 10 = sym (rw split (tens (rest / 100) (rest % 100 / 10) (omega arith))) in
-      let others : rest / 100 ≡ rest / 10 / 10 = omega arith in
-      let both : m + 2 ≡ m + 1 + 1 = omega arith in
-      rw (last, next, others, both, before) (spelled-next n (set t (19 - m) (48 + rest % 10)) (rest / 10) (m + 1) one (omega arith))
-
-  pub spelled-all-two : rest < 100 → record { bytes = set (set t (19 - m) (48 + rest % 10)) (18 - m) (48 + rest / 10); count = m + 2 } ≡ spelled (decimalOf n)
-  spelled-all-two h =
-      let both : m + 2 ≡ m + 1 + 1 = omega arith in
-      rw (both, before) (spelled-all n (set t (19 - m) (48 + rest % 10)) (rest / 10) (m + 1) one (omega arith))
 
 -- ## What is shown
 

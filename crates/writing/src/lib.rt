@@ -2,41 +2,36 @@
 // does not fit there, nothing, and the answer is the place itself.
 ghost use mathlib.Core.List.{_++_};
 ghost use mathlib.Core.Path.{_≡_};
-ghost use Prim.Native.Nat.{_+_, _<_};
+ghost use Prim.Native.Nat.{_+_, _^_, _<_};
 ghost use lib.ListN.{length};
 ghost use Rattle.slices.specs.Lists.{fits, stored, ended};
-ghost use Rattle.text.specs.Digits.{glyph, digits, decimalOf};
+ghost use Rattle.text.specs.Digits.{digits, decimalOf};
+ghost use Rattle.words.specs.Bytes.{lowBytes};
 ghost use Rattle.writing.specs.Private as private;
 ghost use Rattle.writing.specs.Writing.{numberLine};
-
-fn digit(d: u8) -> u8
-    requires { ⌜ d < 16 ⌝ }
-    ensures { λ r. ⌜ r ≡ glyph d ⌝ }
-{
-    let glyphs = b"0123456789ABCDEF";
-    glyphs[d as usize]
-}
 
 // Two upper hexadecimal digits.
 pub fn hex2(x: u8) -> [u8; 2]
     ensures { λ r. ⌜ r ≡ digits 16 2 x ⌝ }
 {
-    [digit(x / 16 % 16), digit(x % 16)]
+    let glyphs = b"0123456789ABCDEF";
+    [glyphs[(x / 16 % 16) as usize], glyphs[(x % 16) as usize]]
 }
 
 // Eight upper hexadecimal digits.
 pub fn hex8(x: u32) -> [u8; 8]
     ensures { λ r. ⌜ r ≡ digits 16 8 x ⌝ }
 {
+    let glyphs = b"0123456789ABCDEF";
     [
-        digit((x / 16 / 16 / 16 / 16 / 16 / 16 / 16 % 16) as u8),
-        digit((x / 16 / 16 / 16 / 16 / 16 / 16 % 16) as u8),
-        digit((x / 16 / 16 / 16 / 16 / 16 % 16) as u8),
-        digit((x / 16 / 16 / 16 / 16 % 16) as u8),
-        digit((x / 16 / 16 / 16 % 16) as u8),
-        digit((x / 16 / 16 % 16) as u8),
-        digit((x / 16 % 16) as u8),
-        digit((x % 16) as u8),
+        glyphs[(x / 16 / 16 / 16 / 16 / 16 / 16 / 16 % 16) as usize],
+        glyphs[(x / 16 / 16 / 16 / 16 / 16 / 16 % 16) as usize],
+        glyphs[(x / 16 / 16 / 16 / 16 / 16 % 16) as usize],
+        glyphs[(x / 16 / 16 / 16 / 16 % 16) as usize],
+        glyphs[(x / 16 / 16 / 16 % 16) as usize],
+        glyphs[(x / 16 / 16 % 16) as usize],
+        glyphs[(x / 16 % 16) as usize],
+        glyphs[(x % 16) as usize],
     ]
 }
 
@@ -51,38 +46,174 @@ pub fn word(out: &mut [u8], at: usize, s: &[u8]) -> usize
     at + s.len()
 }
 
+// ---- Decimal digits
+
+// Two digits as one number: its bytes, the lowest first, are the text. In each byte is a digit and 48; the tens are taken off 256 * n.
+fn two(n: u64) -> u64
+    requires { ⌜ n < 100 ⌝ }
+    ensures { λ r. ⌜ (lowBytes 2 r ≡ digits 10 2 n) × (r < 256 ^ 2) ⌝ }
+{
+    12336 + 256 * n - 2559 * (n / 10)
+}
+
+fn four(n: u64) -> u64
+    requires { ⌜ n < 10 ^ 4 ⌝ }
+    ensures { λ r. ⌜ (lowBytes 4 r ≡ digits 10 4 n) × (r < 256 ^ 4) ⌝ }
+{
+    two(n / 100) + 65536 * two(n % 100)
+}
+
+fn eight(n: u64) -> u64
+    requires { ⌜ n < 10 ^ 8 ⌝ }
+    ensures { λ r. ⌜ lowBytes 8 r ≡ digits 10 8 n ⌝ }
+{
+    four(n / 10000) + 4294967296 * four(n % 10000)
+}
+
+// The low bytes of a number.
+fn low2(x: u64) -> [u8; 2]
+    ensures { λ r. ⌜ r ≡ lowBytes 2 x ⌝ }
+{
+    [(x % 256) as u8, (x / 256 % 256) as u8]
+}
+
+fn low4(x: u64) -> [u8; 4]
+    ensures { λ r. ⌜ r ≡ lowBytes 4 x ⌝ }
+{
+    [
+        (x % 256) as u8,
+        (x / 256 % 256) as u8,
+        (x / 256 / 256 % 256) as u8,
+        (x / 256 / 256 / 256 % 256) as u8,
+    ]
+}
+
+fn low8(x: u64) -> [u8; 8]
+    ensures { λ r. ⌜ r ≡ lowBytes 8 x ⌝ }
+{
+    [
+        (x % 256) as u8,
+        (x / 256 % 256) as u8,
+        (x / 256 / 256 % 256) as u8,
+        (x / 256 / 256 / 256 % 256) as u8,
+        (x / 256 / 256 / 256 / 256 % 256) as u8,
+        (x / 256 / 256 / 256 / 256 / 256 % 256) as u8,
+        (x / 256 / 256 / 256 / 256 / 256 / 256 % 256) as u8,
+        (x / 256 / 256 / 256 / 256 / 256 / 256 / 256 % 256) as u8,
+    ]
+}
+
+fn put_one(out: &mut [u8], at: usize, n: u64) -> usize
+    requires { ⌜ n < 10 ⌝ }
+    ensures { λ r. ⌜ private.Puts (now (out .entry)) at (digits 10 1 n) (now (out .exit)) r ⌝ }
+{
+    word(out, at, &[48 + n as u8])
+}
+
+fn put_two(out: &mut [u8], at: usize, n: u64) -> usize
+    requires { ⌜ n < 100 ⌝ }
+    ensures { λ r. ⌜ private.Puts (now (out .entry)) at (digits 10 2 n) (now (out .exit)) r ⌝ }
+{
+    word(out, at, &low2(two(n)))
+}
+
+fn put_four(out: &mut [u8], at: usize, n: u64) -> usize
+    requires { ⌜ n < 10 ^ 4 ⌝ }
+    ensures { λ r. ⌜ private.Puts (now (out .entry)) at (digits 10 4 n) (now (out .exit)) r ⌝ }
+{
+    word(out, at, &low4(four(n)))
+}
+
+fn put_eight(out: &mut [u8], at: usize, n: u64) -> usize
+    requires { ⌜ n < 10 ^ 8 ⌝ }
+    ensures { λ r. ⌜ private.Puts (now (out .entry)) at (digits 10 8 n) (now (out .exit)) r ⌝ }
+{
+    word(out, at, &low8(eight(n)))
+}
+
+// ---- A number in decimal, with no zero in front
+
+// Of at most four digits.
+fn put_short(out: &mut [u8], at: usize, n: u64) -> usize
+    requires { ⌜ n < 10 ^ 4 ⌝ }
+    ensures { λ r. ⌜ private.Puts (now (out .entry)) at (decimalOf n) (now (out .exit)) r ⌝ }
+{
+    if n < 10 {
+        return put_one(out, at, n);
+    }
+    if n < 100 {
+        return put_two(out, at, n);
+    }
+    if n < 1000 {
+        let a = put_one(out, at, n / 100);
+        return put_two(out, a, n % 100);
+    }
+    put_four(out, at, n)
+}
+
+// Of at most eight.
+fn put_long(out: &mut [u8], at: usize, n: u64) -> usize
+    requires { ⌜ n < 10 ^ 8 ⌝ }
+    ensures { λ r. ⌜ private.Puts (now (out .entry)) at (decimalOf n) (now (out .exit)) r ⌝ }
+{
+    if n < 10000 {
+        return put_short(out, at, n);
+    }
+    let a = put_short(out, at, n / 10000);
+    put_four(out, a, n % 10000)
+}
+
+// Of at most twelve.
+fn put_longer(out: &mut [u8], at: usize, n: u64) -> usize
+    requires { ⌜ n < 10 ^ 12 ⌝ }
+    ensures { λ r. ⌜ private.Puts (now (out .entry)) at (decimalOf n) (now (out .exit)) r ⌝ }
+{
+    if n < 10000 {
+        return put_short(out, at, n);
+    }
+    if n < 100000000 {
+        let a = put_short(out, at, n / 10000);
+        return put_four(out, a, n % 10000);
+    }
+    let a = put_short(out, at, n / 100000000);
+    put_eight(out, a, n % 100000000)
+}
+
+// Of any number, eight by a division.
+fn put_any(out: &mut [u8], at: usize, n: u64) -> usize
+    ensures { λ r. ⌜ private.Puts (now (out .entry)) at (decimalOf n) (now (out .exit)) r ⌝ }
+{
+    if n < 100000000 {
+        return put_long(out, at, n);
+    }
+    let a = put_longer(out, at, n / 100000000);
+    put_eight(out, a, n % 100000000)
+}
+
+// ---- A number by itself
+
 // A short text: the last `count` bytes.
 struct Spelling {
     bytes: [u8; 20],
     count: usize,
 }
 
-// A number in decimal, with no zero in front: from the last digit on, two by a division.
+// The last digit, then one more before it as long as there is one.
 fn decimal_of(n: u64) -> Spelling
     ensures { λ r. ⌜ r ≡ private.spelled (decimalOf n) ⌝ }
 {
     let mut t = [0u8; 20];
     let mut rest = n;
     let mut m: usize = 0;
-    while 100 <= rest {
-        let two = (rest % 100) as u8;
-        t[19 - m] = 48 + two % 10;
-        t[18 - m] = 48 + two / 10;
-        rest /= 100;
-        m += 2;
+    while 10 <= rest {
+        t[19 - m] = 48 + (rest % 10) as u8;
+        rest /= 10;
+        m += 1;
     }
-    if rest < 10 {
-        t[19 - m] = 48 + rest as u8;
-        return Spelling {
-            bytes: t,
-            count: m + 1,
-        };
-    }
-    t[19 - m] = 48 + (rest % 10) as u8;
-    t[18 - m] = 48 + (rest / 10) as u8;
+    t[19 - m] = 48 + rest as u8;
     Spelling {
         bytes: t,
-        count: m + 2,
+        count: m + 1,
     }
 }
 
@@ -104,10 +235,14 @@ impl Spelling {
     }
 }
 
+// A number in decimal. Each fits 20 bytes: where these are there, its digits are stored as they are made.
 pub fn decimal(out: &mut [u8], at: usize, n: u64) -> usize
     ensures { λ _. ⌜ now (out .exit) ≡ stored (now (out .entry)) at (decimalOf n) ⌝ }
     ensures { λ r. ⌜ r ≡ ended (now (out .entry)) at (decimalOf n) ⌝ }
 {
+    if slices::does_fit(20, at, out.len()) {
+        return put_any(out, at, n);
+    }
     decimal_of(n).put(out, at)
 }
 

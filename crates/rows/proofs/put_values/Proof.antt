@@ -1,10 +1,9 @@
 -- `rows::put_values`.
+use Prim.Native.Nat.{_+_, _≤_}
+use native.Mathlib.Omega.{arith}
+use lib.ListN.{length}
 use borrow.Author.Needs.{needs}
-use borrow.Author.Tests.{not-true, not-false}
-use Rattle.writing.proofs.Puts.{none-stored, none-ended, whole-stored, whole-ended}
-use Rattle.writing.specs.Private.{Puts}
-use Rattle.rows.specs.Rows.{valuesOf}
-use Rattle.rows.proofs.Rows.{values-puts}
+use Rattle.rows.proofs.Rows.{room-there, part-values, part-values-end, part-values-room, apart-there, apart-long, apart-stored, apart-ended}
 use Rattle.rows.proofs.put_values.Statement.{statement}
 use Rattle.rows.proofs.put_values.Tie as tie
 
@@ -13,13 +12,22 @@ put-values-spec =
     tie.close
     (tie.spec
     (λ c κs. search needs)
-    (λ c. (search (none-stored, not-true), search (none-ended, not-true)))
+    (λ c. let s = c .before .before .before .args in
+    let room : s .at + 26 ≤ length (s .out .now) = search (room-there) in
+    omega arith)
+    (λ c. search needs)
+    (λ c. search needs)
+    (λ c. search (room-there))
     (λ c κs. search needs)
+    (λ c. let s = c .before .before .before .before .before .before .before .args in
+    let room : s .at + c .before .before .put-front .result ≤ length (s .out .now) = search (part-values-room) in
+    omega arith)
+    (λ c. search needs)
+    (λ c. (search (part-values), search (part-values-end)))
     (λ c. search needs)
     (λ c κs. search needs)
+    (λ c. search (apart-there))
+    (λ c. search (apart-long))
     (λ c κs. search needs)
     (λ c. search needs)
-    (λ c. let s = c .before .before .before .before .before .before .before .before .before .before .before .before .before .args in
-    let last = c .before .before .put-capacity in
-    let values : Puts (s .out .now) (s .at) (valuesOf (s .d)) (last .last .0) (last .result) = search (values-puts) in
-    (search (whole-stored, not-false), search (whole-ended, not-false))))
+    (λ c. (search (apart-stored), search (apart-ended))))

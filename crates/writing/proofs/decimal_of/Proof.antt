@@ -2,7 +2,7 @@
 use mathlib.Core.Path.{refl}
 use native.Mathlib.Omega.{arith}
 use borrow.Author.Needs.{needs}
-use Rattle.writing.proofs.Spelled.{Spelled, spelled-room, spelled-all, spelled-room-two, spelled-next-two, spelled-all-two}
+use Rattle.writing.proofs.Spelled.{Spelled, spelled-room, spelled-next, spelled-all}
 use Rattle.writing.proofs.decimal_of.Statement.{statement}
 use Rattle.writing.proofs.decimal_of.Tie as tie
 
@@ -19,35 +19,18 @@ decimal-of-spec =
     Inv-loop
     μ-loop
     (λ c. (refl, refl, (omega arith, omega arith, omega arith)))
-    (λ c. omega arith)
-    (λ c. omega arith)
+    (λ c. search needs)
+    (λ c. search needs)
     (λ c. search (spelled-room))
     (λ c. omega arith)
-    (λ c. omega arith)
     (λ c. let l = c .before .loop in
-    spelled-room-two (c .before .before .args .n) (l .t) (l .rest) (l .m) (l .inv) (omega arith))
-    (λ c. omega arith)
-    (λ c. let l = c .before .loop in
-    omega (arith, spelled-room-two (c .before .before .args .n) (l .t) (l .rest) (l .m) (l .inv) (omega arith)))
-    (λ c. omega arith)
-    (λ c. let l = c .before .loop in
-    spelled-next-two (c .before .before .args .n) (l .t) (l .rest) (l .m) (l .inv) (omega arith) (omega arith))
-    (λ c. omega arith)
-    (λ c. omega arith)
+    omega (arith, spelled-room (c .before .before .args .n) (l .t) (l .rest) (l .m) (l .inv)))
+    (λ c. search needs)
+    (λ c. search (spelled-next))
+    (λ c. search needs)
+    (λ c. search needs)
     (λ c. search (spelled-room))
     (λ c. omega arith)
-    (λ c. let l = c .before .before .loop in
-    omega (arith, spelled-room (c .before .before .before .args .n) (l .t) (l .rest) (l .m) (l .inv)))
-    (λ c. search (spelled-all))
-    (λ c. omega arith)
-    (λ c. omega arith)
-    (λ c. search (spelled-room))
-    (λ c. omega arith)
-    (λ c. omega arith)
-    (λ c. omega arith)
-    (λ c. let l = c .before .before .loop in
-    spelled-room-two (c .before .before .before .args .n) (l .t) (l .rest) (l .m) (l .inv) (omega arith))
-    (λ c. omega arith)
-    (λ c. let l = c .before .before .loop in
-    omega (arith, spelled-room-two (c .before .before .before .args .n) (l .t) (l .rest) (l .m) (l .inv) (omega arith)))
-    (λ c. search (spelled-all-two)))
+    (λ c. let l = c .before .loop in
+    omega (arith, spelled-room (c .before .before .args .n) (l .t) (l .rest) (l .m) (l .inv)))
+    (λ c. search (spelled-all)))

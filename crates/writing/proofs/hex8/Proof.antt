@@ -1,6 +1,6 @@
 -- `writing::hex8`.
 use borrow.Author.Needs.{needs}
-use Rattle.writing.proofs.Spelled.{eight-laid}
+use Rattle.writing.proofs.Spelled.{eight-there}
 use Rattle.writing.proofs.hex8.Statement.{statement}
 use Rattle.writing.proofs.hex8.Tie as tie
 
@@ -9,19 +9,19 @@ hex8-spec =
     tie.close
     (tie.spec
     (λ c. search needs)
-    (λ c κs. search needs)
     (λ c. search needs)
-    (λ c κs. search needs)
     (λ c. search needs)
-    (λ c κs. search needs)
     (λ c. search needs)
-    (λ c κs. search needs)
     (λ c. search needs)
-    (λ c κs. search needs)
     (λ c. search needs)
-    (λ c κs. search needs)
     (λ c. search needs)
-    (λ c κs. search needs)
     (λ c. search needs)
-    (λ c κs. search needs)
-    (λ c. search (eight-laid)))
+    (λ c. search needs)
+    (λ c. search needs)
+    (λ c. search needs)
+    (λ c. search needs)
+    (λ c. search needs)
+    (λ c. search needs)
+    (λ c. search needs)
+    (λ c. search needs)
+    (λ c. search (eight-there)))
