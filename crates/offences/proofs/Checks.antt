@@ -1,36 +1,34 @@
--- The checks of a descriptor: a law for each way out.
-use Prim.Native.Nat.{ℕ, _+_, _-_, _*_, _≤_, _<_}
+-- The checks of a descriptor, a law for each way out; and the list, from place to place.
+use Prim.Native.Nat.{ℕ, zero, suc, _+_, _-_, _≤_, _<_}
 use mathlib.Core.Bool.{Bool, true, false}
 use mathlib.Core.List.{List}
-use mathlib.Core.Path.{_≡_, refl, sym, ap, _∙_}
+use mathlib.Core.Path.{_≡_, refl, sym, _∙_}
 use native.Mathlib.Numerals.{add-one}
 use native.Mathlib.Omega.{arith}
-use lib.Dec.{eqb, ltb}
+use lib.Dec.{eqb, ltb, leb·suc-zero, eqb·suc-zero}
 use lib.ListN.{take, drop}
-use borrow.Author.Tests.{leb-true, eq-eqb, ne-eqb}
 use Rattle.layout.proofs.Reserved.{part-read}
 use Rattle.layout.specs.Bytes.{descriptorIn}
 use Rattle.layout.specs.declared.Descriptor.{Descriptor}
 use Rattle.request.specs.Requests.{filterOf, reportTypeOf, takesId, takesType, takesHealth}
 use Rattle.request.specs.declared.Request.{Request}
-use Rattle.slices.specs.Lists.{fits}
 use Rattle.words.specs.declared.Order.{Order}
-use Rattle.offences.specs.Checks.{baseOf, descriptorAt, lastBefore, inTurn, earned, checkOf, offenceAt}
+use Rattle.offences.specs.Checks.{baseOf, lastBefore, inTurn, earned, checkOf, offenceAt}
 use Rattle.offences.specs.First.{firstBelow}
+use Rattle.offences.specs.Private.{Swept}
 use Rattle.offences.specs.declared.Offence.the-variants.{Clean, At}
 use Rattle.offences.specs.declared.Offence.{Offence}
 use Rattle.offences.proofs.First.{first-more, first-found, first-done}
 
-module _ (q : Request) (last id : ℕ) where
-  pub turn-none : id ≡ 0 → false ≡ inTurn q last id
-  turn-none e = sym (rw (eq-eqb _ _ e))
+module _ (q : Request) (last : ℕ) (b : Bool) where
+  pub turn-below : (id : ℕ) → b ≡ takesId q id → b ≡ false → false ≡ inTurn q last id
+  turn-below zero is-b n = refl
+  turn-below (suc id) is-b n = sym (rw (eqb·suc-zero id, sym is-b ∙ n))
 
-  module _ (some : id ≡ 0 → ⊥) (b : Bool) (is-b : b ≡ takesId q id) where
-    pub turn-below : b ≡ false → false ≡ inTurn q last id
-    turn-below n = sym (rw (ne-eqb _ _ some, sym is-b ∙ n))
-
-    pub turn-after : b ≡ true → ltb last id ≡ inTurn q last id
-    turn-after y = sym (rw (ne-eqb _ _ some, sym is-b ∙ y))
+  -- nothing is below 0
+  pub turn-after : (id : ℕ) → b ≡ takesId q id → b ≡ true → ltb last id ≡ inTurn q last id
+  turn-after zero is-b y = leb·suc-zero last
+  turn-after (suc id) is-b y = sym (rw (eqb·suc-zero id, sym is-b ∙ y))
 
 pub earned-clear : (d : Descriptor) → d .restorable ≡ false → true ≡ earned d
 earned-clear d n = sym (rw n)
@@ -57,53 +55,48 @@ module _ (q : Request) (last base : ℕ) (d : Descriptor) (t : Bool) (is-t : t �
         pub judged-clean : h ≡ true → Clean ≡ checkOf q last base d
         judged-clean y = sym (rw (sym is-t ∙ in-turn, sym is-e ∙ is-earned, sym is-k ∙ of-type, sym is-h ∙ y))
 
--- ## One turn over the descriptors
+-- a plain descriptor is clean, wherever it starts
+module _ (q : Request) (last : ℕ) (d : Descriptor) where
+  pub plain-not : false ≡ true → (base : ℕ) → Clean ≡ checkOf q last base d
+  plain-not e base = let z : _≡_ {A = ℕ} 0 1 = cc in absurd (omega arith)
 
-module _ (o : Order) (s : List ℕ) (q : Request) (k : ℕ) (d : Descriptor) (is-d : d ≡ descriptorAt o s k) where
-  pub judged-here : (last : ℕ) → last ≡ lastBefore o s k → (r : Offence) → r ≡ checkOf q last (baseOf k) d → r ≡ offenceAt o s q k
-  judged-here last is-last r is-r = is-r ∙ rw (is-last, is-d)
+  pub plain-clean : (t : Bool) → t ≡ inTurn q last (d .id .0) → t ≡ true → d .restorable ≡ false
+      → (k : Bool) → k ≡ takesType (reportTypeOf q) (d .kind) → k ≡ true
+      → (h : Bool) → h ≡ takesHealth (filterOf q) (d .health) → h ≡ true → (base : ℕ) → Clean ≡ checkOf q last base d
+  plain-clean t is-t in-turn clear k is-k of-type h is-h of-health base =
+      judged-clean q last base d t is-t in-turn true (earned-clear d clear) refl k is-k of-type h is-h of-health
 
-  pub last-next : d .id .0 ≡ lastBefore o s (k + 1)
-  last-next = rw add-one (ap (λ (x : Descriptor). x .id .0) is-d)
+-- a part of 32 bytes is read as what stands there
+pub whole-read : (o : Order) (s : List ℕ) (at : ℕ) (d : Descriptor) → d ≡ descriptorIn o (take (at + 32 - at) (drop at s)) → d ≡ descriptorIn o (drop at s)
+whole-read o s at d is-d =
+    let wide : at + 32 - at ≡ 32 = omega arith in
+    is-d ∙ rw wide (part-read o (drop at s))
 
 -- ## The list, from place to place
 
--- the descriptors before a place are clean, and `last` is the identifier before it
-abbrev pub Swept : Order → List ℕ → Request → ℕ → ℕ → ℕ → Type 0
-Swept o s q count at last = (k : ℕ) × (at ≡ baseOf k) × (k ≤ count) × (last ≡ lastBefore o s k) × (firstBelow k (offenceAt o s q) ≡ Clean)
-
 module _ (o : Order) (s : List ℕ) (q : Request) (count : ℕ) where
   pub swept-none : Swept o s q count 32 0
-  swept-none = (0, refl, omega arith, refl, refl)
+  swept-none = record { k = 0; is-at = refl; few = omega arith; is-last = refl; clean = refl }
 
   module _ (at last : ℕ) (so : Swept o s q count at last) where
     pub swept-all : baseOf count ≤ at → Clean ≡ firstBelow count (offenceAt o s q)
-    swept-all past =
-        let (k, is-at, few, is-last, clean) = so in
-        sym (first-done (offenceAt o s q) count k few (omega arith) clean)
+    swept-all past = sym (first-done (offenceAt o s q) count (so .k) (so .few) (omega arith) (so .clean))
 
-    module _ (less : at < baseOf count) where
-      pub swept-room : at + 32 ≤ baseOf count
-      swept-room = let (k, is-at, few, is-last, clean) = so in omega arith
+    module _ (less : at < baseOf count) (d : Descriptor) (is-d : d ≡ descriptorIn o (drop at s)) where
+      here : checkOf q last at d ≡ offenceAt o s q (so .k)
+      here = rw (is-d, so .is-last, so .is-at)
 
-      module _ (d : Descriptor) (is-d : d ≡ descriptorIn o (take (at + 32 - at) (drop at s))) (r : Offence) (is-r : r ≡ checkOf q last at d) where
-        here : (k : ℕ) → at ≡ baseOf k → d ≡ descriptorAt o s k
-        here k is-at =
-            let wide : at + 32 - at ≡ 32 = omega arith in
-            is-d ∙ rw wide (part-read o (drop at s)) ∙ ap (λ (n : ℕ). descriptorIn o (drop n s)) is-at
+      pub swept-found : (r : Offence) → r ≡ checkOf q last at d → (p : ℕ) → r ≡ At p → At p ≡ firstBelow count (offenceAt o s q)
+      swept-found r is-r p e = sym (first-found (offenceAt o s q) count (so .k) p (so .clean) (sym here ∙ sym is-r ∙ e) (omega arith))
 
-        seen : (k : ℕ) → at ≡ baseOf k → last ≡ lastBefore o s k → r ≡ offenceAt o s q k
-        seen k is-at is-last = judged-here o s q k d (here k is-at) last is-last r (is-r ∙ ap (λ (n : ℕ). checkOf q last n d) is-at)
+      pub swept-next : (r : Offence) → r ≡ checkOf q last at d → r ≡ Clean → Swept o s q count (at + 32) (d .id .0)
+      swept-next r is-r e = record {
+        k = so .k + 1;
+        is-at = omega arith;
+        few = omega arith;
+        is-last = rw (add-one, is-d, so .is-at);
+        clean = first-more (offenceAt o s q) (so .k) (so .clean) (sym here ∙ sym is-r ∙ e);
+      }
 
-        pub swept-found : (p : ℕ) → r ≡ At p → At p ≡ firstBelow count (offenceAt o s q)
-        swept-found p e =
-            let (k, is-at, few, is-last, clean) = so in
-            sym (first-found (offenceAt o s q) count k p clean (sym (seen k is-at is-last) ∙ e) (omega arith))
-
-        pub swept-next : r ≡ Clean → Swept o s q count (at + 32) (d .id .0)
-        swept-next e =
-            let (k, is-at, few, is-last, clean) = so in
-            (k + 1, omega arith, omega arith, last-next o s q k d (here k is-at), first-more (offenceAt o s q) k clean (sym (seen k is-at is-last) ∙ e))
-
-pub list-there : (count room : ℕ) (t : Bool) → t ≡ fits (32 * count) 32 room → t ≡ true → baseOf count ≤ room
-list-there count room t is-t e = leb-true (baseOf count) room (sym is-t ∙ e)
+      pub swept-plain : (t : Bool) → (t ≡ true → (base : ℕ) → Clean ≡ checkOf q last base d) → t ≡ true → Swept o s q count (at + 32) (d .id .0)
+      swept-plain t is-clean y = swept-next Clean (is-clean y at) refl
