@@ -11,7 +11,7 @@ use Rattle.changes.proofs.Lengths.{length-last}
 use Rattle.changes.specs.Changes.{lineOf, lastLine}
 use Rattle.compare.proofs.Steps.{next-whole}
 use Rattle.compare.proofs.Walking.{walk-done, walk-found, found-leaves}
-use Rattle.compare.specs.Walk.{first, frameOf, nextTo, ahead}
+use Rattle.compare.specs.Walk.{first, frameOf, nextTo, nextOf, ahead}
 use Rattle.compare.specs.declared.Cursor.{Cursor}
 use Rattle.compare.specs.declared.Frame.{Frame}
 use Rattle.compare.specs.declared.Hit.{Hit}
@@ -30,7 +30,7 @@ use Rattle.writing.proofs.Puts.{puts-none, puts-one, puts-more}
 use Rattle.writing.specs.Private.{Puts}
 use Rattle.comparison.specs.Comparison.{linesOf, comparisonOf}
 use Rattle.comparison.specs.Private.{isAccepted, stepOf, linesFrom}
-use Rattle.comparison.proofs.Accepted.{by-walk}
+use Rattle.comparison.proofs.Accepted.{lines-none, by-walk}
 use Rattle.comparison.proofs.Lengths.{length-lines}
 
 -- ## A step
@@ -48,12 +48,15 @@ not-found : {A : Type 0} (d : Hit) → Done ≡ Found d → A
 unfolding tag
 not-found d e = absurd (let away : _≡_ {A = ℕ} 0 1 = ap tag e in omega arith)
 
+pub measure-none : (s t : List ℕ) (a : Bool) → a ≡ false → 0 ≡ length (linesFrom a s t first)
+measure-none s t a n = sym (rw (n, lines-none s t first))
+
 module _ (s t : List ℕ) (c : Cursor) where
   pub lines-first : (a : Bool) → c ≡ first → linesFrom a s t first ≡ linesFrom a s t c
   lines-first a e = ap (linesFrom a s t) (sym e)
 
-  pub measure-first : (a : Bool) → c ≡ first → 0 + length (linesFrom a s t c) ≡ length (linesFrom a s t first)
-  measure-first a e = omega (arith, ap length (lines-first a e))
+  pub measure-first : (a : Bool) → a ≡ true → c ≡ first → 0 + length (linesFrom true s t c) ≡ length (linesFrom a s t first)
+  measure-first a y e = rw (y, e) (omega arith)
 
   lines-done : (a : Bool) (x : Step) → x ≡ stepOf a s t c → x ≡ Done → linesFrom a s t c ≡ []
   unfolding linesFrom
@@ -65,8 +68,11 @@ module _ (s t : List ℕ) (c : Cursor) where
   lines-found true x is-x d e = ap (linesOf s t) (walk-found s t c d (sym e ∙ is-x))
   lines-found false x is-x d e = not-found d (sym is-x ∙ e)
 
+  pub next-less : (x : Step) → x ≡ nextOf s t c → (d : Hit) → x ≡ Found d → ahead s t (d .next) < ahead s t c
+  next-less x is-x d e = found-leaves s t c d (sym e ∙ is-x)
+
   pub found-less : (a : Bool) (x : Step) → x ≡ stepOf a s t c → (d : Hit) → x ≡ Found d → ahead s t (d .next) < ahead s t c
-  found-less true x is-x d e = found-leaves s t c d (sym e ∙ is-x)
+  found-less true x is-x d e = next-less x is-x d e
   found-less false x is-x d e = not-found d (sym is-x ∙ e)
 
 -- of what is stored in d up to n, the lines from the cursor on are what is missing for all lines in b

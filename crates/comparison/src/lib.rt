@@ -39,16 +39,18 @@ fn next_of(older: &[u8], newer: &[u8], frame: Frame, accepted: bool, at: Cursor)
     }
 }
 
-// How long the lines of all differences are.
+// How long the lines of all differences are. It walks by `next`, so that `next_of` has one caller and is compiled into its loop.
 fn measure<'a>(older: &'a [u8], newer: &'a [u8], accepted: bool) -> usize
     requires { ⌜ length (private.linesFrom accepted (now older) (now newer) first) < 2 ^ 64 ⌝ }
     ensures { λ r. ⌜ r ≡ length (private.linesFrom accepted (now (older .entry)) (now (newer .entry)) first) ⌝ }
 {
-    let frame = compare::frame_of(older, newer);
+    if !accepted {
+        return 0;
+    }
     let mut size: usize = 0;
     let mut at = Cursor::first();
     loop {
-        let step = next_of(older, newer, frame, accepted, at);
+        let step = compare::next(older, newer, at);
         let Step::Found(hit) = step else {
             return size;
         };
