@@ -1,5 +1,5 @@
--- 80,000 bytes are enough for every listing (specs/Promises).
-use Prim.Native.Nat.{ℕ, _≤_}
+-- How many lines a listing has: their descriptors are all there, and 80,000 bytes are enough for every listing (specs/Promises).
+use Prim.Native.Nat.{ℕ, _-_, _*_, _≤_}
 use mathlib.Core.Bool.{Bool, true, false, cond}
 use mathlib.Core.List.{List}
 use mathlib.Core.Path.{_≡_, refl, sym, ap}
@@ -11,36 +11,43 @@ use Rattle.layout.specs.declared.Header.{Header}
 use Rattle.paper.specs.Told.{tells}
 use Rattle.reader.proofs.LayoutTheorem.{with-header}
 use Rattle.reader.proofs.Taken.{taken, room}
-use Rattle.reader.specs.Judgement.{Values, header, place, readOf}
+use Rattle.reader.specs.Judgement.{Values, header, place, heard, readOf}
+use Rattle.reader.specs.declared.Judgement.{Judgement}
 use Rattle.request.specs.Requests.{requestOf}
 use Rattle.words.specs.declared.Order.the-variants.{Little}
 use Rattle.listing.specs.Listing.{linesBelow, judged, firstLine, lineCount, listingOf}
 use Rattle.listing.specs.Promises.{Enough}
 use Rattle.listing.proofs.Listing.{length-first, length-lines}
 
--- ## How many lines: 128 pages have room for 2,047
+-- ## How many lines: the reader takes no page that is too short for them, and 128 pages have room for 2,047
 
-few-read : (s : List ℕ) → length s ≤ 65536 → lineCount (readOf Little s (requestOf s) .state) ≤ 2047
-few-read s short = by-values (readOf Little s (requestOf s) .state) refl
+read-there : (s : List ℕ) → 32 * lineCount (readOf Little s (requestOf s) .state) ≤ length s - 32
+read-there s = by-values (readOf Little s (requestOf s) .state) refl
   where
-    by-values : (v : Values) → readOf Little s (requestOf s) .state ≡ v → lineCount v ≤ 2047
+    by-values : (v : Values) → readOf Little s (requestOf s) .state ≡ v → 32 * lineCount v ≤ length s - 32
     by-values (place p) e = omega arith
     by-values (header h) e =
         let (is-0, is-h) = with-header Little s (requestOf s) h e in
         omega (arith, room Little s (requestOf s) (taken Little s (requestOf s) is-0), ap (λ (g : Header). g .returned) is-h)
 
-few : (s : List ℕ) → lineCount (judged s .state) ≤ 2047
+few : (s : List ℕ) → (32 * lineCount (judged s .state) ≤ length s - 32) × (lineCount (judged s .state) ≤ 2047)
 few s = by-test (ltb 65536 (length s)) refl
   where
-    by-test : (t : Bool) → ltb 65536 (length s) ≡ t → lineCount (cond t (tells 9 (place 65536)) (readOf Little s (requestOf s)) .state) ≤ 2047
-    by-test true e = omega arith
-    by-test false e = few-read s (ltb-false 65536 (length s) e)
+    by-test : (t : Bool) → ltb 65536 (length s) ≡ t
+        → (32 * lineCount (cond t (tells 9 (place 65536)) (readOf Little s (requestOf s)) .state) ≤ length s - 32)
+        × (lineCount (cond t (tells 9 (place 65536)) (readOf Little s (requestOf s)) .state) ≤ 2047)
+    by-test true e = (omega arith, omega arith)
+    by-test false e = (read-there s, omega (arith, read-there s, ltb-false 65536 (length s) e))
+
+-- the descriptors that have a line are all there
+pub lines-there : (s : List ℕ) (answer : Judgement) → heard answer ≡ judged s → (n : ℕ) → n ≡ lineCount (heard answer .state) → 32 * n ≤ length s - 32
+lines-there s answer is-answer n is-n = rw (is-n, is-answer) (few s .0)
 
 length-listing : (s : List ℕ) → length (listingOf s) ≤ 80000
 unfolding listingOf
 length-listing s =
     rw (length-append (firstLine (judged s .state)) (linesBelow s (lineCount (judged s .state))))
-    (omega (arith, few s, length-first (judged s .state), length-lines s (lineCount (judged s .state))))
+    (omega (arith, few s .1, length-first (judged s .state), length-lines s (lineCount (judged s .state))))
 
 -- a buffer of that length is not measured for
 pub room-unmeasured : (s : List ℕ) (room : ℕ) → 80000 ≤ room → true ≡ leb (length (listingOf s)) room

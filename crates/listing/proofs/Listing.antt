@@ -1,18 +1,20 @@
 -- Laws of the listing: one for each way out of a function, and one for each turn of a loop.
-use Prim.Native.Nat.{ℕ, zero, suc, _+_, _*_, _^_, _≤_, _<_}
+use Prim.Native.Nat.{ℕ, zero, suc, _+_, _-_, _*_, _^_, _≤_, _<_}
 use mathlib.Core.Bool.{Bool, true, false}
 use mathlib.Core.List.{List, _++_}
 use mathlib.Core.Path.{_≡_, refl, sym, ap, _∙_}
 use native.Mathlib.Numerals.{add-one}
 use native.Mathlib.Omega.{arith}
 use lib.Dec.{leb}
-use lib.ListN.{length, drop, length-append}
+use lib.ListN.{length, take, drop, length-append}
 use borrow.Author.Tests.{leb-true, leb-false, lt-ltb, le-ltb}
 use Rattle.heading.proofs.Heading.{length-header, length-refused}
 use Rattle.io.specs.Counts.{Counts}
+use Rattle.layout.specs.Bytes.{descriptorIn}
 use Rattle.layout.specs.declared.Descriptor.{Descriptor}
 use Rattle.layout.specs.declared.Header.{Header}
-use Rattle.offences.specs.Checks.{descriptorAt}
+use Rattle.offences.proofs.Checks.{whole-read}
+use Rattle.offences.specs.Checks.{baseOf, descriptorAt}
 use Rattle.paper.specs.Told.{tells, said}
 use Rattle.paper.specs.declared.Answer.the-variants.{Done, SmallBuffer}
 use Rattle.reader.specs.Judgement.{Values, header, place, heard, readOf}
@@ -25,7 +27,7 @@ use Rattle.rows.specs.Rows.{descriptorLine, headerLine, refusedLine}
 use Rattle.slices.proofs.Lists.{stored-front}
 use Rattle.slices.specs.Lists.{stored, ended}
 use Rattle.words.specs.declared.Order.the-variants.{Little}
-use Rattle.writing.proofs.Puts.{puts-one, puts-more}
+use Rattle.writing.proofs.Puts.{puts-none, puts-one, puts-more}
 use Rattle.writing.specs.Private.{Puts}
 use Rattle.listing.specs.Listing.{linesBelow, judged, firstLine, lineCount, listingOf, output, listed}
 use Rattle.listing.proofs.Printing.{printed-small, printed-done, printed-counts}
@@ -80,10 +82,33 @@ module _ (s : List ℕ) (k : ℕ) (e : Descriptor) (is-e : e ≡ descriptorAt Li
     pub measure-room : (count : ℕ) → k < count → count < 2 ^ 32 → n + w < 2 ^ 64
     measure-room count less small = omega (arith, length-lines s k, length-line e)
 
-  pub put-next : (d x y : List ℕ) (from at r : ℕ) → y ≡ stored x at (descriptorLine e) → r ≡ ended x at (descriptorLine e)
+  put-next : (d x y : List ℕ) (from at r : ℕ) → y ≡ stored x at (descriptorLine e) → r ≡ ended x at (descriptorLine e)
       → Puts d from (linesBelow s k) x at → Puts d from (linesBelow s (k + 1)) y r
   put-next d x y from at r is-y is-r so =
       rw next (puts-more d x from at (linesBelow s k) (descriptorLine e) y r (puts-one x y at r (descriptorLine e) is-y is-r) so)
+
+-- ## The lines, from place to place
+
+-- the lines of the descriptors before a place are put, and end at `at`
+abbrev pub Put-before : List ℕ → ℕ → List ℕ → ℕ → ℕ → List ℕ → ℕ → Type 0
+Put-before s count d from base x at = (k : ℕ) × (base ≡ baseOf k) × (k ≤ count) × Puts d from (linesBelow s k) x at
+
+module _ (s : List ℕ) (count : ℕ) (d : List ℕ) (from : ℕ) where
+  pub put-none : Put-before s count d from 32 d from
+  put-none = (0, refl, omega arith, puts-none d from)
+
+  module _ (base at : ℕ) (x : List ℕ) (so : Put-before s count d from base x at) where
+    pub put-all : baseOf count ≤ base → Puts d from (linesBelow s count) x at
+    put-all past =
+        let (k, is-base, few, puts) = so in
+        let all : count ≡ k = omega arith in
+        rw all puts
+
+    pub put-on : base < baseOf count → (e : Descriptor) → e ≡ descriptorIn Little (take (base + 32 - base) (drop base s)) → (y : List ℕ) (r : ℕ)
+        → y ≡ stored x at (descriptorLine e) → r ≡ ended x at (descriptorLine e) → Put-before s count d from (base + 32) y r
+    put-on less e is-e y r is-y is-r =
+        let (k, is-base, few, puts) = so in
+        (k + 1, omega arith, omega arith, put-next s k e (whole-read Little s base e is-e ∙ ap (λ (n : ℕ). descriptorIn Little (drop n s)) is-base) d x y from at r is-y is-r puts)
 
 -- ## The whole listing
 

@@ -1,5 +1,6 @@
 // The listing of a status page: a line for the header and one for each descriptor, or the place of the first offence.
 ghost use mathlib.Core.Path.{_≡_};
+ghost use Prim.Native.Nat.{_-_, _*_, _≤_};
 ghost use lib.Dec.{leb};
 ghost use lib.ListN.{length};
 ghost use Rattle.io.specs.Counts.{Counts};
@@ -7,6 +8,7 @@ ghost use Rattle.paper.specs.Told.{said};
 ghost use Rattle.reader.specs.Judgement.{heard};
 ghost use Rattle.writing.specs.Private as private;
 ghost use Rattle.listing.specs.Listing.{linesBelow, judged, firstLine, lineCount, listingOf, output, listed};
+use layout::Descriptor;
 use paper::Answer;
 use paper::PageCount;
 use reader::Judgement;
@@ -83,15 +85,18 @@ fn put_first(out: &mut [u8], answer: Judgement) -> usize
     }
 }
 
-// Stores the lines of the first `count` descriptors from a place on, and answers where they end.
+// Stores the lines of the first `count` descriptors, which are all there, from a place on, and answers where they end.
 fn put_lines(input: &[u8], count: u32, out: &mut [u8], from: usize) -> usize
+    requires { ⌜ 32 * count ≤ length (now input) - 32 ⌝ }
     ensures { λ r. ⌜ private.Puts (now (out .entry)) from (linesBelow (now (input .entry)) count) (now (out .exit)) r ⌝ }
 {
+    let end = 32 + 32 * (count as usize);
     let mut at = from;
-    let mut k: u32 = 0;
-    while k < count {
-        at = rows::put_descriptor(out, at, offences::descriptor_at(input, k, Order::Little));
-        k += 1;
+    let mut place: usize = 32;
+    while place < end {
+        let d = Descriptor::read(&input[place..place + 32], Order::Little);
+        at = rows::put_descriptor(out, at, d);
+        place += 32;
     }
     at
 }

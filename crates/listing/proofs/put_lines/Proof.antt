@@ -1,21 +1,17 @@
--- `listing::put_lines`. The invariant: the first k lines are put, and `at` is the place after them.
-use Prim.Native.Nat.{_≤_, _-_}
+-- `listing::put_lines`. The invariant: the lines before the place are put, and `at` is where they end.
+use Prim.Native.Nat.{_-_}
 use mathlib.Core.Path.{_≡_, refl, _∙_}
-use native.Mathlib.Omega.{arith}
 use lib.ListN.{length}
 use borrow.Author.Needs.{needs}
-use Rattle.writing.proofs.Puts.{puts-none}
-use Rattle.writing.specs.Private.{Puts}
-use Rattle.listing.specs.Listing.{linesBelow}
-use Rattle.listing.proofs.Listing.{put-next}
+use Rattle.listing.proofs.Listing.{Put-before, put-none, put-all, put-on}
 use Rattle.listing.proofs.put_lines.Statement.{statement}
 use Rattle.listing.proofs.put_lines.Tie as tie
 
 abbrev Inv-loop : tie.InvT-loop
-Inv-loop input count out₀ from at₀ k₀ out at k = Puts out₀ from (linesBelow input k) out at × (k ≤ count) × (length out ≡ length out₀)
+Inv-loop input count out₀ from end at₀ place₀ out at place = Put-before input count out₀ from place out at × (length out ≡ length out₀)
 
 abbrev μ-loop : tie.MeasureT-loop
-μ-loop input count out₀ from at₀ k₀ out at k = count - k
+μ-loop input count out₀ from end at₀ place₀ out at place = end - place
 
 pub put-lines-spec : {M : Type 1} → statement M
 put-lines-spec =
@@ -23,13 +19,22 @@ put-lines-spec =
     (tie.spec
     Inv-loop
     μ-loop
-    (λ c. (puts-none (c .before .before .args .out .now) (c .before .before .args .from), omega arith, refl))
+    (λ c. search needs)
+    (λ c. search needs)
+    (λ c. (search (put-none), refl))
+    (λ c. search needs)
+    (λ c. search needs)
+    (λ c. search needs)
+    (λ c. search needs)
     (λ c κs. search needs)
     (λ c κs. search needs)
     (λ c. search needs)
     (λ c. search needs)
-    (λ c. (search (put-next), omega arith, c .before .before .put-descriptor .kept .0 ∙ c .before .before .before .before .before .before .loop .inv .2))
+    (λ c. let put = c .before .before in
+    let read = put .before .before in
+    let l = read .before .before .before .loop in (
+      put-on _ _ _ _ _ _ _ (l .inv .0) (read .before .before .loop-test .taken) _ (read .read .ensures) _ _ (put .put-descriptor .ensures .0) (put .put-descriptor .ensures .1),
+      put .put-descriptor .kept .0 ∙ l .inv .1,
+    ))
     (λ c. search needs)
-    (λ c. let l = c .before .loop in
-    let all : l .k ≡ c .before .before .before .before .args .count = omega arith in
-    rw all at (l .inv .0)))
+    (λ c. search (put-all)))
