@@ -1,7 +1,7 @@
 -- Laws of a comparison's lines: one for each way out of a function, and how long they are.
 use Prim.Native.Nat.{ℕ, _+_, _^_, _<_}
-use mathlib.Core.List.{List, [], _∷_, _++_}
-use mathlib.Core.Path.{_≡_, refl, subst, _∙_}
+use mathlib.Core.List.{List, [], _∷_, _++_, append-assoc}
+use mathlib.Core.Path.{_≡_, refl, sym, ap, subst, subst⁻¹, _∙_}
 use native.Mathlib.Omega.{arith}
 use lib.ListN.{length, getD, length-append}
 use Rattle.compare.specs.declared.Cursor.{Cursor}
@@ -28,7 +28,7 @@ use Rattle.words.specs.declared.Order.the-variants.{Little}
 use Rattle.writing.proofs.Puts.{puts-none, puts-one, puts-same, puts-more}
 use Rattle.writing.specs.Private.{Puts}
 use Rattle.changes.specs.Changes.{handed, olderOf, signed, changed, bodyOf, lineOf, boundLine, reachLine, refusedLine, lastLine}
-use Rattle.changes.specs.Private.{headOf, handedAt}
+use Rattle.changes.specs.Private.{signOf, headOf, handedAt, olderText}
 
 -- ## What a difference's line speaks of
 
@@ -39,6 +39,20 @@ handed-read s t l u is-u d is-d = is-d ∙ rw is-u
 older-is : (s t : List ℕ) (c : Cursor) → handed s t (OnlyOlder (c .older)) ≡ olderOf s c
 unfolding handed olderOf
 older-is s t c = refl
+
+-- of each kind of line
+module _ (s t : List ℕ) (l : Line) (k : ℕ) (d : Descriptor) where
+  pub shown-older : l ≡ OnlyOlder k → d ≡ handedAt s k → d ≡ handed s t l
+  unfolding handed
+  shown-older e is-d = is-d ∙ rw e
+
+  pub shown-newer : l ≡ OnlyNewer k → d ≡ handedAt t k → d ≡ handed s t l
+  unfolding handed
+  shown-newer e is-d = is-d ∙ rw e
+
+pub shown-changed : (s t : List ℕ) (l : Line) (c : Cursor) (d : Descriptor) → l ≡ Changed c → d ≡ handedAt t (c .newer) → d ≡ handed s t l
+unfolding handed
+shown-changed s t l c d e is-d = is-d ∙ rw e
 
 pub handed-there : (s : List ℕ) (k : ℕ) (u : List ℕ) → u ≡ descriptorPart s k → (d : Descriptor) → d ≡ descriptorIn Little u → d ≡ handedAt s k
 handed-there s k u is-u d is-d = is-d ∙ rw is-u
@@ -104,35 +118,35 @@ signed-puts sign e d x y h at m r is-h is-x is-m is-y is-r =
     let H : List ℕ = headOf sign (e .id .0) in
     puts-more d x at m H (valuesOf e) y r (puts-one x y m r (valuesOf e) is-y is-r) (puts-same d x at m h H is-h is-x is-m)
 
-module _ (s t : List ℕ) (c : Cursor) (e old : Descriptor) (is-e : e ≡ handedAt t (c .newer)) (is-old : old ≡ handedAt s (c .older)) where
-  body-changed : changed e old ≡ bodyOf s t (Changed c)
-  unfolding handed olderOf
-  body-changed = λ i. changed (is-e i) (is-old i)
+pub older-puts : (s : List ℕ) (k : ℕ) (old : Descriptor) → old ≡ handedAt s k → (d x y : List ℕ) (at m r : ℕ)
+    → x ≡ stored d at (ascii " <- ") → m ≡ ended d at (ascii " <- ") → y ≡ stored x m (valuesOf old) → r ≡ ended x m (valuesOf old) → Puts d at (olderText s k) y r
+older-puts s k old is-old d x y at m r is-x is-m is-y is-r =
+    let values : List ℕ = valuesOf (handedAt s k) in
+    puts-more d x at m (ascii " <- ") values y r (puts-same x y m r (valuesOf old) values (ap valuesOf is-old) is-y is-r) (puts-one d x at m (ascii " <- ") is-x is-m)
 
-  pub changed-puts : (d x y z : List ℕ) (at m n r : ℕ) → Puts d at (signed (ascii "~ ") e) x m
-      → y ≡ stored x m (ascii " <- ") → n ≡ ended x m (ascii " <- ") → z ≡ stored y n (valuesOf old) → r ≡ ended y n (valuesOf old) → Puts d at (bodyOf s t (Changed c)) z r
-  changed-puts d x y z at m n r one is-y is-n is-z is-r =
-      let E : List ℕ = signed (ascii "~ ") e in
-      let two : Puts x m (ascii " <- ") y n = puts-one x y m n (ascii " <- ") is-y is-n in
-      let all : Puts d at (changed e old) z r =
-      puts-more d y at n (E ++ ascii " <- ") (valuesOf old) z r (puts-one y z n r (valuesOf old) is-z is-r) (puts-more d x at m E (ascii " <- ") y n two one) in
-      subst (λ (u : List ℕ). Puts d at u z r) body-changed all
+-- the line's own descriptor, then, of a changed element, the older values
+module _ (s t : List ℕ) (l : Line) (sign : ℕ) (is-sign : sign ≡ signOf l) (e : Descriptor) (is-e : e ≡ handed s t l) (d x : List ℕ) (at m : ℕ)
+    (first : Puts d at (signed (sign ∷ 32 ∷ []) e) x m) where
+  -- of a line that is told
+  begun : (k : Line) → l ≡ k → Puts d at (signed (signOf k ∷ 32 ∷ []) (handed s t k)) x m
+  begun k so = subst (λ (u : List ℕ). Puts d at u x m) ((λ i. signed (is-sign i ∷ 32 ∷ []) (is-e i)) ∙ (λ i. signed (signOf (so i) ∷ 32 ∷ []) (handed s t (so i)))) first
 
-module _ (s t : List ℕ) (l : Line) (b x : List ℕ) (at r : ℕ) where
-  named : (text : List ℕ) → text ≡ bodyOf s t l → Puts b at text x r → Puts b at (bodyOf s t l) x r
-  named text e so = subst (λ (u : List ℕ). Puts b at u x r) e so
+  said : (k : Line) → l ≡ k → (y : List ℕ) (r : ℕ) → Puts d at (bodyOf s t k) y r → Puts d at (bodyOf s t l) y r
+  said k so y r = subst⁻¹ (λ (j : Line). Puts d at (bodyOf s t j) y r) so
 
-  module _ (k : ℕ) (d : Descriptor) where
-    pub said-older : l ≡ OnlyOlder k → d ≡ handedAt s k → Puts b at (signed (ascii "- ") d) x r → Puts b at (bodyOf s t l) x r
-    unfolding handed
-    said-older e is-d = named (signed (ascii "- ") d) (rw (is-d, e))
+  pub said-older : (k : ℕ) → l ≡ OnlyOlder k → Puts d at (bodyOf s t l) x m
+  said-older k so = said (OnlyOlder k) so x m (begun (OnlyOlder k) so)
 
-    pub said-newer : l ≡ OnlyNewer k → d ≡ handedAt t k → Puts b at (signed (ascii "+ ") d) x r → Puts b at (bodyOf s t l) x r
-    unfolding handed
-    said-newer e is-d = named (signed (ascii "+ ") d) (rw (is-d, e))
+  pub said-newer : (k : ℕ) → l ≡ OnlyNewer k → Puts d at (bodyOf s t l) x m
+  said-newer k so = said (OnlyNewer k) so x m (begun (OnlyNewer k) so)
 
-  pub said-changed : (c : Cursor) → l ≡ Changed c → Puts b at (bodyOf s t (Changed c)) x r → Puts b at (bodyOf s t l) x r
-  said-changed c e = named (bodyOf s t (Changed c)) (rw e)
+  pub said-changed : (c : Cursor) → l ≡ Changed c → (y : List ℕ) (r : ℕ) → Puts x m (olderText s (c .older)) y r → Puts d at (bodyOf s t l) y r
+  unfolding olderOf
+  said-changed c so y r last =
+      let new : List ℕ = signed (ascii "~ ") (handed s t (Changed c)) in
+      let both : Puts d at (new ++ olderText s (c .older)) y r = puts-more d x at m new (olderText s (c .older)) y r last (begun (Changed c) so) in
+      said (Changed c) so y r
+      (subst (λ (u : List ℕ). Puts d at u y r) (sym (append-assoc new (ascii " <- ") (valuesOf (handedAt s (c .older))))) both)
 
 pub line-puts : (s t : List ℕ) (l : Line) (d x y : List ℕ) (at m r : ℕ) → Puts d at (bodyOf s t l) x m
     → y ≡ stored x m (ascii "\n") → r ≡ ended x m (ascii "\n") → Puts d at (lineOf s t l) y r

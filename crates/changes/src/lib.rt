@@ -3,13 +3,11 @@
 ghost use mathlib.Core.List.{[], _∷_};
 ghost use mathlib.Core.Path.{_≡_};
 ghost use lib.ListN.{length};
-ghost use Rattle.compare.specs.declared.Line.the-variants.{Changed};
 ghost use Rattle.reach.specs.Opening.{heard};
 ghost use Rattle.slices.specs.Lists.{fits, stored, ended};
 ghost use Rattle.writing.specs.Private as writing·private;
 ghost use Rattle.changes.specs.Changes as paper;
 ghost use Rattle.changes.specs.Private as private;
-use compare::Cursor;
 use compare::Line;
 use layout::Descriptor;
 use paper::ElementId;
@@ -58,6 +56,27 @@ fn handed_at(page: &[u8], k: u32) -> Descriptor
     Descriptor::read(parts::descriptor_part(page, k), Order::Little)
 }
 
+// The descriptor that a line hands out, straight from the page that has it.
+fn shown<'a>(older: &'a [u8], newer: &'a [u8], line: Line) -> Descriptor
+    ensures { λ r. ⌜ r ≡ paper.handed (now (older .entry)) (now (newer .entry)) line ⌝ }
+{
+    match line {
+        Line::OnlyOlder(k) => handed_at(older, k),
+        Line::OnlyNewer(k) => handed_at(newer, k),
+        Line::Changed(places) => handed_at(newer, places.newer),
+    }
+}
+
+fn sign_of(line: Line) -> u8
+    ensures { λ r. ⌜ r ≡ private.signOf line ⌝ }
+{
+    match line {
+        Line::OnlyOlder(_) => b'-',
+        Line::OnlyNewer(_) => b'+',
+        Line::Changed(_) => b'~',
+    }
+}
+
 // A sign and the identifier, each with the space after it.
 fn head(sign: u8, id: ElementId) -> [u8; 11]
     ensures { λ r. ⌜ r ≡ private.headOf sign (id .0) ⌝ }
@@ -75,29 +94,23 @@ fn put_signed(out: &mut [u8], at: usize, sign: u8, d: Descriptor) -> usize
     rows::put_values(out, a, d)
 }
 
-// The newer values, then the older after an arrow.
-fn put_changed<'a>(
-    older: &'a [u8],
-    newer: &'a [u8],
-    places: Cursor,
-    out: &mut [u8],
-    at: usize,
-) -> usize
-    ensures { λ r. ⌜ writing·private.Puts (now (out .entry)) at (paper.bodyOf (now (older .entry)) (now (newer .entry)) (Changed places)) (now (out .exit)) r ⌝ }
+// The older values, after an arrow.
+fn put_older(older: &[u8], k: u32, out: &mut [u8], at: usize) -> usize
+    ensures { λ r. ⌜ writing·private.Puts (now (out .entry)) at (private.olderText (now (older .entry)) k) (now (out .exit)) r ⌝ }
 {
-    let a = put_signed(out, at, b'~', handed_at(newer, places.newer));
-    let b = writing::word(out, a, b" <- ");
-    rows::put_values(out, b, handed_at(older, places.older))
+    let a = writing::word(out, at, b" <- ");
+    rows::put_values(out, a, handed_at(older, k))
 }
 
-// What a line says, without its end.
+// What a line says, without its end: of a changed element the newer values come first.
 fn put_body<'a>(older: &'a [u8], newer: &'a [u8], line: Line, out: &mut [u8], at: usize) -> usize
     ensures { λ r. ⌜ writing·private.Puts (now (out .entry)) at (paper.bodyOf (now (older .entry)) (now (newer .entry)) line) (now (out .exit)) r ⌝ }
 {
+    let a = put_signed(out, at, sign_of(line), shown(older, newer, line));
     match line {
-        Line::OnlyOlder(k) => put_signed(out, at, b'-', handed_at(older, k)),
-        Line::OnlyNewer(k) => put_signed(out, at, b'+', handed_at(newer, k)),
-        Line::Changed(places) => put_changed(older, newer, places, out, at),
+        Line::OnlyOlder(_) => a,
+        Line::OnlyNewer(_) => a,
+        Line::Changed(places) => put_older(older, places.older, out, a),
     }
 }
 
