@@ -23,9 +23,9 @@ use Rattle.rows.specs.Rows.{capacityOf, valuesOf, descriptorLine}
 
 -- ## Before the capacity
 
-pub grade-laid : (kind health : ℕ) (k h : List ℕ) → k ≡ digits 16 2 kind → h ≡ digits 16 2 health
-    → getD k 0 0 ∷ getD k 1 0 ∷ 32 ∷ getD h 0 0 ∷ getD h 1 0 ∷ 32 ∷ [] ≡ gradeOf kind health
-grade-laid kind health k h is-k is-h = rw (is-k, is-h)
+pub grade-laid : (kind health : ℕ) (g : List ℕ) → g ≡ digits 16 2 kind ++ digits 16 2 health
+    → getD g 0 0 ∷ getD g 1 0 ∷ 32 ∷ getD g 2 0 ∷ getD g 3 0 ∷ 32 ∷ [] ≡ gradeOf kind health
+grade-laid kind health g is-g = rw is-g
 
 pub head-laid : (id : ℕ) (i : List ℕ) → i ≡ digits 16 8 id
     → getD i 0 0 ∷ getD i 1 0 ∷ getD i 2 0 ∷ getD i 3 0 ∷ getD i 4 0 ∷ getD i 5 0 ∷ getD i 6 0 ∷ getD i 7 0 ∷ 32 ∷ [] ≡ headOf id

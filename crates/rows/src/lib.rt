@@ -42,9 +42,8 @@ fn put_capacity(out: &mut [u8], at: usize, blocks: u64) -> usize
 fn grade(kind: u8, health: u8) -> [u8; 6]
     ensures { λ r. ⌜ r ≡ private.gradeOf kind health ⌝ }
 {
-    let k = writing::hex2(kind);
-    let h = writing::hex2(health);
-    [k[0], k[1], 32, h[0], h[1], 32]
+    let g = writing::hex_pair(kind, health);
+    [g[0], g[1], 32, g[2], g[3], 32]
 }
 
 // ---- An element's values

@@ -40,29 +40,39 @@ glyph-there : (d : ℕ) → d < 16 → getD (ascii "0123456789ABCDEF") d 0 ≡ g
 unfolding allBelow
 glyph-there d l = eqb-true _ _ (each-below 16 (λ k. eqb (getD (ascii "0123456789ABCDEF") k 0) (glyph k)) refl d l)
 
--- a digit as it is looked up
+-- the digits of a byte, as they are looked up
 abbrev looked : ℕ → ℕ
-looked y = getD (ascii "0123456789ABCDEF") (y % 16) 0
+looked d = getD (ascii "0123456789ABCDEF") d 0
 
-digit-there : (y : ℕ) → looked y ≡ glyph (y % 16)
-digit-there y = glyph-there (y % 16) (mod-lt y (lit< tt))
+digit-there : (d n : ℕ) → d ≡ n % 16 → looked d ≡ glyph (n % 16)
+digit-there d n e = ap looked e ∙ glyph-there (n % 16) (mod-lt n (lit< tt))
 
-pub two-there : (x : ℕ) → looked (x / 16) ∷ looked x ∷ [] ≡ digits 16 2 x
-two-there x i = digit-there (x / 16) i ∷ digit-there x i ∷ []
+pub two-there : (x : ℕ) → x < 256 → looked (x / 16) ∷ looked (x % 16) ∷ [] ≡ digits 16 2 x
+two-there x small = λ i. digit-there (x / 16) (x / 16) (omega arith) i ∷ digit-there (x % 16) x refl i ∷ []
+
+pub pair-there : (x y : ℕ) → x < 256 → y < 256 → looked (x / 16) ∷ looked (x % 16) ∷ looked (y / 16) ∷ looked (y % 16) ∷ [] ≡ digits 16 2 x ++ digits 16 2 y
+pair-there x y small less i = two-there x small i ++ two-there y less i
+
+-- of the low byte of y, by what of x is left
+high-there : (y n : ℕ) → y / 16 ≡ n → looked (y % 256 / 16) ≡ glyph (n % 16)
+high-there y n e = digit-there (y % 256 / 16) n (omega arith)
+
+low-there : (y n : ℕ) → y ≡ n → looked (y % 256 % 16) ≡ glyph (n % 16)
+low-there y n e = digit-there (y % 256 % 16) n (omega arith)
 
 pub eight-there : (x : ℕ)
-    → looked (x / 16 / 16 / 16 / 16 / 16 / 16 / 16) ∷ looked (x / 16 / 16 / 16 / 16 / 16 / 16) ∷ looked (x / 16 / 16 / 16 / 16 / 16) ∷ looked (x / 16 / 16 / 16 / 16)
-    ∷ looked (x / 16 / 16 / 16) ∷ looked (x / 16 / 16) ∷ looked (x / 16) ∷ looked x ∷ []
+    → looked (x / 256 / 256 / 256 % 256 / 16) ∷ looked (x / 256 / 256 / 256 % 256 % 16) ∷ looked (x / 256 / 256 % 256 / 16) ∷ looked (x / 256 / 256 % 256 % 16)
+    ∷ looked (x / 256 % 256 / 16) ∷ looked (x / 256 % 256 % 16) ∷ looked (x % 256 / 16) ∷ looked (x % 256 % 16) ∷ []
     ≡ digits 16 8 x
 eight-there x i =
-    digit-there (x / 16 / 16 / 16 / 16 / 16 / 16 / 16) i
-    ∷ digit-there (x / 16 / 16 / 16 / 16 / 16 / 16) i
-    ∷ digit-there (x / 16 / 16 / 16 / 16 / 16) i
-    ∷ digit-there (x / 16 / 16 / 16 / 16) i
-    ∷ digit-there (x / 16 / 16 / 16) i
-    ∷ digit-there (x / 16 / 16) i
-    ∷ digit-there (x / 16) i
-    ∷ digit-there x i
+    high-there (x / 256 / 256 / 256) (x / 16 / 16 / 16 / 16 / 16 / 16 / 16) (omega arith) i
+    ∷ low-there (x / 256 / 256 / 256) (x / 16 / 16 / 16 / 16 / 16 / 16) (omega arith) i
+    ∷ high-there (x / 256 / 256) (x / 16 / 16 / 16 / 16 / 16) (omega arith) i
+    ∷ low-there (x / 256 / 256) (x / 16 / 16 / 16 / 16) (omega arith) i
+    ∷ high-there (x / 256) (x / 16 / 16 / 16) (omega arith) i
+    ∷ low-there (x / 256) (x / 16 / 16) (omega arith) i
+    ∷ high-there x (x / 16) refl i
+    ∷ low-there x x refl i
     ∷ []
 
 -- ## Decimal

@@ -10,28 +10,49 @@ ghost use Rattle.words.specs.Bytes.{lowBytes};
 ghost use Rattle.writing.specs.Private as private;
 ghost use Rattle.writing.specs.Writing.{numberLine};
 
+// ---- Hexadecimal
+
+const GLYPHS: [u8; 16] = *b"0123456789ABCDEF";
+
 // Two upper hexadecimal digits.
 pub fn hex2(x: u8) -> [u8; 2]
     ensures { λ r. ⌜ r ≡ digits 16 2 x ⌝ }
 {
-    let glyphs = b"0123456789ABCDEF";
-    [glyphs[(x / 16 % 16) as usize], glyphs[(x % 16) as usize]]
+    let glyphs = GLYPHS;
+    [glyphs[(x / 16) as usize], glyphs[(x % 16) as usize]]
 }
 
-// Eight upper hexadecimal digits.
+// Of two bytes, side by side.
+pub fn hex_pair(a: u8, b: u8) -> [u8; 4]
+    ensures { λ r. ⌜ r ≡ digits 16 2 a ++ digits 16 2 b ⌝ }
+{
+    let glyphs = GLYPHS;
+    [
+        glyphs[(a / 16) as usize],
+        glyphs[(a % 16) as usize],
+        glyphs[(b / 16) as usize],
+        glyphs[(b % 16) as usize],
+    ]
+}
+
+// Eight upper hexadecimal digits, two from each byte.
 pub fn hex8(x: u32) -> [u8; 8]
     ensures { λ r. ⌜ r ≡ digits 16 8 x ⌝ }
 {
-    let glyphs = b"0123456789ABCDEF";
+    let glyphs = GLYPHS;
+    let a = (x / 256 / 256 / 256 % 256) as u8;
+    let b = (x / 256 / 256 % 256) as u8;
+    let c = (x / 256 % 256) as u8;
+    let d = (x % 256) as u8;
     [
-        glyphs[(x / 16 / 16 / 16 / 16 / 16 / 16 / 16 % 16) as usize],
-        glyphs[(x / 16 / 16 / 16 / 16 / 16 / 16 % 16) as usize],
-        glyphs[(x / 16 / 16 / 16 / 16 / 16 % 16) as usize],
-        glyphs[(x / 16 / 16 / 16 / 16 % 16) as usize],
-        glyphs[(x / 16 / 16 / 16 % 16) as usize],
-        glyphs[(x / 16 / 16 % 16) as usize],
-        glyphs[(x / 16 % 16) as usize],
-        glyphs[(x % 16) as usize],
+        glyphs[(a / 16) as usize],
+        glyphs[(a % 16) as usize],
+        glyphs[(b / 16) as usize],
+        glyphs[(b % 16) as usize],
+        glyphs[(c / 16) as usize],
+        glyphs[(c % 16) as usize],
+        glyphs[(d / 16) as usize],
+        glyphs[(d % 16) as usize],
     ]
 }
 

@@ -12,4 +12,4 @@ hex2-spec =
     (λ c. search needs)
     (λ c. search needs)
     (λ c. search needs)
-    (λ c. search (two-there)))
+    (λ c. search (two-there, needs)))
