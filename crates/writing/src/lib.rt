@@ -56,6 +56,8 @@ pub fn hex8(x: u32) -> [u8; 8]
     ]
 }
 
+// ---- A word
+
 pub fn word(out: &mut [u8], at: usize, s: &[u8]) -> usize
     ensures { λ _. ⌜ now (out .exit) ≡ stored (now (out .entry)) at (now (s .entry)) ⌝ }
     ensures { λ r. ⌜ r ≡ ended (now (out .entry)) at (now (s .entry)) ⌝ }
@@ -69,7 +71,8 @@ pub fn word(out: &mut [u8], at: usize, s: &[u8]) -> usize
 
 // ---- Decimal digits
 
-// Two digits as one number: its bytes, the lowest first, are the text. In each byte is a digit and 48; the tens are taken off 256 * n.
+// Two digits as the number whose bytes, the lowest first, are their text. 12336 is 48 in each; n stands in the high byte, and of it each ten,
+// 2560, goes into the low one as 1.
 fn two(n: u64) -> u64
     requires { ⌜ n < 100 ⌝ }
     ensures { λ r. ⌜ (lowBytes 2 r ≡ digits 10 2 n) × (r < 256 ^ 2) ⌝ }
@@ -91,7 +94,7 @@ fn eight(n: u64) -> u64
     four(n / 10000) + 4294967296 * four(n % 10000)
 }
 
-// The low bytes of a number.
+// The low bytes of a number, the lowest first.
 fn low2(x: u64) -> [u8; 2]
     ensures { λ r. ⌜ r ≡ lowBytes 2 x ⌝ }
 {
@@ -184,7 +187,7 @@ fn put_long(out: &mut [u8], at: usize, n: u64) -> usize
     put_four(out, a, n % 10000)
 }
 
-// Of at most twelve.
+// Of at most twelve. `put_long` is not called here: of two callers it would be compiled into neither.
 fn put_longer(out: &mut [u8], at: usize, n: u64) -> usize
     requires { ⌜ n < 10 ^ 12 ⌝ }
     ensures { λ r. ⌜ private.Puts (now (out .entry)) at (decimalOf n) (now (out .exit)) r ⌝ }
@@ -219,7 +222,7 @@ struct Spelling {
     count: usize,
 }
 
-// The last digit, then one more before it as long as there is one.
+// A number, for a text that is measured before it is stored: the last digit, then one more before it as long as there is one.
 fn decimal_of(n: u64) -> Spelling
     ensures { λ r. ⌜ r ≡ private.spelled (decimalOf n) ⌝ }
 {
@@ -266,6 +269,8 @@ pub fn decimal(out: &mut [u8], at: usize, n: u64) -> usize
     }
     decimal_of(n).put(out, at)
 }
+
+// ---- After a word
 
 // Whether two texts fit side by side from a place on.
 fn do_fit(first: usize, second: usize, at: usize, room: usize) -> bool
