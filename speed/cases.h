@@ -52,7 +52,7 @@ static const struct kase cases[] = {
     {COMMAND, "12h-refused",           0, IDLE,   {UNLOCKED, .code = 0x12, .count = 0, .room = 512},        {0, UP_TO(200),  5120}},
     {SHOW, "1-page",                   0, IDLE,   {UNLOCKED, .count = 1, .room = 512},                      {1, OF_C(100),   2560}},
     {SHOW, "9-pages",                  0, IDLE,   {UNLOCKED, .count = 9, .room = 4608},                     {1, OF_C(100),   2560}},
-    {SHOW, "9-pages-filtered",         0, IDLE,   {UNLOCKED, .feature = 0x4100, .count = 9, .room = 4608},  {1, OF_C(102),   2560}},
+    {SHOW, "9-pages-filtered",         0, IDLE,   {UNLOCKED, .feature = 0x4100, .count = 9, .room = 4608},  {1, OF_C(100),   2560}},
     {SHOW, "refused",                  0, IDLE,   {UNLOCKED, .count = 0, .room = 512},                      {0, UP_TO(100),  2560}},
     {SHOW, "small-buffer",             0, IDLE,   {UNLOCKED, .count = 2, .room = 512},                      {0, UP_TO(100),  2560}},
 };

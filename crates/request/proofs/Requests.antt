@@ -1,11 +1,10 @@
 -- Laws of a request: what the code's tests say of it, a law for each way out, and what callers use of the shut definitions.
 use Prim.Native.Nat.{ℕ, _≤_, _<_}
-use mathlib.Core.Bool.{Bool, true, false, true≢false, _||_}
+use mathlib.Core.Bool.{Bool, true, false, true≢false, _||_, and-true, or-false}
 use mathlib.Core.Path.{_≡_, refl, sym, _∙_}
 use native.Mathlib.Omega.{arith}
 use lib.Dec.{leb, ltb, eqb}
 use borrow.Author.Tests.{le-leb, lt-leb, lt-ltb, le-ltb, eq-eqb, ne-eqb, leb-false, ltb-false, eqb-false}
-use Rattle.paper.specs.Elements.{slow}
 use Rattle.request.specs.Requests.{filterOf, reportTypeOf, pagesOf, refused, takesType, takesHealth}
 use Rattle.request.specs.declared.Request.{Request}
 
@@ -32,25 +31,19 @@ type-storage kind t r e h = sym (rw (eq-eqb r 1 (omega arith)))
 pub type-any : (kind t r : ℕ) → t ≡ r → (t ≡ 1 → ⊥) → true ≡ takesType r kind
 type-any kind t r e h = sym (rw (ne-eqb r 1 (λ g. h (omega arith))))
 
-pub slow-below : (h : ℕ) → h < 0x65 → false ≡ slow h
-slow-below h l = sym (rw (lt-leb 0x65 h l))
-
-pub slow-from : (h : ℕ) → 0x65 ≤ h → leb h 0xCF ≡ slow h
-slow-from h l = sym (rw (le-leb 0x65 h l))
-
 module _ (h f r : ℕ) (is-f : f ≡ r) where
   pub filter-any : (f ≡ 1 → ⊥) → true ≡ takesHealth r h
   unfolding takesHealth
   filter-any n = sym (rw (ne-eqb r 1 (λ g. n (omega arith))))
 
-  module _ (only : f ≡ 1) (b : Bool) (is-b : b ≡ slow h) where
-    pub filter-slow : b ≡ true → true ≡ takesHealth r h
+  module _ (only : f ≡ 1) where
+    pub filter-low : h ≤ 0xCF → leb 0x65 h ≡ takesHealth r h
     unfolding takesHealth
-    filter-slow y = sym (rw (eq-eqb r 1 (omega arith), sym is-b ∙ y))
+    filter-low l = sym (rw (eq-eqb r 1 (omega arith), le-leb h 0xCF l, ne-eqb h 0xFF (λ g. omega arith), and-true, or-false))
 
-    pub filter-removed : b ≡ false → eqb h 0xFF ≡ takesHealth r h
+    pub filter-high : 0xCF < h → eqb h 0xFF ≡ takesHealth r h
     unfolding takesHealth
-    filter-removed n = sym (rw (eq-eqb r 1 (omega arith), sym is-b ∙ n))
+    filter-high l = sym (rw (eq-eqb r 1 (omega arith), lt-leb h 0xCF l, le-leb 0x65 h (omega arith)))
 
 -- ## For callers
 

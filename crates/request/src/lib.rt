@@ -1,7 +1,6 @@
 // A request for status pages (12h): which are due 4, the tests of an element, and what a request is answered.
 ghost use mathlib.Core.Path.{_≡_};
 ghost use Rattle.paper.specs.Answers.{numberOf};
-ghost use Rattle.paper.specs.Elements.{slow};
 ghost use Rattle.request.specs.Requests.{filterOf, reportTypeOf, startOf, refused, statusNumber, takesId, takesType, takesHealth, requestFor};
 use paper::Answer;
 use paper::Command;
@@ -67,26 +66,18 @@ impl Request {
         }
     }
 
+    // Filter 01b takes 65h to CFh, and FFh: two comparisons for any health.
     pub fn takes_health(self, health: u8) -> bool
         ensures { λ r. ⌜ r ≡ takesHealth (filterOf self) health ⌝ }
     {
         if self.filter() != 1 {
             return true;
         }
-        if is_slow(health) {
-            return true;
+        if health <= 0xCF {
+            return 0x65 <= health;
         }
         health == 0xFF
     }
-}
-
-fn is_slow(health: u8) -> bool
-    ensures { λ r. ⌜ r ≡ slow health ⌝ }
-{
-    if health < 0x65 {
-        return false;
-    }
-    health <= 0xCF
 }
 
 // What a request is answered, over the length of the lent buffer.

@@ -2,7 +2,7 @@
 use borrow.Author.Needs.{needs}
 use Rattle.request.proofs.Request.takes_health.Statement.{statement}
 use Rattle.request.proofs.Request.takes_health.Tie as tie
-use Rattle.request.proofs.Requests.{filter-any, filter-slow, filter-removed}
+use Rattle.request.proofs.Requests.{filter-any, filter-low, filter-high}
 
 pub takes-health-spec : {M : Type 1} → statement M
 takes-health-spec =
@@ -10,6 +10,5 @@ takes-health-spec =
     (tie.spec
     (λ c κs. search needs)
     (λ c. search (filter-any))
-    (λ c κs. search needs)
-    (λ c. search (filter-slow))
-    (λ c. search (filter-removed)))
+    (λ c. search (filter-low))
+    (λ c. search (filter-high)))
