@@ -11,13 +11,6 @@ use Rattle.layout.specs.Bytes.{descriptorIn}
 use Rattle.layout.specs.declared.Descriptor.{Descriptor}
 use Rattle.paper.specs.declared.ElementId.{ElementId}
 use Rattle.parts.specs.Parts.{descriptorPart, partOf}
-use Rattle.reach.specs.Opening.{heard}
-use Rattle.reach.specs.declared.Bound.the-variants.{Whole, UpTo}
-use Rattle.reach.specs.declared.Bound.{Bound}
-use Rattle.reach.specs.declared.Opening.the-variants.{Accepted, Refused}
-use Rattle.reach.specs.declared.Opening.{Opening}
-use Rattle.reach.specs.declared.Turn.the-variants.{Older, Newer}
-use Rattle.reach.specs.declared.Turn.{Turn}
 use Rattle.rows.proofs.Rows as rows
 use Rattle.rows.proofs.Rows.{length-values}
 use Rattle.rows.specs.Rows.{valuesOf, descriptorLine}
@@ -25,9 +18,9 @@ use Rattle.slices.specs.Lists.{stored, ended}
 use Rattle.text.specs.Digits.{digits}
 use Rattle.text.specs.Text.{ascii}
 use Rattle.words.specs.declared.Order.the-variants.{Little}
-use Rattle.writing.proofs.Puts.{puts-none, puts-one, puts-same, puts-more}
+use Rattle.writing.proofs.Puts.{puts-one, puts-same, puts-more}
 use Rattle.writing.specs.Private.{Puts}
-use Rattle.changes.specs.Changes.{handed, olderOf, signed, changed, bodyOf, lineOf, boundLine, reachLine, refusedLine, lastLine}
+use Rattle.changes.specs.Changes.{handed, olderOf, signed, changed, bodyOf, lineOf}
 use Rattle.changes.specs.Private.{signOf, headOf, handedAt, olderText}
 
 -- ## What a difference's line speaks of
@@ -152,46 +145,3 @@ pub line-puts : (s t : List ℕ) (l : Line) (d x y : List ℕ) (at m r : ℕ) �
     → y ≡ stored x m (ascii "\n") → r ≡ ended x m (ascii "\n") → Puts d at (lineOf s t l) y r
 unfolding lineOf
 line-puts s t l d x y at m r one is-y is-r = puts-more d x at m (bodyOf s t l) (ascii "\n") y r (puts-one x y m r (ascii "\n") is-y is-r) one
-
--- ## The last line
-
-width-turn : (w : Turn) → 16 ≡ length (refusedLine w)
-width-turn Older = refl
-width-turn Newer = refl
-
-module _ (opening : Opening) where
-  pub width-accepted : (b : Bound) → opening ≡ Accepted b → (n : ℕ) → n ≡ length (reachLine b) → n ≡ length (lastLine (heard opening .state))
-  width-accepted b e n so = so ∙ rw e
-
-  pub width-refused : (w : Turn) → opening ≡ Refused w → 16 ≡ length (lastLine (heard opening .state))
-  width-refused w e = rw e (width-turn w)
-
-pub bound-puts : (id : ElementId) (d x y z i : List ℕ) (at m n r : ℕ) → i ≡ digits 16 8 (id .0)
-    → x ≡ stored d at (ascii "compared up to ") → m ≡ ended d at (ascii "compared up to ") → y ≡ stored x m i → n ≡ ended x m i
-    → z ≡ stored y n (ascii "\n") → r ≡ ended y n (ascii "\n") → Puts d at (boundLine (id .0)) z r
-bound-puts id d x y z i at m n r is-i is-x is-m is-y is-n is-z is-r =
-    let B : List ℕ = ascii "compared up to " in
-    let I : List ℕ = digits 16 8 (id .0) in
-    let two : Puts d at (B ++ I) y n = puts-more d x at m B I y n (puts-same x y m n i I is-i is-y is-n) (puts-one d x at m B is-x is-m) in
-    puts-more d y at n (B ++ I) (ascii "\n") z r (puts-one y z n r (ascii "\n") is-z is-r) two
-
-module _ (d x : List ℕ) (at r : ℕ) where
-  module _ (w : Turn) where
-    pub refused-older : w ≡ Older → x ≡ stored d at (ascii "refused 9 older\n") → r ≡ ended d at (ascii "refused 9 older\n") → Puts d at (refusedLine w) x r
-    refused-older e is-x is-r = rw e (puts-one d x at r (ascii "refused 9 older\n") is-x is-r)
-
-    pub refused-newer : w ≡ Newer → x ≡ stored d at (ascii "refused 9 newer\n") → r ≡ ended d at (ascii "refused 9 newer\n") → Puts d at (refusedLine w) x r
-    refused-newer e is-x is-r = rw e (puts-one d x at r (ascii "refused 9 newer\n") is-x is-r)
-
-  pub reach-cut : (b : Bound) (id : ElementId) → b ≡ UpTo id → Puts d at (boundLine (id .0)) x r → Puts d at (reachLine b) x r
-  reach-cut b id e so = rw e so
-
-  module _ (opening : Opening) where
-    pub last-accepted : (b : Bound) → opening ≡ Accepted b → Puts d at (reachLine b) x r → Puts d at (lastLine (heard opening .state)) x r
-    last-accepted b e so = rw e so
-
-    pub last-refused : (w : Turn) → opening ≡ Refused w → Puts d at (refusedLine w) x r → Puts d at (lastLine (heard opening .state)) x r
-    last-refused w e so = rw e so
-
-pub reach-whole : (b : Bound) → b ≡ Whole → (d : List ℕ) (at : ℕ) → Puts d at (reachLine b) d at
-reach-whole b e d at = rw e (puts-none d at)

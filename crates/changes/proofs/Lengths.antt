@@ -8,18 +8,11 @@ use Rattle.compare.specs.declared.Cursor.{Cursor}
 use Rattle.compare.specs.declared.Line.the-variants.{OnlyOlder, OnlyNewer, Changed}
 use Rattle.compare.specs.declared.Line.{Line}
 use Rattle.layout.specs.declared.Descriptor.{Descriptor}
-use Rattle.reach.specs.Opening.{Values, bound, turn}
-use Rattle.reach.specs.declared.Bound.the-variants.{Whole, UpTo}
-use Rattle.reach.specs.declared.Bound.{Bound}
-use Rattle.reach.specs.declared.Turn.the-variants.{Older, Newer}
-use Rattle.reach.specs.declared.Turn.{Turn}
 use Rattle.rows.proofs.Rows.{length-values}
 use Rattle.rows.specs.Rows.{valuesOf}
 use Rattle.text.specs.Digits.{digits}
 use Rattle.text.specs.Text.{ascii}
-use Rattle.changes.specs.Changes.{handed, olderOf, signed, changed, lineOf, reachLine, refusedLine, lastLine}
-
--- ## A difference's line
+use Rattle.changes.specs.Changes.{handed, olderOf, signed, changed, lineOf}
 
 length-signed : (sign : List ℕ) (d : Descriptor) → length (signed sign d) ≤ length sign + 35
 length-signed sign d =
@@ -68,17 +61,3 @@ module _ (s t : List ℕ) where
   line-passes (OnlyOlder k) = length-older k
   line-passes (OnlyNewer k) = length-newer k
   line-passes (Changed c) = omega (arith, length-changed c)
-
--- ## The last line
-
-pub length-last : (v : Values) → length (lastLine v) ≤ 24
-length-last (bound b) = length-reach b
-  where
-    length-reach : (b : Bound) → length (reachLine b) ≤ 24
-    length-reach Whole = omega arith
-    length-reach (UpTo id) = omega arith
-length-last (turn w) = length-refused w
-  where
-    length-refused : (w : Turn) → length (refusedLine w) ≤ 24
-    length-refused Older = omega arith
-    length-refused Newer = omega arith

@@ -1,24 +1,17 @@
 -- The lines of a comparison, as docs/changes/2026-01 asks for them: "a line for each difference, `-` or `+` or `~`, identifier, type, health,
 -- capacity as the listing has them", and a last line. The older page is s, the newer t.
 use Prim.Native.Nat.{ℕ}
-use mathlib.Core.List.{List, [], _++_}
+use mathlib.Core.List.{List, _++_}
 use Rattle.compare.specs.declared.Cursor.{Cursor}
 use Rattle.compare.specs.declared.Line.the-variants.{OnlyOlder, OnlyNewer, Changed}
 use Rattle.compare.specs.declared.Line.{Line}
 use Rattle.layout.specs.Bytes.{descriptorIn}
 use Rattle.layout.specs.declared.Descriptor.{Descriptor}
 use Rattle.parts.specs.Parts.{descriptorPart, partOf}
-use Rattle.reach.specs.Opening.{Values, bound, turn}
-use Rattle.reach.specs.declared.Bound.the-variants.{Whole, UpTo}
-use Rattle.reach.specs.declared.Bound.{Bound}
-use Rattle.reach.specs.declared.Turn.the-variants.{Older, Newer}
-use Rattle.reach.specs.declared.Turn.{Turn}
 use Rattle.rows.specs.Rows.{valuesOf}
 use Rattle.text.specs.Digits.{digits}
 use Rattle.text.specs.Text.{ascii}
 use Rattle.words.specs.declared.Order.the-variants.{Little}
-
--- ## A difference's line
 
 -- the descriptor that a line hands out
 unfoldable pub handed : List ℕ → List ℕ → Line → Descriptor
@@ -43,22 +36,3 @@ bodyOf s t (Changed c) = changed (handed s t (Changed c)) (olderOf s c)
 
 unfoldable pub lineOf : List ℕ → List ℕ → Line → List ℕ
 lineOf s t l = bodyOf s t l ++ ascii "\n"
-
--- ## The last line
-
--- "a last line when the pages were cut (`compared up to ID`)"
-abbrev pub boundLine : ℕ → List ℕ
-boundLine id = ascii "compared up to " ++ digits 16 8 id ++ ascii "\n"
-
-abbrev pub reachLine : Bound → List ℕ
-reachLine Whole = []
-reachLine (UpTo id) = boundLine (id .0)
-
--- "`refused 9 older` or `refused 9 newer`"
-abbrev pub refusedLine : Turn → List ℕ
-refusedLine Older = ascii "refused 9 older\n"
-refusedLine Newer = ascii "refused 9 newer\n"
-
-abbrev pub lastLine : Values → List ℕ
-lastLine (bound b) = reachLine b
-lastLine (turn w) = refusedLine w

@@ -1,9 +1,7 @@
-// The lines of a comparison, stored straight into a lent buffer: one for each difference, and the last, which says how far two pages were compared
-// or which was refused.
+// The line of a difference, stored straight into a lent buffer.
 ghost use mathlib.Core.List.{[], _∷_};
 ghost use mathlib.Core.Path.{_≡_};
 ghost use lib.ListN.{length};
-ghost use Rattle.reach.specs.Opening.{heard};
 ghost use Rattle.slices.specs.Lists.{fits, stored, ended};
 ghost use Rattle.writing.specs.Private as writing·private;
 ghost use Rattle.changes.specs.Changes as paper;
@@ -11,12 +9,7 @@ ghost use Rattle.changes.specs.Private as private;
 use compare::Line;
 use layout::Descriptor;
 use paper::ElementId;
-use reach::Bound;
-use reach::Opening;
-use reach::Turn;
 use words::Order;
-
-// ---- A difference's line
 
 // The descriptor that a line hands out.
 fn handed<'a>(older: &'a [u8], newer: &'a [u8], line: Line) -> Descriptor
@@ -130,72 +123,4 @@ pub fn put_line<'a>(
     }
     let a = put_body(older, newer, line, out, at);
     writing::word(out, a, b"\n")
-}
-
-// ---- The last line
-
-fn reach_width(bound: Bound) -> usize
-    ensures { λ r. ⌜ r ≡ length (paper.reachLine bound) ⌝ }
-{
-    match bound {
-        Bound::Whole => 0,
-        Bound::UpTo(_) => 24,
-    }
-}
-
-// How long the last line is.
-pub fn last_width(opening: Opening) -> usize
-    ensures { λ r. ⌜ r ≡ length (paper.lastLine (heard opening .state)) ⌝ }
-{
-    match opening {
-        Opening::Accepted(bound) => reach_width(bound),
-        Opening::Refused(_) => 16,
-    }
-}
-
-fn put_bound(out: &mut [u8], at: usize, id: ElementId) -> usize
-    ensures { λ r. ⌜ writing·private.Puts (now (out .entry)) at (paper.boundLine (id .0)) (now (out .exit)) r ⌝ }
-{
-    let i = writing::hex8(id.0);
-    let a = writing::word(out, at, b"compared up to ");
-    let b = writing::word(out, a, &i);
-    writing::word(out, b, b"\n")
-}
-
-fn put_reach(out: &mut [u8], at: usize, bound: Bound) -> usize
-    ensures { λ r. ⌜ writing·private.Puts (now (out .entry)) at (paper.reachLine bound) (now (out .exit)) r ⌝ }
-{
-    match bound {
-        Bound::Whole => at,
-        Bound::UpTo(id) => put_bound(out, at, id),
-    }
-}
-
-fn put_refused(out: &mut [u8], at: usize, turn: Turn) -> usize
-    ensures { λ r. ⌜ writing·private.Puts (now (out .entry)) at (paper.refusedLine turn) (now (out .exit)) r ⌝ }
-{
-    match turn {
-        Turn::Older => writing::word(out, at, b"refused 9 older\n"),
-        Turn::Newer => writing::word(out, at, b"refused 9 newer\n"),
-    }
-}
-
-fn put_opening(out: &mut [u8], at: usize, opening: Opening) -> usize
-    ensures { λ r. ⌜ writing·private.Puts (now (out .entry)) at (paper.lastLine (heard opening .state)) (now (out .exit)) r ⌝ }
-{
-    match opening {
-        Opening::Accepted(bound) => put_reach(out, at, bound),
-        Opening::Refused(turn) => put_refused(out, at, turn),
-    }
-}
-
-// Stores the last line from a place on and answers where it ends; nothing, if it does not fit.
-pub fn put_last(opening: Opening, out: &mut [u8], at: usize) -> usize
-    ensures { λ _. ⌜ now (out .exit) ≡ stored (now (out .entry)) at (paper.lastLine (heard opening .state)) ⌝ }
-    ensures { λ r. ⌜ r ≡ ended (now (out .entry)) at (paper.lastLine (heard opening .state)) ⌝ }
-{
-    if !slices::does_fit(last_width(opening), at, out.len()) {
-        return at;
-    }
-    put_opening(out, at, opening)
 }

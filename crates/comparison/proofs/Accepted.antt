@@ -7,7 +7,7 @@ use native.Mathlib.Omega.{arith}
 use lib.Dec.{ltb}
 use lib.ListN.{length}
 use borrow.Author.Tests.{ltb-false}
-use Rattle.changes.specs.Changes.{lastLine}
+use Rattle.ending.specs.Ending.{lastLine}
 use Rattle.compare.proofs.Ascending.{count-room}
 use Rattle.compare.proofs.Merging.{walk-gives}
 use Rattle.compare.specs.Differences.{differencesOf}

@@ -7,8 +7,9 @@ use native.Mathlib.Omega.{arith}
 use lib.Dec.{leb}
 use lib.ListN.{length, drop, length-append}
 use borrow.Author.Tests.{leb-true, leb-false}
-use Rattle.changes.proofs.Lengths.{length-last}
-use Rattle.changes.specs.Changes.{lineOf, lastLine}
+use Rattle.ending.proofs.Ending.{length-last}
+use Rattle.changes.specs.Changes.{lineOf}
+use Rattle.ending.specs.Ending.{lastLine}
 use Rattle.compare.proofs.Steps.{next-whole}
 use Rattle.compare.proofs.Walking.{walk-done, walk-found, found-leaves}
 use Rattle.compare.specs.Walk.{first, frameOf, nextTo, nextOf, ahead}

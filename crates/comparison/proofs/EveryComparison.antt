@@ -7,8 +7,9 @@ use native.Mathlib.Omega.{arith}
 use lib.Dec.{leb}
 use lib.ListN.{length, length-append}
 use borrow.Author.Tests.{le-leb, le-ltb}
-use Rattle.changes.proofs.Lengths.{length-last}
-use Rattle.changes.specs.Changes.{lineOf, refusedLine, lastLine}
+use Rattle.ending.proofs.Ending.{length-last}
+use Rattle.changes.specs.Changes.{lineOf}
+use Rattle.ending.specs.Ending.{refusedLine, lastLine}
 use Rattle.compare.specs.Differences.{differencesOf}
 use Rattle.compare.specs.Walk.{first}
 use Rattle.compare.specs.declared.Line.the-variants.{OnlyOlder, OnlyNewer, Changed}

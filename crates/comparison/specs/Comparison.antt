@@ -4,7 +4,8 @@ use Prim.Native.Nat.{ℕ}
 use mathlib.Core.Bool.{cond}
 use mathlib.Core.List.{List, [], _∷_, _++_}
 use lib.Dec.{eqb}
-use Rattle.changes.specs.Changes.{lineOf, lastLine}
+use Rattle.changes.specs.Changes.{lineOf}
+use Rattle.ending.specs.Ending.{lastLine}
 use Rattle.compare.specs.Differences.{differencesOf}
 use Rattle.compare.specs.declared.Line.{Line}
 use Rattle.reach.specs.Opening.{Values, bound, turn, judged}

@@ -68,7 +68,7 @@ fn has_room<'a>(older: &'a [u8], newer: &'a [u8], opening: Opening, room: usize)
     if 160000 <= room {
         return true;
     }
-    measure(older, newer, is_accepted(opening)) + changes::last_width(opening) <= room
+    measure(older, newer, is_accepted(opening)) + ending::last_width(opening) <= room
 }
 
 // Stores the lines of all differences at the front, and answers where they end.
@@ -102,7 +102,7 @@ pub fn write<'a>(older: &'a [u8], newer: &'a [u8], out: &mut [u8]) -> Printed
         };
     }
     let lines = put_lines(older, newer, is_accepted(opening), out);
-    let size = changes::put_last(opening, out, lines);
+    let size = ending::put_last(opening, out, lines);
     Printed {
         answer: Answer::Done,
         count: size,

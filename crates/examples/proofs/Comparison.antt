@@ -4,7 +4,8 @@ use mathlib.Core.Bool.{true, false}
 use mathlib.Core.List.{List, [], _++_}
 use mathlib.Core.Path.{_≡_, refl, ap, _∙_}
 use lib.ListN.{length, replicate}
-use Rattle.changes.specs.Changes.{handed, olderOf, lineOf, lastLine}
+use Rattle.changes.specs.Changes.{handed, olderOf, lineOf}
+use Rattle.ending.specs.Ending.{lastLine}
 use Rattle.compare.proofs.Examples.{older, newer}
 use Rattle.compare.specs.Walk.{first, keyAt, agreeAt, stepAt, past, nextTo, nextOf, walk, walkFrom}
 use Rattle.comparison.proofs.Accepted.{by-walk}

@@ -1,8 +1,8 @@
--- `changes::put_opening`.
+-- `ending::put_opening`.
 use borrow.Author.Needs.{needs}
-use Rattle.changes.proofs.Changes.{last-accepted, last-refused}
-use Rattle.changes.proofs.put_opening.Statement.{statement}
-use Rattle.changes.proofs.put_opening.Tie as tie
+use Rattle.ending.proofs.Ending.{last-accepted, last-refused}
+use Rattle.ending.proofs.put_opening.Statement.{statement}
+use Rattle.ending.proofs.put_opening.Tie as tie
 
 pub put-opening-spec : {M : Type 1} → statement M
 put-opening-spec =

@@ -1,8 +1,8 @@
--- `changes::put_refused`.
+-- `ending::put_refused`.
 use borrow.Author.Needs.{needs}
-use Rattle.changes.proofs.Changes.{refused-older, refused-newer}
-use Rattle.changes.proofs.put_refused.Statement.{statement}
-use Rattle.changes.proofs.put_refused.Tie as tie
+use Rattle.ending.proofs.Ending.{refused-older, refused-newer}
+use Rattle.ending.proofs.put_refused.Statement.{statement}
+use Rattle.ending.proofs.put_refused.Tie as tie
 
 pub put-refused-spec : {M : Type 1} → statement M
 put-refused-spec =

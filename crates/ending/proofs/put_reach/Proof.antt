@@ -1,8 +1,8 @@
--- `changes::put_reach`.
+-- `ending::put_reach`.
 use borrow.Author.Needs.{needs}
-use Rattle.changes.proofs.Changes.{reach-whole, reach-cut}
-use Rattle.changes.proofs.put_reach.Statement.{statement}
-use Rattle.changes.proofs.put_reach.Tie as tie
+use Rattle.ending.proofs.Ending.{reach-whole, reach-cut}
+use Rattle.ending.proofs.put_reach.Statement.{statement}
+use Rattle.ending.proofs.put_reach.Tie as tie
 
 pub put-reach-spec : {M : Type 1} → statement M
 put-reach-spec =

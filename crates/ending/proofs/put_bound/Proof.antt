@@ -1,8 +1,8 @@
--- `changes::put_bound`.
+-- `ending::put_bound`.
 use borrow.Author.Needs.{needs}
-use Rattle.changes.proofs.Changes.{bound-puts}
-use Rattle.changes.proofs.put_bound.Statement.{statement}
-use Rattle.changes.proofs.put_bound.Tie as tie
+use Rattle.ending.proofs.Ending.{bound-puts}
+use Rattle.ending.proofs.put_bound.Statement.{statement}
+use Rattle.ending.proofs.put_bound.Tie as tie
 
 pub put-bound-spec : {M : Type 1} → statement M
 put-bound-spec =

@@ -1,8 +1,8 @@
--- `changes::last_width`.
+-- `ending::last_width`.
 use borrow.Author.Needs.{needs}
-use Rattle.changes.proofs.Changes.{width-accepted, width-refused}
-use Rattle.changes.proofs.last_width.Statement.{statement}
-use Rattle.changes.proofs.last_width.Tie as tie
+use Rattle.ending.proofs.Ending.{width-accepted, width-refused}
+use Rattle.ending.proofs.last_width.Statement.{statement}
+use Rattle.ending.proofs.last_width.Tie as tie
 
 pub last-width-spec : {M : Type 1} → statement M
 last-width-spec =

@@ -1,9 +1,9 @@
--- `changes::put_last`.
+-- `ending::put_last`.
 use borrow.Author.Needs.{needs}
 use borrow.Author.Tests.{not-true, not-false}
 use Rattle.writing.proofs.Puts.{none-stored, none-ended, whole-stored, whole-ended}
-use Rattle.changes.proofs.put_last.Statement.{statement}
-use Rattle.changes.proofs.put_last.Tie as tie
+use Rattle.ending.proofs.put_last.Statement.{statement}
+use Rattle.ending.proofs.put_last.Tie as tie
 
 pub put-last-spec : {M : Type 1} → statement M
 put-last-spec =

@@ -1,0 +1,3 @@
+-- The line that a comparison ends with.
+
+pub mod Ending
