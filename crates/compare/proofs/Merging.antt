@@ -21,7 +21,7 @@ use Rattle.compare.specs.declared.Step.{Step}
 use Rattle.compare.proofs.Ascending.{Ascends, ascends}
 use Rattle.compare.proofs.Places.{inside}
 use Rattle.compare.proofs.Standings.{Split, between, nearer-to, not-below, stands-there, past-it}
-use Rattle.compare.proofs.Steps.{agree-other, agree-beyond, agree-if, step-done, step-found, found-older, found-newer, found-changed, least-first, least-second, next-on, next-here}
+use Rattle.compare.proofs.Steps.{agree-other, agree-beyond, agree-if, step-by, step-done, step-found, found-older, found-newer, found-changed, least-first, least-second, next-on, next-here}
 use Rattle.compare.proofs.Walking.{walk-done, walk-found, walk-ends}
 
 -- an identifier of a number
@@ -84,7 +84,7 @@ module _ (s t : List ℕ) where
 
     finds : (r : Step) → agreeAt s t (frameOf s t) c ≡ false → min x y ≤ end .0 → r ≡ foundBy x y c → r ≡ nextOf s t c
     unfolding x y
-    finds r n l is-r = steps r n (step-found s t (frameOf s t) c x y refl refl (min x y) refl l r is-r)
+    finds r n l is-r = steps r n (step-by s t (frameOf s t) c x y refl refl r (step-found x y end c (min x y) refl l r is-r))
 
     apart : (x ≡ y → ⊥) → agreeAt s t (frameOf s t) c ≡ false
     unfolding x y
@@ -103,7 +103,7 @@ module _ (s t : List ℕ) where
     none-left : end .0 < x → end .0 < y → Right c a n
     unfolding x y differencesIn Right
     none-left l r =
-        walk-done s t c (steps Done (beyond l) (step-done s t (frameOf s t) c x y refl refl (min x y) refl (le-min l r)))
+        walk-done s t c (steps Done (beyond l) (step-by s t (frameOf s t) c x y refl refl Done (step-done x y end c (min x y) refl (le-min l r))))
         ∙ sym (skip n 0 n a (a + n) (omega arith) refl (nowhere (a + n) (omega (arith, all)) (omega (arith, all))))
 
     only-older : x < y → x ≤ end .0 → Right c a n

@@ -15,12 +15,12 @@ use Rattle.offences.specs.Checks.{descriptorAt}
 use Rattle.paper.specs.declared.ElementId.{ElementId}
 use Rattle.reach.proofs.Bounds.{count-read}
 use Rattle.reach.specs.Pages.{elementAt, boundOf, endOf}
+use Rattle.reader.proofs.LayoutTheorem.{and-both}
 use Rattle.words.specs.declared.Order.the-variants.{Little}
 use Rattle.compare.specs.Differences.{alike}
-use Rattle.compare.specs.Private.{agreeBy}
+use Rattle.compare.specs.Private.{isInside, agreeBy, Ahead, Pairs}
 use Rattle.compare.specs.Walk.{cursor, frameOf, keyAt}
 use Rattle.compare.specs.declared.Cursor.{Cursor}
-use Rattle.compare.specs.declared.Frame.{Frame}
 
 -- ## A descriptor
 
@@ -86,21 +86,32 @@ module _ (d e : Descriptor) where
 
 -- ## Two descriptors at a cursor
 
-module _ (d e : Descriptor) (f : Frame) (c : Cursor) where
-  pub by-older : f .last .older ≤ c .older → false ≡ agreeBy d e f c
-  by-older l = sym (rw (le-ltb _ _ l))
+module _ (last c : Cursor) where
+  pub outside-older : last .older ≤ c .older → false ≡ isInside last c
+  outside-older l = sym (rw (le-ltb _ _ l))
 
-  module _ (in-older : c .older < f .last .older) where
-    pub by-newer : f .last .newer ≤ c .newer → false ≡ agreeBy d e f c
-    by-newer l = sym (rw (lt-ltb _ _ in-older, le-ltb _ _ l))
+  pub inside-older : c .older < last .older → ltb (c .newer) (last .newer) ≡ isInside last c
+  inside-older l = sym (rw (lt-ltb _ _ l))
 
-    module _ (in-newer : c .newer < f .last .newer) where
-      pub by-other : (d .id .0 ≡ e .id .0 → ⊥) → false ≡ agreeBy d e f c
-      by-other n = sym (rw (lt-ltb _ _ in-older, lt-ltb _ _ in-newer, ne-eqb _ _ n))
+  pub inside-both : (b : Bool) → b ≡ isInside last c → b ≡ true → (c .older < last .older) × (c .newer < last .newer)
+  inside-both b is-b so =
+      let both = and-both (ltb (c .older) (last .older)) (ltb (c .newer) (last .newer)) (sym is-b ∙ so) in
+      (ltb-true _ _ (both .0), ltb-true _ _ (both .1))
 
-      module _ (same : d .id .0 ≡ e .id .0) where
-        pub by-beyond : f .end .0 < d .id .0 → false ≡ agreeBy d e f c
-        by-beyond l = sym (rw (lt-ltb _ _ in-older, lt-ltb _ _ in-newer, eq-eqb _ _ same, lt-leb _ _ l))
+module _ (s t : List ℕ) (last c : Cursor) (a : Bool) (is-a : a ≡ leb (32 + 32 * last .older) (length s)) (so : a ≡ true) (b : Bool) (is-b : b ≡ leb (32 + 32 * last .newer) (length t)) (too : b ≡ true) where
+  pub pairs-there : (n : ℕ) → Ahead last c n → Pairs s t last c n
+  pairs-there n within =
+      let older-there : 32 + 32 * last .older ≤ length s = leb-true _ _ (sym is-a ∙ so) in
+      let newer-there : 32 + 32 * last .newer ≤ length t = leb-true _ _ (sym is-b ∙ too) in
+      record { ahead = within; there = λ k l. (omega (arith, within .inside k l .0), omega (arith, within .inside k l .1)) }
 
-        pub by-alike : d .id .0 ≤ f .end .0 → (r : Bool) → r ≡ alike d e → r ≡ agreeBy d e f c
-        by-alike l r is-r = is-r ∙ sym (rw (lt-ltb _ _ in-older, lt-ltb _ _ in-newer, eq-eqb _ _ same, le-leb _ _ l))
+module _ (d e : Descriptor) (end : ElementId) where
+  pub by-other : (d .id .0 ≡ e .id .0 → ⊥) → false ≡ agreeBy d e end
+  by-other n = sym (rw (ne-eqb _ _ n))
+
+  module _ (same : d .id .0 ≡ e .id .0) where
+    pub by-beyond : end .0 < d .id .0 → false ≡ agreeBy d e end
+    by-beyond l = sym (rw (eq-eqb _ _ same, lt-leb _ _ l))
+
+    pub by-alike : d .id .0 ≤ end .0 → (r : Bool) → r ≡ alike d e → r ≡ agreeBy d e end
+    by-alike l r is-r = is-r ∙ sym (rw (eq-eqb _ _ same, le-leb _ _ l))

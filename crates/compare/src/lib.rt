@@ -111,60 +111,44 @@ fn is_alike(d: Descriptor, e: Descriptor) -> bool
 
 // ---- Past what agrees
 
-// Whether two descriptors at the cursor are one element, not above the end, and unchanged. After it there is a place.
-fn do_agree(d: Descriptor, e: Descriptor, frame: Frame, at: Cursor) -> bool
-    ensures { λ r. ⌜ (r ≡ private.agreeBy d e frame at) × (r ≡ true → (at .older + 1 < 2 ^ 32) × (at .newer + 1 < 2 ^ 32)) ⌝ }
+// Whether a cursor lies before the last place of both pages. Then after it there is a place.
+fn is_inside(last: Cursor, at: Cursor) -> bool
+    ensures { λ r. ⌜ (r ≡ private.isInside last at) × (r ≡ true → (at .older + 1 < 2 ^ 32) × (at .newer + 1 < 2 ^ 32)) ⌝ }
 {
-    let last = frame.last;
     if last.older <= at.older {
         return false;
     }
-    if last.newer <= at.newer {
-        return false;
-    }
+    at.newer < last.newer
+}
+
+// Whether two descriptors are one element, not above the end, and unchanged.
+fn do_agree(d: Descriptor, e: Descriptor, end: ElementId) -> bool
+    ensures { λ r. ⌜ r ≡ private.agreeBy d e end ⌝ }
+{
     let id = d.id;
     if id.0 != e.id.0 {
         return false;
     }
-    if frame.end.0 < id.0 {
+    if end.0 < id.0 {
         return false;
     }
     is_alike(d, e)
 }
 
 // Past what agrees, of pages that may be short.
-fn past_part(older: &[u8], newer: &[u8], frame: Frame, from: Cursor) -> Cursor
-    ensures { λ r. ⌜ r ≡ paper.past (now (older .entry)) (now (newer .entry)) frame (frame .last .older - from .older) from ⌝ }
-{
-    let mut at = from;
-    loop {
-        let d = offences::descriptor_at(older, at.older, Order::Little);
-        let e = offences::descriptor_at(newer, at.newer, Order::Little);
-        if !do_agree(d, e, frame, at) {
-            return at;
-        }
-        at = Cursor {
-            older: at.older + 1,
-            newer: at.newer + 1,
-        };
-    }
-}
-
-// Past what agrees. As long as the bytes are there they are not tested for one by one; where they are not, the rest of the way is `past_part`'s.
 fn past(older: &[u8], newer: &[u8], frame: Frame, from: Cursor) -> Cursor
     ensures { λ r. ⌜ r ≡ paper.past (now (older .entry)) (now (newer .entry)) frame (frame .last .older - from .older) from ⌝ }
 {
     let mut at = from;
     loop {
-        if !is_there(older, at.older) {
-            return past_part(older, newer, frame, at);
+        let last = frame.last;
+        if !is_inside(last, at) {
+            return at;
         }
-        if !is_there(newer, at.newer) {
-            return past_part(older, newer, frame, at);
-        }
-        let d = whole_at(older, at.older);
-        let e = whole_at(newer, at.newer);
-        if !do_agree(d, e, frame, at) {
+        let d = offences::descriptor_at(older, at.older, Order::Little);
+        let e = offences::descriptor_at(newer, at.newer, Order::Little);
+        let end = frame.end;
+        if !do_agree(d, e, end) {
             return at;
         }
         at = Cursor {
@@ -201,6 +185,17 @@ fn found_by(a: usize, b: usize, at: Cursor) -> Step
     found(Line::Changed(at), i + 1, j + 1)
 }
 
+// What stands at the cursor, where the older's key is a, the newer's b. After a key up to the end there is a place.
+fn step_by(a: usize, b: usize, end: ElementId, at: Cursor) -> Step
+    requires { ⌜ (a ≤ end .0 → at .older + 1 < 2 ^ 32) × (b ≤ end .0 → at .newer + 1 < 2 ^ 32) ⌝ }
+    ensures { λ r. ⌜ r ≡ private.stepBy a b end at ⌝ }
+{
+    if (end.0 as usize) < slices::smaller(a, b) {
+        return Step::Done;
+    }
+    found_by(a, b, at)
+}
+
 // What stands at the cursor, where the pages do not agree.
 fn step_at(older: &[u8], newer: &[u8], frame: Frame, at: Cursor) -> Step
     ensures { λ r. ⌜ r ≡ stepAt (now (older .entry)) (now (newer .entry)) frame at ⌝ }
@@ -209,10 +204,72 @@ fn step_at(older: &[u8], newer: &[u8], frame: Frame, at: Cursor) -> Step
     let end = frame.end;
     let a = key_at(older, last.older, at.older, end);
     let b = key_at(newer, last.newer, at.newer, end);
-    if (end.0 as usize) < slices::smaller(a, b) {
+    step_by(a, b, end, at)
+}
+
+// What stands at the cursor, by the two descriptors there, where they do not agree. After each there is a place. Whether they are one element is
+// asked first, as `do_agree` asks it, so that it is compiled once.
+fn step_of(d: Descriptor, e: Descriptor, end: ElementId, at: Cursor) -> Step
+    requires { ⌜ (at .older + 1 < 2 ^ 32) × (at .newer + 1 < 2 ^ 32) ⌝ }
+    ensures { λ r. ⌜ r ≡ private.stepBy (d .id .0) (e .id .0) end at ⌝ }
+{
+    let a = d.id;
+    let b = e.id;
+    if a.0 != b.0 {
+        return step_by(a.0 as usize, b.0 as usize, end, at);
+    }
+    if end.0 < a.0 {
         return Step::Done;
     }
-    found_by(a, b, at)
+    found(Line::Changed(at), at.older + 1, at.newer + 1)
+}
+
+// ---- The next difference
+
+// Whether the bytes of the first `count` descriptors are there.
+fn is_whole(page: &[u8], count: u32) -> bool
+    ensures { λ r. ⌜ r ≡ leb (32 + 32 * count) (length (now (page .entry))) ⌝ }
+{
+    32 + 32 * (count as usize) <= page.len()
+}
+
+// How many pairs of places lie ahead, until a page has no more.
+fn ahead(last: Cursor, from: Cursor) -> u32
+    ensures { λ r. ⌜ private.Ahead last from r ⌝ }
+{
+    if last.older <= from.older {
+        return 0;
+    }
+    if last.newer <= from.newer {
+        return 0;
+    }
+    let n = last.older - from.older;
+    let m = last.newer - from.newer;
+    if m < n {
+        return m;
+    }
+    n
+}
+
+// How many pairs of descriptors lie ahead: none, where the bytes of one may not be there.
+fn pairs(older: &[u8], newer: &[u8], last: Cursor, from: Cursor) -> u32
+    ensures { λ r. ⌜ private.Pairs (now (older .entry)) (now (newer .entry)) last from r ⌝ }
+{
+    if !is_whole(older, last.older) {
+        return 0;
+    }
+    if !is_whole(newer, last.newer) {
+        return 0;
+    }
+    ahead(last, from)
+}
+
+// The next difference, of pages that may be short.
+fn next_part(older: &[u8], newer: &[u8], frame: Frame, from: Cursor) -> Step
+    ensures { λ r. ⌜ r ≡ nextTo (now (older .entry)) (now (newer .entry)) frame from ⌝ }
+{
+    let at = past(older, newer, frame, from);
+    step_at(older, newer, frame, at)
 }
 
 // Where a walk over two pages ends.
@@ -230,12 +287,34 @@ pub fn frame_of(older: &[u8], newer: &[u8]) -> Frame
     }
 }
 
-// The next difference from a cursor on, in a frame that was made once for the whole walk.
+// The next difference from a cursor on, in a frame that was made once for the whole walk. Pairs that are there are not tested for one by one; past
+// them the rest of the way is `next_part`'s.
 pub fn next_to(older: &[u8], newer: &[u8], frame: Frame, from: Cursor) -> Step
     ensures { λ r. ⌜ r ≡ nextTo (now (older .entry)) (now (newer .entry)) frame from ⌝ }
 {
-    let at = past(older, newer, frame, from);
-    step_at(older, newer, frame, at)
+    let last = frame.last;
+    let end = frame.end;
+    let i = from.older;
+    let j = from.newer;
+    let n = pairs(older, newer, last, from);
+    let mut k: u32 = 0;
+    while k < n {
+        let at = Cursor {
+            older: i + k,
+            newer: j + k,
+        };
+        let d = whole_at(older, at.older);
+        let e = whole_at(newer, at.newer);
+        if !do_agree(d, e, end) {
+            return step_of(d, e, end, at);
+        }
+        k += 1;
+    }
+    let rest = Cursor {
+        older: i + k,
+        newer: j + k,
+    };
+    next_part(older, newer, frame, rest)
 }
 
 // The next difference from a cursor on; what lies before the cursor counts as not there.

@@ -1,17 +1,17 @@
--- `compare::past`. The invariant is that of `past_part`.
+-- `compare::past`. The invariant: past what agrees from here is past what agrees from the cursor that was given.
 use Prim.Native.Nat.{_-_}
 use mathlib.Core.Path.{_≡_, refl}
 use native.Mathlib.Omega.{arith}
 use borrow.Author.Needs.{needs}
 use borrow.Author.Tests.{not-true, not-false}
-use Rattle.compare.specs.Walk as paper
-use Rattle.compare.proofs.Places.{there-whole}
-use Rattle.compare.proofs.Steps.{turn-part, turn-less, turn-again, turn-ends}
+use Rattle.compare.specs.Walk.{past}
+use Rattle.compare.proofs.Places.{element-read}
+use Rattle.compare.proofs.Steps.{turn-outside, turn-less, turn-again, turn-ends}
 use Rattle.compare.proofs.past.Statement.{statement}
 use Rattle.compare.proofs.past.Tie as tie
 
 abbrev Inv-loop : tie.InvT-loop
-Inv-loop older newer frame at₀ at = paper.past older newer frame (frame .last .older - at₀ .older) at₀ ≡ paper.past older newer frame (frame .last .older - at .older) at
+Inv-loop older newer frame at₀ at = past older newer frame (frame .last .older - at₀ .older) at₀ ≡ past older newer frame (frame .last .older - at .older) at
 
 abbrev μ-loop : tie.MeasureT-loop
 μ-loop older newer frame at₀ at = frame .last .older - at .older
@@ -24,19 +24,12 @@ past-spec =
     μ-loop
     (λ c. refl)
     (λ c κs. search needs)
+    (λ c. search (turn-outside, not-true))
     (λ c κs. search needs)
-    (λ c. search (turn-part))
     (λ c κs. search needs)
     (λ c κs. search needs)
-    (λ c. search (turn-part))
-    (λ c κs. let loop = c .before .before .before .before in there-whole (loop .before .before .before .args .older .now) _ _ (c .before .before .before .is-there .ensures) (not-false _ (c .before .before .if1 .left)))
-    (λ c κs. let loop = c .before .before .before .before .before in there-whole (loop .before .before .before .args .newer .now) _ _ (c .before .before .is-there2 .ensures) (not-false _ (c .before .if2 .left)))
-    (λ c κs. search needs)
-    (λ c. let here = c .before in
-    turn-ends _ _ _ _ _ _ (here .before .before .whole-at .ensures) (here .before .whole-at2 .ensures) _ (here .do-agree .ensures .0) (not-true _ (c .if3 .taken)) _ (here .before .before .before .before .before .before .before .loop .inv))
-    (λ c. omega (arith, c .before .before .do-agree .ensures .1 (not-false _ (c .before .if3 .left)) .0))
-    (λ c. omega (arith, c .before .before .before .do-agree .ensures .1 (not-false _ (c .before .before .if3 .left)) .1))
-    (λ c. let here = c .before .before .before in
-    turn-less _ _ _ _ _ _ (here .before .before .whole-at .ensures) (here .before .whole-at2 .ensures) _ (here .do-agree .ensures .0) (not-false _ (c .before .before .if3 .left)))
-    (λ c. let here = c .before .before .before in
-    turn-again _ _ _ _ _ _ (here .before .before .whole-at .ensures) (here .before .whole-at2 .ensures) _ (here .do-agree .ensures .0) (not-false _ (c .before .before .if3 .left)) _ (here .before .before .before .before .before .before .before .loop .inv)))
+    (λ c. search (turn-ends, element-read, not-true, not-false))
+    (λ c. omega (arith, c .before .before .before .before .before .before .before .is-inside .ensures .1 (not-false _ (c .before .before .before .before .before .before .if1 .left)) .0))
+    (λ c. omega (arith, c .before .before .before .before .before .before .before .before .is-inside .ensures .1 (not-false _ (c .before .before .before .before .before .before .before .if1 .left)) .1))
+    (λ c. search (turn-less, not-false))
+    (λ c. search (turn-again, element-read, not-false)))
