@@ -1,4 +1,4 @@
--- Laws of a comparison's lines: one for each way out of a function, and how long they are.
+-- Laws of a difference's line: one for each way out of a function, and how long it is.
 use Prim.Native.Nat.{ℕ, _+_, _^_, _<_}
 use mathlib.Core.List.{List, [], _∷_, _++_, append-assoc}
 use mathlib.Core.Path.{_≡_, refl, sym, ap, subst, subst⁻¹, _∙_}

@@ -1,5 +1,5 @@
--- The lines of a comparison, as docs/changes/2026-01 asks for them: "a line for each difference, `-` or `+` or `~`, identifier, type, health,
--- capacity as the listing has them", and a last line. The older page is s, the newer t.
+-- The line of a difference, as docs/changes/2026-01 asks for it: "a line for each difference, `-` or `+` or `~`, identifier, type, health,
+-- capacity as the listing has them". The older page is s, the newer t.
 use Prim.Native.Nat.{ℕ}
 use mathlib.Core.List.{List, _++_}
 use Rattle.compare.specs.declared.Cursor.{Cursor}

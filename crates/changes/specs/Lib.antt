@@ -1,4 +1,4 @@
--- The lines of a comparison.
+-- The line of a difference.
 
 pub mod Changes
 pub mod Private

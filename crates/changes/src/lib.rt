@@ -49,8 +49,8 @@ fn handed_at(page: &[u8], k: u32) -> Descriptor
     Descriptor::read(parts::descriptor_part(page, k), Order::Little)
 }
 
-// The descriptor that a line hands out, straight from the page that has it.
-fn shown<'a>(older: &'a [u8], newer: &'a [u8], line: Line) -> Descriptor
+// As `handed`, straight from the page that has it: it has one caller, and is compiled into it.
+fn shown(older: &[u8], newer: &[u8], line: Line) -> Descriptor
     ensures { λ r. ⌜ r ≡ paper.handed (now (older .entry)) (now (newer .entry)) line ⌝ }
 {
     match line {

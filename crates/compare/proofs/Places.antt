@@ -18,7 +18,7 @@ use Rattle.reach.specs.Pages.{elementAt, boundOf, endOf}
 use Rattle.reader.proofs.LayoutTheorem.{and-both}
 use Rattle.words.specs.declared.Order.the-variants.{Little}
 use Rattle.compare.specs.Differences.{alike}
-use Rattle.compare.specs.Private.{isInside, agreeBy, Ahead, Pairs}
+use Rattle.compare.specs.Private.{isInside, agreeBy, Both, Pairs}
 use Rattle.compare.specs.Walk.{cursor, frameOf, keyAt}
 use Rattle.compare.specs.declared.Cursor.{Cursor}
 
@@ -84,7 +84,7 @@ module _ (d e : Descriptor) where
       pub alike-rest : Bool·beq (d .restorable) (e .restorable) ≡ true → eqb (d .capacity) (e .capacity) ≡ alike d e
       alike-rest y = sym (rw (eq-eqb _ _ k, eq-eqb _ _ h, y))
 
--- ## Two descriptors at a cursor
+-- ## Places and descriptors at a cursor
 
 module _ (last c : Cursor) where
   pub outside-older : last .older ≤ c .older → false ≡ isInside last c
@@ -99,11 +99,11 @@ module _ (last c : Cursor) where
       (ltb-true _ _ (both .0), ltb-true _ _ (both .1))
 
 module _ (s t : List ℕ) (last c : Cursor) (a : Bool) (is-a : a ≡ leb (32 + 32 * last .older) (length s)) (so : a ≡ true) (b : Bool) (is-b : b ≡ leb (32 + 32 * last .newer) (length t)) (too : b ≡ true) where
-  pub pairs-there : (n : ℕ) → Ahead last c n → Pairs s t last c n
+  pub pairs-there : (n : ℕ) → Both last c n → Pairs s t last c n
   pairs-there n within =
       let older-there : 32 + 32 * last .older ≤ length s = leb-true _ _ (sym is-a ∙ so) in
       let newer-there : 32 + 32 * last .newer ≤ length t = leb-true _ _ (sym is-b ∙ too) in
-      record { ahead = within; there = λ k l. (omega (arith, within .inside k l .0), omega (arith, within .inside k l .1)) }
+      record { both = within; there = λ k l. (omega (arith, within .inside k l .0), omega (arith, within .inside k l .1)) }
 
 module _ (d e : Descriptor) (end : ElementId) where
   pub by-other : (d .id .0 ≡ e .id .0 → ⊥) → false ≡ agreeBy d e end

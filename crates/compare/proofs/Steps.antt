@@ -163,7 +163,7 @@ module _ (s t : List ℕ) (f : Frame) where
   module _ (c : Cursor) (n k : ℕ) (there : Pairs s t (f .last) c n) (l : k < n) (d e : Descriptor) (is-d : d ≡ elementAt s (c .older + k)) (is-e : e ≡ elementAt t (c .newer + k)) (r : Bool) (is-r : r ≡ agreeBy d e (f .end))
       (inv : nextTo s t f c ≡ nextTo s t f (cursor (c .older + k) (c .newer + k))) where
     agrees : r ≡ agreeAt s t f (cursor (c .older + k) (c .newer + k))
-    agrees = agree-by (cursor (c .older + k) (c .newer + k)) (there .ahead .inside k l) d e is-d is-e r is-r
+    agrees = agree-by (cursor (c .older + k) (c .newer + k)) (there .both .inside k l) d e is-d is-e r is-r
 
     pub pair-again : r ≡ true → nextTo s t f c ≡ nextTo s t f (cursor (c .older + (k + 1)) (c .newer + (k + 1)))
     pair-again so =
@@ -174,8 +174,8 @@ module _ (s t : List ℕ) (f : Frame) where
     pub pair-ends : r ≡ false → (x : Step) → x ≡ stepBy (d .id .0) (e .id .0) (f .end) (cursor (c .older + k) (c .newer + k)) → x ≡ nextTo s t f c
     pair-ends off x is-x =
         let here : Cursor = cursor (c .older + k) (c .newer + k) in
-        let a = key-there s (f .last .older) (c .older + k) (f .end) (there .ahead .inside k l .0) (d .id) (id-whole s (c .older + k) d is-d) in
-        let b = key-there t (f .last .newer) (c .newer + k) (f .end) (there .ahead .inside k l .1) (e .id) (id-whole t (c .newer + k) e is-e) in
+        let a = key-there s (f .last .older) (c .older + k) (f .end) (there .both .inside k l .0) (d .id) (id-whole s (c .older + k) d is-d) in
+        let b = key-there t (f .last .newer) (c .newer + k) (f .end) (there .both .inside k l .1) (e .id) (id-whole t (c .newer + k) e is-e) in
         next-here here (sym agrees ∙ off) x (step-by s t f here (d .id .0) (e .id .0) a b x is-x) ∙ sym inv
 
   pub pair-rest : (c d : Cursor) → nextTo s t f c ≡ nextTo s t f d → (x : Step) → x ≡ nextTo s t f d → x ≡ nextTo s t f c

@@ -12,6 +12,7 @@ use Rattle.compare.specs.declared.Cursor.{Cursor}
 use Rattle.compare.specs.declared.Step.the-variants.{Done}
 use Rattle.compare.specs.declared.Step.{Step}
 
+-- whether both pages have a descriptor at the cursor
 abbrev pub isInside : Cursor → Cursor → Bool
 isInside last c = ltb (c .older) (last .older) && ltb (c .newer) (last .newer)
 
@@ -23,12 +24,12 @@ unfoldable pub stepBy : ℕ → ℕ → ElementId → Cursor → Step
 stepBy a b end c = cond (ltb (end .0) (min a b)) Done (foundBy a b c)
 
 -- the n pairs of places from a cursor on lie inside, and after them there is a place
-pub record Ahead (last c : Cursor) (n : ℕ) : Type 0 where
+pub record Both (last c : Cursor) (n : ℕ) : Type 0 where
   pub inside : (k : ℕ) → k < n → (c .older + k < last .older) × (c .newer + k < last .newer)
   pub older-on : c .older + n < 2 ^ 32
   pub newer-on : c .newer + n < 2 ^ 32
 
 -- and their descriptors are there
 pub record Pairs (s t : List ℕ) (last c : Cursor) (n : ℕ) : Type 0 where
-  pub ahead : Ahead last c n
+  pub both : Both last c n
   pub there : (k : ℕ) → k < n → (64 + 32 * (c .older + k) ≤ length s) × (64 + 32 * (c .newer + k) ≤ length t)

@@ -111,7 +111,7 @@ fn is_alike(d: Descriptor, e: Descriptor) -> bool
 
 // ---- Past what agrees
 
-// Whether a cursor lies before the last place of both pages. Then after it there is a place.
+// Whether both pages have a descriptor at the cursor. Then there is a place after it.
 fn is_inside(last: Cursor, at: Cursor) -> bool
     ensures { λ r. ⌜ (r ≡ private.isInside last at) × (r ≡ true → (at .older + 1 < 2 ^ 32) × (at .newer + 1 < 2 ^ 32)) ⌝ }
 {
@@ -208,7 +208,7 @@ fn step_at(older: &[u8], newer: &[u8], frame: Frame, at: Cursor) -> Step
 }
 
 // What stands at the cursor, by the two descriptors there, where they do not agree. After each there is a place. Whether they are one element is
-// asked first, as `do_agree` asks it, so that it is compiled once.
+// asked first, as `do_agree` asks it, so that the compiled code asks it once.
 fn step_of(d: Descriptor, e: Descriptor, end: ElementId, at: Cursor) -> Step
     requires { ⌜ (at .older + 1 < 2 ^ 32) × (at .newer + 1 < 2 ^ 32) ⌝ }
     ensures { λ r. ⌜ r ≡ private.stepBy (d .id .0) (e .id .0) end at ⌝ }
@@ -233,9 +233,9 @@ fn is_whole(page: &[u8], count: u32) -> bool
     32 + 32 * (count as usize) <= page.len()
 }
 
-// How many pairs of places lie ahead, until a page has no more.
-fn ahead(last: Cursor, from: Cursor) -> u32
-    ensures { λ r. ⌜ private.Ahead last from r ⌝ }
+// So many places lie ahead in both pages.
+fn in_both(last: Cursor, from: Cursor) -> u32
+    ensures { λ r. ⌜ private.Both last from r ⌝ }
 {
     if last.older <= from.older {
         return 0;
@@ -251,7 +251,7 @@ fn ahead(last: Cursor, from: Cursor) -> u32
     n
 }
 
-// How many pairs of descriptors lie ahead: none, where the bytes of one may not be there.
+// So many pairs of descriptors lie ahead, whose bytes are there: none, where a page is too short for its count.
 fn pairs(older: &[u8], newer: &[u8], last: Cursor, from: Cursor) -> u32
     ensures { λ r. ⌜ private.Pairs (now (older .entry)) (now (newer .entry)) last from r ⌝ }
 {
@@ -261,7 +261,7 @@ fn pairs(older: &[u8], newer: &[u8], last: Cursor, from: Cursor) -> u32
     if !is_whole(newer, last.newer) {
         return 0;
     }
-    ahead(last, from)
+    in_both(last, from)
 }
 
 // The next difference, of pages that may be short.

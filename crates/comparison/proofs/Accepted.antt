@@ -7,12 +7,12 @@ use native.Mathlib.Omega.{arith}
 use lib.Dec.{ltb}
 use lib.ListN.{length}
 use borrow.Author.Tests.{ltb-false}
-use Rattle.ending.specs.Ending.{lastLine}
 use Rattle.compare.proofs.Ascending.{count-room}
 use Rattle.compare.proofs.Merging.{walk-gives}
 use Rattle.compare.specs.Differences.{differencesOf}
 use Rattle.compare.specs.Walk.{first, walkFrom}
 use Rattle.compare.specs.declared.Cursor.{Cursor}
+use Rattle.ending.specs.Ending.{lastLine}
 use Rattle.paper.specs.Told.{tells}
 use Rattle.reach.specs.Opening.{Values, bound, turn, openOf, accepted, judged}
 use Rattle.reach.specs.Pages.{countOf, boundOf}

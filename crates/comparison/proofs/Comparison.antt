@@ -7,9 +7,7 @@ use native.Mathlib.Omega.{arith}
 use lib.Dec.{leb}
 use lib.ListN.{length, drop, length-append}
 use borrow.Author.Tests.{leb-true, leb-false}
-use Rattle.ending.proofs.Ending.{length-last}
 use Rattle.changes.specs.Changes.{lineOf}
-use Rattle.ending.specs.Ending.{lastLine}
 use Rattle.compare.proofs.Steps.{next-whole}
 use Rattle.compare.proofs.Walking.{walk-done, walk-found, found-leaves}
 use Rattle.compare.specs.Walk.{first, frameOf, nextTo, nextOf, ahead}
@@ -18,6 +16,8 @@ use Rattle.compare.specs.declared.Frame.{Frame}
 use Rattle.compare.specs.declared.Hit.{Hit}
 use Rattle.compare.specs.declared.Step.the-variants.{Done, Found}
 use Rattle.compare.specs.declared.Step.{Step}
+use Rattle.ending.proofs.Ending.{length-last}
+use Rattle.ending.specs.Ending.{lastLine}
 use Rattle.io.specs.Counts.{Counts}
 use Rattle.listing.proofs.Printing.{printed-small, printed-done, printed-counts}
 use Rattle.listing.specs.Listing.{output, printed}

@@ -7,13 +7,13 @@ use native.Mathlib.Omega.{arith}
 use lib.Dec.{leb}
 use lib.ListN.{length, length-append}
 use borrow.Author.Tests.{le-leb, le-ltb}
-use Rattle.ending.proofs.Ending.{length-last}
 use Rattle.changes.specs.Changes.{lineOf}
-use Rattle.ending.specs.Ending.{refusedLine, lastLine}
 use Rattle.compare.specs.Differences.{differencesOf}
 use Rattle.compare.specs.Walk.{first}
 use Rattle.compare.specs.declared.Line.the-variants.{OnlyOlder, OnlyNewer, Changed}
 use Rattle.compare.specs.declared.Line.{Line}
+use Rattle.ending.proofs.Ending.{length-last}
+use Rattle.ending.specs.Ending.{refusedLine, lastLine}
 use Rattle.reach.specs.Opening.{Values, bound, turn, judged}
 use Rattle.reach.specs.declared.Bound.the-variants.{Whole, UpTo}
 use Rattle.reach.specs.declared.Bound.{Bound}

@@ -3,9 +3,9 @@ use Prim.Native.Nat.{ℕ}
 use mathlib.Core.List.{List, _++_}
 use mathlib.Core.Path.{_≡_, refl}
 use Rattle.changes.proofs.Reserved.{line-same}
-use Rattle.ending.specs.Ending.{lastLine}
 use Rattle.compare.proofs.Reserved.{reserved-uncompared}
 use Rattle.compare.specs.declared.Line.{Line}
+use Rattle.ending.specs.Ending.{lastLine}
 use Rattle.reach.proofs.Reserved.{reserved-unopened}
 use Rattle.reach.specs.Opening.{Values, bound, turn}
 use Rattle.reader.specs.Reserved.{Looks-alike}

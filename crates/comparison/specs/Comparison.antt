@@ -5,9 +5,9 @@ use mathlib.Core.Bool.{cond}
 use mathlib.Core.List.{List, [], _∷_, _++_}
 use lib.Dec.{eqb}
 use Rattle.changes.specs.Changes.{lineOf}
-use Rattle.ending.specs.Ending.{lastLine}
 use Rattle.compare.specs.Differences.{differencesOf}
 use Rattle.compare.specs.declared.Line.{Line}
+use Rattle.ending.specs.Ending.{lastLine}
 use Rattle.reach.specs.Opening.{Values, bound, turn, judged}
 use Rattle.slices.specs.Lists.{flat}
 

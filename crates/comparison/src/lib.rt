@@ -39,7 +39,8 @@ fn next_of(older: &[u8], newer: &[u8], frame: Frame, accepted: bool, at: Cursor)
     }
 }
 
-// How long the lines of all differences are. It walks by `next`, so that `next_of` has one caller and is compiled into its loop.
+// How long the lines of all differences are. It walks by `next`, so that `next_of` has one caller, `put_lines`, and is compiled
+// into that loop.
 fn measure<'a>(older: &'a [u8], newer: &'a [u8], accepted: bool) -> usize
     requires { ⌜ length (private.linesFrom accepted (now older) (now newer) first) < 2 ^ 64 ⌝ }
     ensures { λ r. ⌜ r ≡ length (private.linesFrom accepted (now (older .entry)) (now (newer .entry)) first) ⌝ }

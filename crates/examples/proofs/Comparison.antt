@@ -5,12 +5,12 @@ use mathlib.Core.List.{List, [], _++_}
 use mathlib.Core.Path.{_≡_, refl, ap, _∙_}
 use lib.ListN.{length, replicate}
 use Rattle.changes.specs.Changes.{handed, olderOf, lineOf}
-use Rattle.ending.specs.Ending.{lastLine}
 use Rattle.compare.proofs.Examples.{older, newer}
 use Rattle.compare.specs.Walk.{first, keyAt, agreeAt, stepAt, past, nextTo, nextOf, walk, walkFrom}
 use Rattle.comparison.proofs.Accepted.{by-walk}
 use Rattle.comparison.specs.Comparison.{comparisonOf}
 use Rattle.comparison.specs.Private.{isAccepted, linesFrom}
+use Rattle.ending.specs.Ending.{lastLine}
 use Rattle.parts.specs.Parts.{descriptorPart}
 use Rattle.reach.specs.Opening.{Values, bound, accepted, judged}
 use Rattle.reach.specs.Pages.{countOf, elementAt, reachOf, boundOf}

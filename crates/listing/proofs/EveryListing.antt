@@ -1,5 +1,5 @@
 -- How many lines a listing has: their descriptors are all there, and 80,000 bytes are enough for every listing (specs/Promises).
-use Prim.Native.Nat.{ℕ, _-_, _*_, _≤_}
+use Prim.Native.Nat.{ℕ, zero, suc, _+_, _*_, _≤_}
 use mathlib.Core.Bool.{Bool, true, false, cond}
 use mathlib.Core.List.{List}
 use mathlib.Core.Path.{_≡_, refl, sym, ap}
@@ -21,26 +21,31 @@ use Rattle.listing.proofs.Listing.{length-first, length-lines}
 
 -- ## How many lines: the reader takes no page that is too short for them, and 128 pages have room for 2,047
 
-read-there : (s : List ℕ) → 32 * lineCount (readOf Little s (requestOf s) .state) ≤ length s - 32
+read-there : (s : List ℕ) → 1 ≤ lineCount (readOf Little s (requestOf s) .state) → 32 + 32 * lineCount (readOf Little s (requestOf s) .state) ≤ length s
 read-there s = by-values (readOf Little s (requestOf s) .state) refl
   where
-    by-values : (v : Values) → readOf Little s (requestOf s) .state ≡ v → 32 * lineCount v ≤ length s - 32
-    by-values (place p) e = omega arith
-    by-values (header h) e =
+    by-values : (v : Values) → readOf Little s (requestOf s) .state ≡ v → 1 ≤ lineCount v → 32 + 32 * lineCount v ≤ length s
+    by-values (place p) e some = absurd (omega arith)
+    by-values (header h) e some =
         let (is-0, is-h) = with-header Little s (requestOf s) h e in
         omega (arith, room Little s (requestOf s) (taken Little s (requestOf s) is-0), ap (λ (g : Header). g .returned) is-h)
 
-few : (s : List ℕ) → (32 * lineCount (judged s .state) ≤ length s - 32) × (lineCount (judged s .state) ≤ 2047)
+few-there : (n size : ℕ) → (1 ≤ n → 32 + 32 * n ≤ size) → size ≤ 65536 → n ≤ 2047
+few-there zero size there most = omega arith
+few-there (suc n) size there most = omega (arith, there (omega arith))
+
+few : (s : List ℕ) → (1 ≤ lineCount (judged s .state) → 32 + 32 * lineCount (judged s .state) ≤ length s) × (lineCount (judged s .state) ≤ 2047)
 few s = by-test (ltb 65536 (length s)) refl
   where
     by-test : (t : Bool) → ltb 65536 (length s) ≡ t
-        → (32 * lineCount (cond t (tells 9 (place 65536)) (readOf Little s (requestOf s)) .state) ≤ length s - 32)
+        → (1 ≤ lineCount (cond t (tells 9 (place 65536)) (readOf Little s (requestOf s)) .state)
+        → 32 + 32 * lineCount (cond t (tells 9 (place 65536)) (readOf Little s (requestOf s)) .state) ≤ length s)
         × (lineCount (cond t (tells 9 (place 65536)) (readOf Little s (requestOf s)) .state) ≤ 2047)
-    by-test true e = (omega arith, omega arith)
-    by-test false e = (read-there s, omega (arith, read-there s, ltb-false 65536 (length s) e))
+    by-test true e = (λ some. absurd (omega arith), omega arith)
+    by-test false e = (read-there s, few-there _ (length s) (read-there s) (ltb-false 65536 (length s) e))
 
 -- the descriptors that have a line are all there
-pub lines-there : (s : List ℕ) (answer : Judgement) → heard answer ≡ judged s → (n : ℕ) → n ≡ lineCount (heard answer .state) → 32 * n ≤ length s - 32
+pub lines-there : (s : List ℕ) (answer : Judgement) → heard answer ≡ judged s → (n : ℕ) → n ≡ lineCount (heard answer .state) → 1 ≤ n → 32 + 32 * n ≤ length s
 lines-there s answer is-answer n is-n = rw (is-n, is-answer) (few s .0)
 
 length-listing : (s : List ℕ) → length (listingOf s) ≤ 80000

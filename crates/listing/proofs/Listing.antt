@@ -104,6 +104,12 @@ module _ (s : List ℕ) (count : ℕ) (d : List ℕ) (from : ℕ) where
         let all : count ≡ k = omega arith in
         rw all puts
 
+    pub put-there : base < baseOf count → (1 ≤ count → baseOf count ≤ length s) → base + 32 ≤ length s
+    put-there less there =
+        let (k, is-base, few, puts) = so in
+        let all : baseOf count ≤ length s = there (omega arith) in
+        omega arith
+
     pub put-on : base < baseOf count → (e : Descriptor) → e ≡ descriptorIn Little (take (base + 32 - base) (drop base s)) → (y : List ℕ) (r : ℕ)
         → y ≡ stored x at (descriptorLine e) → r ≡ ended x at (descriptorLine e) → Put-before s count d from (base + 32) y r
     put-on less e is-e y r is-y is-r =

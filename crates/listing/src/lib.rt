@@ -1,6 +1,6 @@
 // The listing of a status page: a line for the header and one for each descriptor, or the place of the first offence.
 ghost use mathlib.Core.Path.{_≡_};
-ghost use Prim.Native.Nat.{_-_, _*_, _≤_};
+ghost use Prim.Native.Nat.{_+_, _*_, _≤_};
 ghost use lib.Dec.{leb};
 ghost use lib.ListN.{length};
 ghost use Rattle.io.specs.Counts.{Counts};
@@ -87,7 +87,7 @@ fn put_first(out: &mut [u8], answer: Judgement) -> usize
 
 // Stores the lines of the first `count` descriptors, which are all there, from a place on, and answers where they end.
 fn put_lines(input: &[u8], count: u32, out: &mut [u8], from: usize) -> usize
-    requires { ⌜ 32 * count ≤ length (now input) - 32 ⌝ }
+    requires { ⌜ (1 ≤ count → 32 + 32 * count ≤ length (now input)) ⌝ }
     ensures { λ r. ⌜ private.Puts (now (out .entry)) from (linesBelow (now (input .entry)) count) (now (out .exit)) r ⌝ }
 {
     let end = 32 + 32 * (count as usize);

@@ -13,7 +13,7 @@ use Rattle.layout.specs.declared.Descriptor.{Descriptor}
 use Rattle.request.specs.Requests.{filterOf, reportTypeOf, takesId, takesType, takesHealth}
 use Rattle.request.specs.declared.Request.{Request}
 use Rattle.words.specs.declared.Order.{Order}
-use Rattle.offences.specs.Checks.{baseOf, lastBefore, inTurn, earned, checkOf, offenceAt}
+use Rattle.offences.specs.Checks.{baseOf, inTurn, earned, checkOf, offenceAt}
 use Rattle.offences.specs.First.{firstBelow}
 use Rattle.offences.specs.Private.{Swept}
 use Rattle.offences.specs.declared.Offence.the-variants.{Clean, At}

@@ -8,7 +8,7 @@ use Rattle.offences.specs.Checks.{baseOf, lastBefore, offenceAt}
 use Rattle.offences.specs.First.{firstBelow}
 use Rattle.offences.specs.declared.Offence.the-variants.{Clean}
 
--- the descriptors before a place are clean, and `last` is the identifier before it
+-- a place in a list of `count`, or its end: the descriptors before it are clean, and `last` is the identifier before it
 pub record Swept (o : Order) (s : List ℕ) (q : Request) (count at last : ℕ) : Type 0 where
   pub k : ℕ
   pub is-at : at ≡ baseOf k

@@ -1,7 +1,7 @@
 // The descriptors of a status page, in either byte order: the one at a number, and the first offence of a list, in document 01's order.
 ghost use mathlib.Core.Path.{_≡_};
 ghost use mathlib.Core.Bool.{true};
-ghost use Prim.Native.Nat.{ℕ, _+_, _*_, _^_, _≤_, _<_};
+ghost use Prim.Native.Nat.{ℕ, _+_, _^_, _≤_, _<_};
 ghost use lib.ListN.{length, drop};
 ghost use Rattle.layout.specs.Bytes.{descriptorIn};
 ghost use Rattle.offences.specs.Checks.{descriptorAt, inTurn, earned, checkOf, offenceAt};
@@ -25,7 +25,7 @@ struct Place {
     last: ElementId,
 }
 
-// Whether an identifier may follow the last one, 0 being none.
+// Whether an identifier may follow the last one, 0 being none: 0 itself follows nothing.
 fn is_in_turn(request: Request, last: ElementId, id: ElementId) -> bool
     ensures { λ r. ⌜ r ≡ inTurn request (last .0) (id .0) ⌝ }
 {
@@ -76,7 +76,7 @@ pub fn descriptor_at(page: &[u8], k: u32, o: Order) -> Descriptor
 
 // ---- Past plain descriptors
 
-// Whether a descriptor is clean and its restoration bit clear.
+// Whether a descriptor is clean and its restoration bit clear. What is promised is that it is clean, and of any other nothing.
 fn is_plain(d: Descriptor, request: Request, last: ElementId) -> bool
     ensures { λ r. ⌜ (r ≡ true → (base : ℕ) → Clean ≡ checkOf request (last .0) base d) ⌝ }
 {
@@ -93,7 +93,7 @@ fn is_plain(d: Descriptor, request: Request, last: ElementId) -> bool
     request.takes_health(d.health)
 }
 
-// The descriptor at a place, whose bytes are there: none is tested for.
+// The descriptor at a place, whose bytes are there: in the order of ATA pages none is tested for.
 fn whole_at(page: &[u8], at: usize, o: Order) -> Descriptor
     requires { ⌜ at + 32 ≤ length (now page) ⌝ }
     ensures { λ r. ⌜ r ≡ descriptorIn o (drop at (now (page .entry))) ⌝ }

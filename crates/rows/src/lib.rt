@@ -38,6 +38,8 @@ fn put_capacity(out: &mut [u8], at: usize, blocks: u64) -> usize
     writing::decimal(out, at, blocks)
 }
 
+// ---- An element's values
+
 // Type and health, each with the space after it.
 fn grade(kind: u8, health: u8) -> [u8; 6]
     ensures { λ r. ⌜ r ≡ private.gradeOf kind health ⌝ }
@@ -46,8 +48,6 @@ fn grade(kind: u8, health: u8) -> [u8; 6]
     [g[0], g[1], 32, g[2], g[3], 32]
 }
 
-// ---- An element's values
-
 // How long they are.
 pub fn values_width(d: Descriptor) -> usize
     ensures { λ r. ⌜ r ≡ length (valuesOf d) ⌝ }
@@ -55,7 +55,7 @@ pub fn values_width(d: Descriptor) -> usize
     6 + capacity_width(d.capacity)
 }
 
-// Stores them at the front of 26 bytes, which hold each, and answers how long they are.
+// Stores them at the front of a part of 26 bytes, in which all of them fit, and answers how long they are.
 fn put_front(part: &mut [u8], kind: u8, health: u8, capacity: u64) -> usize
     requires { ⌜ length (now part) ≡ 26 ⌝ }
     ensures { λ _. ⌜ now (part .exit) ≡ stored (now (part .entry)) 0 (private.valuesFor kind health capacity) ⌝ }

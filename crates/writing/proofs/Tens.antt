@@ -15,9 +15,6 @@ use Rattle.writing.proofs.Puts.{puts-same, puts-more}
 -- ## Digits as bytes
 
 module _ (n : ℕ) (small : n < 100) where
-  pub two-room : 2559 * (n / 10) ≤ 12336 + 256 * n
-  two-room = omega arith
-
   pub two-small : 12336 + 256 * n - 2559 * (n / 10) < 256 ^ 2
   two-small = omega arith
 

@@ -22,7 +22,7 @@ pub fn hex2(x: u8) -> [u8; 2]
     [glyphs[(x / 16) as usize], glyphs[(x % 16) as usize]]
 }
 
-// Of two bytes, side by side.
+// Two upper hexadecimal digits of each of two bytes, side by side.
 pub fn hex_pair(a: u8, b: u8) -> [u8; 4]
     ensures { λ r. ⌜ r ≡ digits 16 2 a ++ digits 16 2 b ⌝ }
 {
@@ -71,8 +71,8 @@ pub fn word(out: &mut [u8], at: usize, s: &[u8]) -> usize
 
 // ---- Decimal digits
 
-// Two digits as the number whose bytes, the lowest first, are their text. 12336 is 48 in each; n stands in the high byte, and of it each ten,
-// 2560, goes into the low one as 1.
+// The number whose two bytes, the lowest first, are the text of two digits. 12336 is 48 in both; 256 * n adds n to the high one, and for each ten
+// 2559 less takes 10 from there and adds 1 to the low one.
 fn two(n: u64) -> u64
     requires { ⌜ n < 100 ⌝ }
     ensures { λ r. ⌜ (lowBytes 2 r ≡ digits 10 2 n) × (r < 256 ^ 2) ⌝ }
@@ -80,6 +80,7 @@ fn two(n: u64) -> u64
     12336 + 256 * n - 2559 * (n / 10)
 }
 
+// Likewise of four digits.
 fn four(n: u64) -> u64
     requires { ⌜ n < 10 ^ 4 ⌝ }
     ensures { λ r. ⌜ (lowBytes 4 r ≡ digits 10 4 n) × (r < 256 ^ 4) ⌝ }
@@ -87,6 +88,7 @@ fn four(n: u64) -> u64
     two(n / 100) + 65536 * two(n % 100)
 }
 
+// Of eight.
 fn eight(n: u64) -> u64
     requires { ⌜ n < 10 ^ 8 ⌝ }
     ensures { λ r. ⌜ lowBytes 8 r ≡ digits 10 8 n ⌝ }
@@ -94,7 +96,7 @@ fn eight(n: u64) -> u64
     four(n / 10000) + 4294967296 * four(n % 10000)
 }
 
-// The low bytes of a number, the lowest first.
+// The low bytes of a number, the lowest first. (`words` tells the order first, which the compiler does not see through here.)
 fn low2(x: u64) -> [u8; 2]
     ensures { λ r. ⌜ r ≡ lowBytes 2 x ⌝ }
 {
@@ -214,7 +216,7 @@ fn put_any(out: &mut [u8], at: usize, n: u64) -> usize
     put_eight(out, a, n % 100000000)
 }
 
-// ---- A number by itself
+// ---- A number, made apart and measured
 
 // A short text: the last `count` bytes.
 struct Spelling {
@@ -222,7 +224,7 @@ struct Spelling {
     count: usize,
 }
 
-// A number, for a text that is measured before it is stored: the last digit, then one more before it as long as there is one.
+// A number's digits, made apart to be measured: from the last to the first.
 fn decimal_of(n: u64) -> Spelling
     ensures { λ r. ⌜ r ≡ private.spelled (decimalOf n) ⌝ }
 {

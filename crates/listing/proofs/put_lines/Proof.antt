@@ -3,7 +3,7 @@ use Prim.Native.Nat.{_-_}
 use mathlib.Core.Path.{_≡_, refl, _∙_}
 use lib.ListN.{length}
 use borrow.Author.Needs.{needs}
-use Rattle.listing.proofs.Listing.{Put-before, put-none, put-all, put-on}
+use Rattle.listing.proofs.Listing.{Put-before, put-none, put-there, put-all, put-on}
 use Rattle.listing.proofs.put_lines.Statement.{statement}
 use Rattle.listing.proofs.put_lines.Tie as tie
 
@@ -25,7 +25,7 @@ put-lines-spec =
     (λ c. search needs)
     (λ c. search needs)
     (λ c. search needs)
-    (λ c. search needs)
+    (λ c. search (put-there))
     (λ c κs. search needs)
     (λ c κs. search needs)
     (λ c. search needs)

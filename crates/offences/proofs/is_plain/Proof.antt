@@ -1,6 +1,6 @@
 -- `offences::is_plain`: nothing is said of another descriptor.
 use borrow.Author.Needs.{needs}
-use borrow.Author.Tests.{not-true, not-false}
+use borrow.Author.Tests.{not-false}
 use Rattle.offences.proofs.Checks.{plain-clean, plain-not}
 use Rattle.offences.proofs.is_plain.Statement.{statement}
 use Rattle.offences.proofs.is_plain.Tie as tie

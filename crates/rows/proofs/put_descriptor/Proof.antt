@@ -1,5 +1,4 @@
 -- `rows::put_descriptor`.
-use mathlib.Core.Path.{refl}
 use borrow.Author.Needs.{needs}
 use borrow.Author.Tests.{not-true, not-false}
 use Rattle.writing.proofs.Puts.{none-stored, none-ended, whole-stored, whole-ended}
