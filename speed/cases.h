@@ -8,6 +8,8 @@
 #define UP_TO(number) {number, 0}
 #define OF_C(percent) {0, percent}
 
+#define UNLOAD .feature = 0x44, .lba = 0x0554E4C
+
 static const struct kase cases[] = {
     // Call, path                      Device     Asked                                                     Limits
     {STEP, "no-removal",               0, IDLE,   {0},                                                      {0, UP_TO(100),  2560}},
@@ -44,6 +46,8 @@ static const struct kase cases[] = {
     {COMMAND, "25h-beyond",            0, IDLE,   {UNLOCKED, .code = 0x25, .count = 0, .lba = 126999},      {0, UP_TO(150),  5120}},
     {COMMAND, "25h-in-progress",       0, WORK_3, {UNLOCKED, .code = 0x25, .count = 1, .lba = 5},           {0, UP_TO(200),  5120}},
     {COMMAND, "B0h-in-progress",       0, WORK_3, {UNLOCKED, .code = 0xB0, .feature = 0xDA},                {0, UP_TO(200),  5120}},
+    {COMMAND, "E1h-in-progress",       0, WORK_3, {UNLOCKED, .code = 0xE1},                                 {0, UP_TO(200),  5120}},
+    {COMMAND, "E1h-Unload",            0, WORK_3, {UNLOCKED, .code = 0xE1, UNLOAD},                         {0, UP_TO(200),  5120}},
     {COMMAND, "unknown",               0, IDLE,   {UNLOCKED, .code = 0x99},                                 {0, UP_TO(150),  5120}},
     {COMMAND, "ECh",                   0, IDLE,   {UNLOCKED, .code = 0xEC},                                 {0, UP_TO(150),  5120}},
     {COMMAND, "7Ch-accepted",          0, IDLE,   {UNLOCKED, .code = 0x7C, .element = LAST},                {1, OF_C(120),   5120}},

@@ -193,10 +193,11 @@ int plain_show(const struct plain_device *d, uint16_t feature, uint16_t pages, u
 
 // Open during a removal (002): the code, and masks for what FEATURE and LBA have to be.
 static const struct {
-    uint8_t code, feature_mask, feature, lba_mask, lba;
+    uint8_t code, feature_mask, feature;
+    uint32_t lba_mask, lba;
 } open_codes[] = {
     {0xEC, 0, 0, 0, 0},
-    {0xE1, 0, 0, 0, 0},
+    {0xE1, 0xFF, 0x44, 0xFFFFFFF, 0x0554E4C},
     {0x2F, 0, 0, 0xFF, 0x04},
     {0x47, 0, 0, 0xFF, 0x04},
     {0x2F, 0, 0, 0xFF, 0x10},

@@ -209,7 +209,12 @@ others =
     ∷ row deviceA (R5 ++ (remove 1 3 0 ∷ [])) (access 0 1) 2 2999 asBuilt true true
     -- open, and its neighbours
     ∷ amid (other 0xEC 0 0) 0
-    ∷ amid (other 0xE1 0 0) 0
+    ∷ amid (other 0xE1 0x44 0x0554E4C) 0
+    ∷ amid (other 0xE1 0xFF44 0xFFFF_FFFF_F055_4E4C) 0
+    ∷ amid (other 0xE1 0x45 0x0554E4C) 2
+    ∷ amid (other 0xE1 0x44 0x8554E4C) 2
+    ∷ row deviceA (cutAfter 2 0) (other 0xE1 0 0) 2 2499 asBuilt false true
+    ∷ idle (other 0xE1 0 0) 0
     ∷ amid (other 0x2F 0 0x1E0) 0
     ∷ amid (other 0x2F 0 0x11) 2
     ∷ amid (other 0x47 0 0x04) 0

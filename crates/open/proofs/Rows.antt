@@ -1,5 +1,5 @@
 -- The table of what is open, a way out and a turn of its search at a time.
-use Prim.Native.Nat.{ℕ, _+_, _%_, _≤_, _<_, _^_}
+use Prim.Native.Nat.{ℕ, _+_, _-_, _%_, _≤_, _<_, _^_}
 use mathlib.Core.Bool.{Bool, true, false, _&&_, _||_, or-assoc, and-or-distrib-left, and-or-distrib-right}
 use mathlib.Core.List.{List}
 use mathlib.Core.Path.{_≡_, refl, sym, ap, _∙_}
@@ -17,15 +17,14 @@ use Rattle.open.specs.declared.Row.{Row}
 
 -- ## The forms of a register
 
-module _ (x : ℕ) where
-  pub any-form : leaves 0 0 x ≡ true
-  unfolding leaves
-  any-form = rw (and-zero-r x)
+pub any-form : (x : ℕ) → leaves 0 0 x ≡ true
+unfolding leaves
+any-form x = rw (and-zero-r x)
 
-  -- bits 7:0
-  pub low-byte : (v : ℕ) → leaves 0xFF v x ≡ eqb (x % 2 ^ 8) v
-  unfolding leaves
-  low-byte v = ap (λ (y : ℕ). eqb y v) (and-mask x 8)
+-- the k lowest bits
+pub low-bits : (k v x : ℕ) → leaves (2 ^ k - 1) v x ≡ eqb (x % 2 ^ k) v
+unfolding leaves
+low-bits k v x = ap (λ (y : ℕ). eqb y v) (and-mask x k)
 
 -- ## A row
 

@@ -1,6 +1,6 @@
 -- For the promises of private functions: no reader has to believe it. A row of what is open during a removal (src/lib.rt): a code, and for
--- FEATURE and LBA a mask and what it must leave. A mask of 0 takes any form, one of FFh looks at bits 7:0. What is open, in the document's
--- words, is `isOpen` (specs/Open).
+-- FEATURE and LBA a mask and what it must leave. A mask of 0 takes any form, one of FFh looks at bits 7:0, one of FFF_FFFFh at bits 27:0.
+-- What is open, in the documents' words, is `isOpen` (specs/Open).
 use Prim.Native.Nat.{ℕ}
 use mathlib.Core.Bool.{Bool, _&&_}
 use mathlib.Core.List.{List}

@@ -3,7 +3,7 @@ ghost use mathlib.Core.Path.{_≡_};
 ghost use Rattle.open.specs.Open.{isOpen};
 ghost use Rattle.open.specs.Private as private;
 
-// A form of a command: its code, and for FEATURE and LBA a mask and what it must leave. Mask 0: any; FFh: bits 7:0.
+// A form of a command: its code, and for FEATURE and LBA a mask and what it must leave. Mask 0: any; FFh: bits 7:0; FFF_FFFFh: bits 27:0.
 struct Row {
     code: u8,
     feature_mask: u16,
@@ -22,10 +22,10 @@ const OPEN: [Row; 16] = [
     },
     Row {
         code: 0xE1,
-        feature_mask: 0,
-        feature: 0,
-        lba_mask: 0,
-        lba: 0,
+        feature_mask: 0xFF,
+        feature: 0x44,
+        lba_mask: 0xFFF_FFFF,
+        lba: 0x055_4E4C,
     },
     Row {
         code: 0x2F,

@@ -4,9 +4,9 @@ use mathlib.Core.Bool.{cond, _&&_}
 use mathlib.Core.List.{List}
 use mathlib.Core.Path.{_≡_, refl, sym, ap}
 use native.Mathlib.Nat.{mod-mod}
-use native.Mathlib.Omega.{arith}
 use lib.Dec.{eqb, leb, ltb}
 use lib.ListN.{length}
+use lib.Pow.{mod-mod-pow}
 use Rattle.cells.specs.Cells.{isSet, failedNumber}
 use Rattle.cells.specs.declared.Mark.{Mark}
 use Rattle.device.specs.Commands.{sectorsOf, mediaNumber, otherNumber}
@@ -14,7 +14,7 @@ use Rattle.device.specs.Machine.{command, quietNumber, rule}
 use Rattle.device.specs.Record.{says, tell}
 use Rattle.device.specs.declared.Device.{Device}
 use Rattle.layout.specs.declared.Descriptor.{Descriptor}
-use Rattle.open.specs.Open.{logOf, isOpen}
+use Rattle.open.specs.Open.{isOpen}
 use Rattle.paper.specs.Registers.{Registers, low48}
 use Rattle.paper.specs.Told.{Told}
 use Rattle.paper.specs.declared.Lba.{Lba}
@@ -53,12 +53,9 @@ ignored-unshown d s p q buf same = rw (number-same p q same s (length buf), page
 once : (lba : Lba) → low48 lba ≡ low48 (low48 lba)
 once lba = λ i. record { 0 = sym (mod-mod (lba .0) (2 ^ 48)) i }
 
-log-low : (n : ℕ) → logOf n ≡ logOf (n % 2 ^ 48)
-log-low n = omega arith
-
 open-low : (code feature n : ℕ) → isOpen code feature n ≡ isOpen code feature (n % 2 ^ 48)
 unfolding isOpen
-open-low code feature n = rw (log-low n)
+open-low code feature n = rw (mod-mod-pow n 40 8, mod-mod-pow n 20 28)
 
 media-low : (failed : Mark) (accessible : Lba) (count : ℕ) (lba : Lba) → mediaNumber failed accessible count lba ≡ mediaNumber failed accessible count (low48 lba)
 unfolding mediaNumber

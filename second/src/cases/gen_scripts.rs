@@ -4,7 +4,7 @@ use super::draft::Case;
 use super::random_script::random_script;
 use super::{scripts_command, scripts_disturbed, scripts_example, scripts_grade};
 use super::{scripts_kept, scripts_lines, scripts_reader, scripts_removal};
-use super::{scripts_status, scripts_table, scripts_words};
+use super::{scripts_status, scripts_table, scripts_unload, scripts_words};
 
 /// All scripts, in the order in which they are run.
 pub fn script_cases() -> Vec<Case> {
@@ -15,6 +15,7 @@ pub fn script_cases() -> Vec<Case> {
     cases.extend(scripts_grade::cases());
     cases.extend(scripts_status::cases());
     cases.extend(scripts_command::cases());
+    cases.extend(scripts_unload::cases());
     cases.extend(scripts_reader::cases());
     cases.extend(scripts_words::cases());
     cases.extend(scripts_lines::cases());

@@ -31,4 +31,5 @@ mod scripts_reader;
 mod scripts_removal;
 mod scripts_status;
 mod scripts_table;
+mod scripts_unload;
 mod scripts_words;

@@ -33,6 +33,19 @@ const NAMED: [u8; 13] = [
     0x24, 0x25, 0x34, 0x35, 0x42, 0xEC, 0xE1, 0x2F, 0x47, 0x0B, 0xF2, 0xEF, 0xB0,
 ];
 
+/// FEATURE and LBA of an IDLE IMMEDIATE: mostly the Unload form, or a bit beside
+/// it, with any bits where they do not count.
+fn near_unload(mut rng: Rng) -> (u16, u64) {
+    let feature = 0x44 | (rng.next() as u16) << 8;
+    let lba = 0x055_4E4C | rng.next() << 28;
+    match rng.below(8) {
+        0 => (feature ^ 1 << rng.below(8), lba),
+        1 => (feature, lba ^ 1 << rng.below(28)),
+        2 => (rng.next() as u16, rng.next()),
+        _ => (feature, lba),
+    }
+}
+
 /// Lines that are no calls, or nearly so.
 const NOISE: [&str; 14] = [
     "",
@@ -257,10 +270,13 @@ impl Walk {
             self.rng.pick(&NAMED)
         };
         let low = u16::from(self.rng.byte());
-        let feature = self
+        let mut feature = self
             .rng
             .pick(&[0x07, 0xD5, 0xDA, 0xFFD5, 0xDA07, 0xD500, low]);
-        let (count, lba) = self.sectors(device);
+        let (count, mut lba) = self.sectors(device);
+        if code == 0xE1 {
+            (feature, lba) = near_unload(self.rng.aside());
+        }
         let length = self.rng.pick(&[0, 0, 1, 0x200]);
         let state = self.state();
         self.say(&command_line(state, code, feature, count, lba, length));

@@ -10,6 +10,11 @@ impl Rng {
         Rng { state: seed }
     }
 
+    /// A generator of its own: what is drawn from it moves nothing here.
+    pub fn aside(&self) -> Rng {
+        Rng::new(Rng::new(self.state).next())
+    }
+
     pub fn next(&mut self) -> u64 {
         self.state = self.state.wrapping_add(0x9E37_79B9_7F4A_7C15);
         let mut mixed = self.state;

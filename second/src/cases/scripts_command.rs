@@ -72,7 +72,7 @@ fn logs_in_removal() -> Case {
     text.named("logs-in-removal")
 }
 
-/// "EFh with 07h; B0h with D5h .. or with DAh".
+/// "EFh with 07h; B0h with D5h .. or with DAh"; E1h with 44h.
 fn subcommands_in_removal() -> Case {
     let mut text = Text::with_a();
     text.remove(0x3, 0);
@@ -80,7 +80,7 @@ fn subcommands_in_removal() -> Case {
         text.command(0xEF, subcommand, 0, 0x30, 0);
         text.command(0xB0, subcommand, 0, 0x30, 0);
         text.command(0xB0, subcommand, 0, 0x04, 0);
-        text.command(0xE1, subcommand, 0, 0, 0);
+        text.command(0xE1, subcommand, 0, 0x055_4E4C, 0);
     }
     text.named("subcommands-in-removal")
 }
@@ -101,8 +101,7 @@ fn high_bits_in_removal() -> Case {
         (0x47, 0xFFFF, 0x1_0000_0000_0010),
         (0x47, 0x0030, 0x3000),
         (0x2F, 0x0004, 0x0400),
-        (0xE1, 0x0044, 0x0055_4E4C_4F41),
-        (0xE1, 0xFFFF, u64::MAX),
+        (0xE1, 0xFF44, 0xFFFF_FFFF_F055_4E4C),
         (0xEC, 0xFFFF, u64::MAX),
         (0x0B, 0xFFFF, u64::MAX),
         (0xF2, 0xFFFF, u64::MAX),

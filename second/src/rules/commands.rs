@@ -50,18 +50,25 @@ impl Device {
     }
 }
 
-/// "Open during a removal (002)".
+/// "Open during a removal (002)"; of E1h "only the Unload form" (request 2026-02).
 fn is_open(code: u8, registers: &Registers) -> bool {
     let subcommand = registers.subcommand();
     let log = registers.log();
     match code {
-        0xEC | 0xE1 | 0x0B | 0xF2 => true,
+        0xEC | 0x0B | 0xF2 => true,
+        0xE1 => is_unload(registers),
         0x2F | 0x47 => [0x04, 0x10, 0x30, 0xE0].contains(&log),
         0xEF => subcommand == 0x07,
         0xB0 if subcommand == 0xD5 => [0x30, 0xE0].contains(&log),
         0xB0 => subcommand == 0xDA,
         _ => false,
     }
+}
+
+/// "FEATURE 7:0 = 44h and LBA 27:0 = 0554E4Ch."
+fn is_unload(registers: &Registers) -> bool {
+    let low = registers.lba() & 0xFFF_FFFF;
+    registers.feature & 0xFF == 0x44 && low == 0x055_4E4C
 }
 
 /// "COUNT 0 means 65,536 sectors."

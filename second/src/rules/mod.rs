@@ -1,5 +1,5 @@
-//! The rules of document 01 and of request 2026-01, and the bench language over
-//! them.
+//! The rules of document 01 and of requests 2026-01 and 2026-02, and the bench
+//! language over them.
 
 pub mod answer;
 pub mod bench;
