@@ -8,6 +8,7 @@
 #define UP_TO(number) {number, 0}
 #define OF_C(percent) {0, percent}
 
+// The form of IDLE IMMEDIATE that is open during a removal.
 #define UNLOAD .feature = 0x44, .lba = 0x0554E4C
 
 static const struct kase cases[] = {

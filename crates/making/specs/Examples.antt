@@ -209,12 +209,6 @@ others =
     ∷ row deviceA (R5 ++ (remove 1 3 0 ∷ [])) (access 0 1) 2 2999 asBuilt true true
     -- open, and its neighbours
     ∷ amid (other 0xEC 0 0) 0
-    ∷ amid (other 0xE1 0x44 0x0554E4C) 0
-    ∷ amid (other 0xE1 0xFF44 0xFFFF_FFFF_F055_4E4C) 0
-    ∷ amid (other 0xE1 0x45 0x0554E4C) 2
-    ∷ amid (other 0xE1 0x44 0x8554E4C) 2
-    ∷ row deviceA (cutAfter 2 0) (other 0xE1 0 0) 2 2499 asBuilt false true
-    ∷ idle (other 0xE1 0 0) 0
     ∷ amid (other 0x2F 0 0x1E0) 0
     ∷ amid (other 0x2F 0 0x11) 2
     ∷ amid (other 0x47 0 0x04) 0
@@ -227,6 +221,14 @@ others =
     ∷ amid (other 0xB0 0xD5 0x10) 2
     ∷ amid (other 0xB0 0xDA 0x77) 0
     ∷ amid (other 0xB0 0xD0 0x30) 2
+    -- 2026-02: "only the Unload form", whatever stands above FEATURE 7:0 and LBA 27:0; "Other forms get 2 during a removal", winding up
+    -- included, and 0 at rest
+    ∷ amid (other 0xE1 0x44 0x0554E4C) 0
+    ∷ amid (other 0xE1 0xFF44 0xFFFF_FFFF_F055_4E4C) 0
+    ∷ amid (other 0xE1 0x45 0x0554E4C) 2
+    ∷ amid (other 0xE1 0x44 0x8554E4C) 2
+    ∷ row deviceA (cutAfter 2 0) (other 0xE1 0 0) 2 2499 asBuilt false true
+    ∷ idle (other 0xE1 0 0) 0
     -- 12h: 4, then 7; in any security state, and during a removal
     ∷ amid (command Locked (registers 0x12 0x4100 1 0) 512) 0
     ∷ idle (command Frozen (registers 0x12 0 1 0) 511) 7
