@@ -5,18 +5,20 @@ use std::io::{self, Write};
 use std::time::{Duration, Instant, SystemTime, UNIX_EPOCH};
 
 use crate::cases::placements::{double, single, Placement};
+use crate::cases::random_dock::{random_dock, random_pages};
 use crate::cases::random_page::random_page;
 use crate::cases::random_pair::random_pair;
-use crate::cases::random_script::random_script;
+use crate::cases::random_scsi::random_scsi_script;
 use crate::cases::rng::Rng;
 use crate::cases::script_text::Text;
+use crate::own::{in_rows, own_answers, own_comparison, own_conversion, own_listing};
 use crate::recorder::{Recorder, Said};
-use crate::rules::bench;
-use crate::rules::compare::compare;
-use crate::rules::listing::list;
+use crate::rules::convert::{input_to_ata, input_to_scsi};
+use crate::rules::listing::{list, list_scsi};
 use crate::rules::script::{meaning, Call, Line};
 
-/// Lines of a random script: many calls for each start of a program.
+/// Lines of a random script, SCSI's calls not counted: many calls for each start
+/// of a program.
 const LINES: usize = 2000;
 /// Placements in one script.
 const BATCH: usize = 60;
@@ -68,7 +70,7 @@ fn side_by_side(recorder: Recorder, seconds: u64) -> io::Result<u64> {
 
 /// The script that a seed stands for.
 pub fn seeded_script(seed: u64) -> Vec<u8> {
-    random_script(seed, LINES)
+    random_scsi_script(seed, LINES)
 }
 
 /// The page that a seed stands for: small ones mostly.
@@ -83,6 +85,15 @@ pub fn seeded_pair(seed: u64) -> (Vec<u8>, Vec<u8>) {
     let mut rng = Rng::new(seed);
     let most = rng.pick(&[1, 1, 2, 3, 3, 10, 128]);
     random_pair(&mut rng, most)
+}
+
+/// The SCSI data that a seed stands for, and the pages that it is converted to.
+pub fn seeded_dock(seed: u64) -> (Vec<u8>, u16) {
+    let mut rng = Rng::new(seed);
+    let most = rng.pick(&[1, 3, 3, 20, 200, 2047]);
+    let data = random_dock(&mut rng, most);
+    let pages = random_pages(&mut rng, &data);
+    (data, pages)
 }
 
 impl Campaign {
@@ -112,7 +123,7 @@ impl Campaign {
         Ok(())
     }
 
-    /// Script after script, page after page and pair after pair.
+    /// Seed after seed: a script, a page, a pair and SCSI data each.
     fn fresh_seeds(&mut self, duration: Duration) -> io::Result<()> {
         let mut seed = time_seed();
         println!("first seed {}", seed);
@@ -121,6 +132,8 @@ impl Campaign {
             self.page(seed, &seeded_page(seed))?;
             let (older, newer) = seeded_pair(seed);
             self.pair(seed, &older, &newer)?;
+            let (data, pages) = seeded_dock(seed);
+            self.dock(seed, &data, pages)?;
             seed = seed.wrapping_add(1);
         }
         Ok(())
@@ -174,37 +187,53 @@ impl Campaign {
         Ok(())
     }
 
+    /// A page listed, and converted.
     fn page(&mut self, seed: u64, page: &[u8]) -> io::Result<()> {
-        self.cases += 1;
+        let inputs = [("page", page)];
         let said = self.recorder.run("list", page)?;
-        let own = own_listing(page);
-        if said != own {
-            self.differences += 1;
-            if self.differences <= SHOWN {
-                println!("difference: list, seed {}", seed);
-                show_both(&own, &said);
-                keep_page("page", seed, page);
-            }
-        }
-        self.progress();
+        self.judge("list", seed, (own_listing(list(page)), said), &inputs);
+        let said = in_rows(self.recorder.convert(&["scsi"], page)?);
+        let own = in_rows(own_conversion(input_to_scsi(page)));
+        self.judge("convert scsi", seed, (own, said), &inputs);
         Ok(())
     }
 
     fn pair(&mut self, seed: u64, older: &[u8], newer: &[u8]) -> io::Result<()> {
-        self.cases += 1;
         let said = self.recorder.compare(older, newer)?;
-        let own = own_comparison(older, newer);
+        let both = (own_comparison(older, newer), said);
+        self.judge("compare", seed, both, &[("older", older), ("newer", newer)]);
+        Ok(())
+    }
+
+    /// SCSI data listed, and converted to so many pages.
+    fn dock(&mut self, seed: u64, data: &[u8], pages: u16) -> io::Result<()> {
+        let inputs = [("dock", data)];
+        let said = self.recorder.list_scsi(data)?;
+        let both = (own_listing(list_scsi(data)), said);
+        self.judge("list --scsi", seed, both, &inputs);
+        let words = ["ata", &pages.to_string()];
+        let said = in_rows(self.recorder.convert(&words, data)?);
+        let own = in_rows(own_conversion(input_to_ata(data, pages)));
+        let call = format!("convert ata {}", pages);
+        self.judge(&call, seed, (own, said), &inputs);
+        Ok(())
+    }
+
+    /// One case: what both said, this program first, and of what.
+    fn judge(&mut self, call: &str, seed: u64, both: (Said, Said), inputs: &[(&str, &[u8])]) {
+        let (own, said) = both;
+        self.cases += 1;
         if said != own {
             self.differences += 1;
             if self.differences <= SHOWN {
-                println!("difference: compare, seed {}", seed);
+                println!("difference: {}, seed {}", call, seed);
                 show_both(&own, &said);
-                keep_page("older", seed, older);
-                keep_page("newer", seed, newer);
+                for (what, bytes) in inputs {
+                    keep_input(what, seed, bytes);
+                }
             }
         }
         self.progress();
-        Ok(())
     }
 
     fn figures(&self) -> String {
@@ -226,39 +255,16 @@ impl Campaign {
     }
 }
 
-fn own_answers(script: &[u8]) -> Said {
-    Said {
-        text: bench::run(script).into_bytes(),
-        status: Some(0),
-    }
-}
-
-fn own_listing(page: &[u8]) -> Said {
-    let listing = list(page);
-    Said {
-        text: listing.text.into_bytes(),
-        status: Some(listing.status),
-    }
-}
-
-fn own_comparison(older: &[u8], newer: &[u8]) -> Said {
-    let comparison = compare(older, newer);
-    Said {
-        text: comparison.text.into_bytes(),
-        status: Some(comparison.status),
-    }
-}
-
-/// Writes a page that shows a difference to a file.
-fn keep_page(what: &str, seed: u64, page: &[u8]) {
+/// Writes an input that shows a difference to a file.
+fn keep_input(what: &str, seed: u64, bytes: &[u8]) {
     let name = format!("difference-{}-{}", what, seed);
-    match fs::write(&name, page) {
-        Ok(()) => println!("the page is in the file {}", name),
-        Err(error) => println!("the page was not written: {}", error),
+    match fs::write(&name, bytes) {
+        Ok(()) => println!("the {} is in the file {}", what, name),
+        Err(error) => println!("the {} was not written: {}", what, error),
     }
 }
 
-/// The first line in which two outputs differ, and both statuses.
+/// The first line in which two outputs differ, both statuses, and refusals.
 fn show_both(own: &Said, said: &Said) {
     let own_lines: Vec<&[u8]> = own.text.split(|&byte| byte == b'\n').collect();
     let said_lines: Vec<&[u8]> = said.text.split(|&byte| byte == b'\n').collect();
@@ -269,8 +275,15 @@ fn show_both(own: &Said, said: &Said) {
         None => String::from("(at its end)"),
     };
     println!("output line {}", place + 1);
-    println!("second:   {} (status {:?})", line(&own_lines), own.status);
-    println!("recorder: {} (status {:?})", line(&said_lines), said.status);
+    for (who, lines, one) in [
+        ("second:  ", own_lines, own),
+        ("recorder:", said_lines, said),
+    ] {
+        println!("{} {} (status {:?})", who, line(&lines), one.status);
+        if let Some(refusal) = &one.refusal {
+            println!("{} {}", who, refusal);
+        }
+    }
 }
 
 /// A seed from the time of day.

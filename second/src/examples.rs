@@ -1,8 +1,9 @@
-//! Document 01's bench examples, run on the bench.
+//! Document 01's bench examples, run on the bench, and some of request 2026-03.
 
+use crate::cases::docks_size::example;
 use crate::cases::pages_size::g1;
 use crate::rules::bench::run;
-use crate::rules::listing::list;
+use crate::rules::listing::{list, list_scsi};
 
 const MAKE_A: &str = "element 1 1 20 3e8 0
 element 3 1 10 5dc 0
@@ -148,4 +149,92 @@ fn media_access() {
     assert_eq!(after(R1, 2), "5 5/21/00");
     assert_eq!(after(R5, 1), "3 3/31/04");
     assert_eq!(after(R6, 1), "3 3/31/04");
+}
+
+/// Request 2026-03: device A's data for filter 1 and report type 1, computed by hand.
+const SCSI: [&str; 3] = [
+    "bytes 64",
+    "0000000100000001000000000002000000000000000000000000000000000000",
+    "0000000000010003000000000000017000000000000001F40000000000000000",
+];
+
+/// What `scsiread` says of it: `0`, the header, then what is in `rest`.
+fn read_back(rest: &str) -> Vec<String> {
+    let text = "0\nnumber 1 returned 1 busy 00000000 limit 2 removed 0\n";
+    let text = format!("{}{}", text, rest);
+    text.lines().map(String::from).collect()
+}
+
+#[test]
+fn scsi_written_and_read() {
+    let written = answers("scsi 1 1 0 ffffffff 40\n");
+    assert_eq!(written, [&[DONE], &SCSI[..]].concat());
+    let read = answers("scsi 1 1 0 40 40\nscsiread 1 1 0\n");
+    assert_eq!(read[4..], read_back("00010003 0 01 70 500\n"));
+}
+
+/// "cut at an allocation length in bytes": 0 writes nothing.
+#[test]
+fn scsi_cut() {
+    assert_eq!(answers("scsi 1 1 0 0 0\n"), [DONE, "bytes 0"]);
+    let header = answers("scsi 1 1 0 5 5\n");
+    assert_eq!(header, [DONE, "bytes 5", "0000000100"]);
+    let cut = answers("scsi 1 1 0 20 20\nscsiread 1 1 0\n");
+    assert_eq!(cut[3..], read_back("cut 0 of 1\n"));
+    let torn = answers("scsi 1 1 0 3f 3f\nscsiread 1 1 0\n");
+    assert_eq!(torn[4..], read_back("torn 0 of 1\n"));
+}
+
+#[test]
+fn scsi_refusals() {
+    assert_eq!(last_answer("scsi 2 0 0 40 0\n"), REFUSED);
+    assert_eq!(last_answer("scsi 0 ff 0 0 0\n"), REFUSED);
+    assert_eq!(last_answer("scsi 1 1 0 40 3f\n"), "7");
+    let offence = |changes: &str| {
+        let script = format!("scsi 1 1 0 40 40\n{}scsiread 1 1 3\n", changes);
+        last_answer(&script)
+    };
+    assert_eq!(offence("length 1f\n"), "9 at 0");
+    assert_eq!(offence("poke 3 2\n"), "9 at 4");
+    assert_eq!(offence("poke 25 0\npoke 27 2\n"), "9 at 36");
+    assert_eq!(offence("poke 2d 1\n"), "9 at 45");
+    assert_eq!(offence("poke 2e 2\n"), "9 at 46");
+    assert_eq!(offence("poke 2f 64\n"), "9 at 47");
+    assert_eq!(offence("length 41\n"), "9 at 64");
+    assert_eq!(offence("poke 0 8\npoke 4 8\n"), "cut 1 of 134217729");
+}
+
+#[test]
+fn converted_there_and_back() {
+    let to_ata = answers("scsi 1 1 0 40 40\ntoata 1 1 0 1 200\n");
+    assert_eq!(to_ata[4], "0");
+    let page = answers("command unlocked 12 4100 1 0 200\n");
+    assert_eq!(to_ata[5..], page[1..]);
+    let back = answers("scsi 1 1 0 40 40\ntoata 1 1 0 1 200\ntoscsi 4100 1 0 40\n");
+    assert_eq!(back[8], "0");
+    assert_eq!(back[9..], SCSI);
+}
+
+#[test]
+fn conversions_refused() {
+    let scsi = "scsi 0 0 0 a0 a0\n";
+    let after = |script: &str| last_answer(&format!("{}{}", scsi, script));
+    assert_eq!(after("toata 0 0 0 0 200\n"), "9 at 4");
+    assert_eq!(after("toata 0 0 0 1 1ff\n"), "7");
+    assert_eq!(after("length 80\ntoata 0 0 0 1 200\n"), "9 at 4");
+    assert_eq!(after("length a1\ntoata 0 0 0 0 0\n"), "9 at 160");
+    let page = "command unlocked 12 0 1 0 200\n";
+    assert_eq!(last_answer(&format!("{}toscsi 0 1 0 9f\n", page)), "7");
+    let cut = format!("{}poke 0 10\npoke 4 f\ntoscsi 0 1 0 10000\n", page);
+    assert_eq!(last_answer(&cut), "9 at 164");
+}
+
+#[test]
+fn scsi_listed() {
+    let whole = "number 1 returned 1 busy 00000000 limit 2 removed 0\n00010003 01 70 500\n";
+    assert_eq!(list_scsi(&example().bytes()).text, whole);
+    let torn = "number 1 returned 1 busy 00000000 limit 2 removed 0\ntorn 0 of 1\n";
+    assert_eq!(list_scsi(&example().length(33).bytes()).text, torn);
+    let refused = "refused 9 at 64\n";
+    assert_eq!(list_scsi(&example().length(65).bytes()).text, refused);
 }

@@ -8,6 +8,7 @@ mod cases;
 #[cfg(test)]
 mod examples;
 mod folder;
+mod own;
 mod recorder;
 mod rules;
 mod vectors;
@@ -18,14 +19,19 @@ use std::io::{self, Read, Write};
 use std::path::Path;
 use std::process::exit;
 
-use rules::{bench, compare, listing};
+use rules::answer::Answer;
+use rules::listing::Listing;
+use rules::{bench, compare, convert, listing};
 
 const USAGE: &str = "usage: second list < PAGE
+       second list --scsi [FILE]
+       second convert scsi [FILE]
+       second convert ata PAGES [FILE]
        second bench < SCRIPT
        second compare OLDER NEWER
        second vectors DIR
        second campaign RECORDER [SECONDS]
-       second seeded script|page|older|newer SEED";
+       second seeded script|page|dock|older|newer SEED";
 
 /// How long a campaign lasts if nothing else is said.
 const SECONDS: u64 = 600;
@@ -33,8 +39,29 @@ const SECONDS: u64 = 600;
 fn main() {
     let words: Vec<String> = env::args().skip(1).collect();
     let words: Vec<&str> = words.iter().map(String::as_str).collect();
-    let outcome = match words.as_slice() {
-        ["list"] => list_input(),
+    match run(&words) {
+        Ok(status) => exit(status),
+        Err(error) => {
+            eprintln!("second: {}", error);
+            exit(2);
+        }
+    }
+}
+
+/// The exit status.
+fn run(words: &[&str]) -> io::Result<i32> {
+    match words {
+        ["list"] => show_listing(listing::list(&input(&[])?)),
+        ["list", "--scsi", file @ ..] if file.len() < 2 => {
+            show_listing(listing::list_scsi(&input(file)?))
+        }
+        ["convert", "scsi", file @ ..] if file.len() < 2 => {
+            hand_out(convert::input_to_scsi(&input(file)?))
+        }
+        ["convert", "ata", pages, file @ ..] if file.len() < 2 => match pages_of(pages) {
+            Some(pages) => hand_out(convert::input_to_ata(&input(file)?, pages)),
+            None => usage(),
+        },
         ["bench"] => bench_input(),
         ["compare", older, newer] => compare_files(older, newer),
         ["vectors", dir] => vectors::write_vectors(Path::new(dir)).map(|()| 0),
@@ -48,13 +75,6 @@ fn main() {
             Err(_) => usage(),
         },
         _ => usage(),
-    };
-    match outcome {
-        Ok(status) => exit(status),
-        Err(error) => {
-            eprintln!("second: {}", error);
-            exit(2);
-        }
     }
 }
 
@@ -63,11 +83,13 @@ fn usage() -> io::Result<i32> {
     Ok(2)
 }
 
-/// The script, the page or a page of the pair of a campaign's seed.
+/// What a seed of a campaign stands for: its script, its page, its SCSI data or a
+/// page of its pair.
 fn seeded(what: &str, seed: u64) -> io::Result<i32> {
     let bytes = match what {
         "script" => campaign::seeded_script(seed),
         "page" => campaign::seeded_page(seed),
+        "dock" => campaign::seeded_dock(seed).0,
         "older" => campaign::seeded_pair(seed).0,
         "newer" => campaign::seeded_pair(seed).1,
         _ => return usage(),
@@ -76,11 +98,40 @@ fn seeded(what: &str, seed: u64) -> io::Result<i32> {
     Ok(0)
 }
 
-/// The listing program.
-fn list_input() -> io::Result<i32> {
-    let listing = listing::list(&read_page(io::stdin())?);
+/// The listing programs.
+fn show_listing(listing: Listing) -> io::Result<i32> {
     io::stdout().write_all(listing.text.as_bytes())?;
     Ok(listing.status)
+}
+
+/// The converters: bytes, or the refusal on standard error and status 1.
+fn hand_out(converted: Result<Vec<u8>, usize>) -> io::Result<i32> {
+    match converted {
+        Ok(bytes) => {
+            io::stdout().write_all(&bytes)?;
+            Ok(0)
+        }
+        Err(place) => {
+            eprintln!("refused {}", Answer::PageRefused { place });
+            Ok(1)
+        }
+    }
+}
+
+/// "PAGES decimal, 0 to 128".
+fn pages_of(word: &str) -> Option<u16> {
+    if !word.bytes().all(|digit| digit.is_ascii_digit()) {
+        return None;
+    }
+    word.parse().ok().filter(|&pages| pages <= 128)
+}
+
+/// What the file holds, or standard input if none is named.
+fn input(file: &[&str]) -> io::Result<Vec<u8>> {
+    match file.first() {
+        Some(path) => page_in(path),
+        None => read_page(io::stdin()),
+    }
 }
 
 /// All of a page, and enough of what is too long for one.

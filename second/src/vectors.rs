@@ -7,17 +7,19 @@ use std::io;
 use std::path::Path;
 
 use crate::cases::draft::Case;
+use crate::cases::gen_docks::dock_cases;
 use crate::cases::gen_pages::page_cases;
 use crate::cases::gen_pairs::pair_cases;
 use crate::cases::gen_scripts::script_cases;
 use crate::cases::pairs::Pairs;
 use crate::rules::bench::run;
 use crate::rules::compare::compare;
-use crate::rules::listing::list;
+use crate::rules::listing::{list, list_scsi};
 
 /// Writes all vectors under `dir`; the same bytes each time.
 pub fn write_vectors(dir: &Path) -> io::Result<()> {
     write_group(&dir.join("pages"), &page_cases(), page_text)?;
+    write_group(&dir.join("docks"), &dock_cases(), dock_text)?;
     write_group(&dir.join("scripts"), &script_cases(), script_text)?;
     write_pairs(&dir.join("pairs"), &pair_cases())
 }
@@ -25,6 +27,11 @@ pub fn write_vectors(dir: &Path) -> io::Result<()> {
 /// The name on a line, then the listing exactly.
 fn page_text(case: &Case) -> String {
     format!("{}\n{}", case.name, list(&case.data).text)
+}
+
+/// The same of SCSI data.
+fn dock_text(case: &Case) -> String {
+    format!("{}\n{}", case.name, list_scsi(&case.data).text)
 }
 
 /// `script` and the name on a line, then the answers from an empty bench.
@@ -98,6 +105,7 @@ mod tests {
     #[test]
     fn names_are_plain_and_differ() {
         check_names(&page_cases());
+        check_names(&dock_cases());
         check_names(&script_cases());
         check_names(pair_cases().pages());
     }
@@ -108,6 +116,14 @@ mod tests {
         let bytes: usize = cases.iter().map(|case| case.data.len()).sum();
         assert!(cases.len() >= 250, "{}", cases.len());
         assert!(bytes <= 1_500_000, "{}", bytes);
+    }
+
+    #[test]
+    fn docks_are_many_and_small() {
+        let cases = dock_cases();
+        let bytes: usize = cases.iter().map(|case| case.data.len()).sum();
+        assert!(cases.len() >= 200, "{}", cases.len());
+        assert!(bytes <= 1_000_000, "{}", bytes);
     }
 
     #[test]

@@ -87,7 +87,7 @@ module _ (b : Bench) (l m : Line) (e : l ≡ m) (page lent : List ℕ) where
   pub at-page : (x : List ℕ) → x ≡ pageOf b m page lent → x ≡ pageOf b l page lent
   at-page x is-x = is-x ∙ sym (rw e)
 
-  pub at-lent : (x : List ℕ) → x ≡ lentOf b m lent → x ≡ lentOf b l lent
+  pub at-lent : (x : List ℕ) → x ≡ lentOf b m page lent → x ≡ lentOf b l page lent
   at-lent x is-x = is-x ∙ sym (rw e)
 
 module _ (b : Bench) (l : Line) (page lent : List ℕ) (z : Act) where
@@ -117,7 +117,7 @@ module _ (b : Bench) (l : Line) (page lent : List ℕ) (t : Bool) (is-t : t ≡ 
     unfolding pageOn
     lacking-page = sym (rw lacks)
 
-    pub lacking-lent : lent ≡ lentOn b l lent
+    pub lacking-lent : lent ≡ lentOn b l page lent
     unfolding lentOn
     lacking-lent = sym (rw lacks)
 
@@ -133,6 +133,6 @@ module _ (b : Bench) (l : Line) (page lent : List ℕ) (t : Bool) (is-t : t ≡ 
     unfolding pageOn
     having-page x is-x = is-x ∙ sym (rw there)
 
-    pub having-lent : (x : List ℕ) → x ≡ lentOf b l lent → x ≡ lentOn b l lent
+    pub having-lent : (x : List ℕ) → x ≡ lentOf b l page lent → x ≡ lentOn b l page lent
     unfolding lentOn
     having-lent x is-x = is-x ∙ sym (rw there)

@@ -8,6 +8,9 @@ use Rattle.acts.specs.declared.Acted.{Acted}
 use Rattle.acts.specs.declared.Reply.the-variants as replies
 use Rattle.acts.specs.declared.Reply.{Reply}
 use Rattle.arguments.specs.declared.Command.{Command}
+use Rattle.arguments.specs.declared.Dock.{Dock}
+use Rattle.arguments.specs.declared.DockCall.the-variants as docks
+use Rattle.arguments.specs.declared.DockCall.{DockCall}
 use Rattle.arguments.specs.declared.Line.the-variants as lines
 use Rattle.arguments.specs.declared.Line.{Line}
 use Rattle.arguments.specs.declared.PageCall.the-variants as calls
@@ -15,12 +18,14 @@ use Rattle.arguments.specs.declared.PageCall.{PageCall}
 use Rattle.arguments.specs.declared.Poke.{Poke}
 use Rattle.device.specs.Machine.{told}
 use Rattle.device.specs.declared.Device.{Device}
+use Rattle.docking.specs.Dock as dock
 use Rattle.events.specs.Events.{bareEvent, gradeEvent}
 use Rattle.front.specs.Front as front
 use Rattle.kept.specs.Kept as kept
 use Rattle.making.specs.Making.{madeOf}
 use Rattle.paper.specs.Answers.{numberOf}
 use Rattle.paper.specs.Told.{Told}
+use Rattle.query.specs.declared.Query.{Query}
 use Rattle.request.specs.declared.Request.{Request}
 use Rattle.slices.specs.Lists.{stored}
 use Rattle.workbench.specs.Changes as changes
@@ -42,6 +47,9 @@ pub data Saying : Type 0 where
   commanded : ℕ → ℕ → ℕ → Saying
   cells : Saying
   reads : Request → Saying
+  readsScsi : Query → Saying
+  -- that of a call for a SCSI host
+  docked : dock.Answered → Saying
 
 abbrev pub heard : Reply → Saying
 heard replies.Nothing = nothing
@@ -53,6 +61,8 @@ heard (replies.Answer a) = answered (numberOf a)
 heard (replies.Command l) = commanded (numberOf (l .answer)) (l .room) (l .count)
 heard replies.Cells = cells
 heard (replies.Read q) = reads q
+heard (replies.ReadScsi q) = readsScsi q
+heard (replies.Dock d) = docked (dock.heard d)
 
 -- the bench after a line, and what it says
 pub record Act : Type 0 where
@@ -100,9 +110,29 @@ abbrev pub pageSaying : PageCall → ℕ → ℕ → Saying
 pageSaying (calls.Length n) before after = longNow after
 pageSaying (calls.Poke p) before after = pokeSaying p before
 pageSaying (calls.Read q) before after = reads q
+pageSaying (calls.ReadScsi q) before after = readsScsi q
 
 abbrev pub afterPage : Bench → PageCall → List ℕ → Act
 afterPage b c page = let n = kept.keptAfter c (b .kept) page in act (changes.withKept b n) (pageSaying c (b .kept) n)
+
+-- ## The calls for a SCSI host: of the device, or of the kept page
+
+abbrev pub dockAnswer : Bench → Dock → List ℕ → List ℕ → dock.Answered
+dockAnswer b c page lent = dock.answeredBy (b .device) c (take (b .kept) page) lent
+
+abbrev pub dockLent : Bench → Dock → List ℕ → List ℕ → List ℕ
+dockLent b c page lent = dock.lentBy (b .device) c (take (b .kept) page) lent
+
+-- "these bytes are kept"; "A refusal keeps what was kept"
+abbrev pub dockBytes : Bench → Dock → List ℕ → List ℕ → List ℕ
+dockBytes b c page lent = take (dockAnswer b c page lent .count) (dockLent b c page lent)
+
+abbrev pub dockPage : Bench → Dock → List ℕ → List ℕ → List ℕ
+dockPage b c page lent = kept.pageData (dockAnswer b c page lent .number) (dockBytes b c page lent) page
+
+abbrev pub afterDock : Bench → Dock → List ℕ → List ℕ → Act
+afterDock b c page lent =
+    let a = dockAnswer b c page lent in act (changes.withKept b (kept.keptData (a .number) (b .kept) (dockBytes b c page lent) page)) (docked a)
 
 -- ## A line
 
@@ -116,6 +146,7 @@ actOf b (lines.Bare e) page lent = afterEvent b (told (b .device) (bareEvent e))
 actOf b (lines.Grade g) page lent = afterEvent b (told (b .device) (gradeEvent g))
 actOf b lines.Cells page lent = act b cells
 actOf b (lines.Page c) page lent = afterPage b c page
+actOf b (lines.Dock c) page lent = afterDock b c page lent
 
 -- what then stands of the kept page
 abbrev pub pageOf : Bench → Line → List ℕ → List ℕ → List ℕ
@@ -128,22 +159,30 @@ pageOf b (lines.Bare e) page lent = page
 pageOf b (lines.Grade g) page lent = page
 pageOf b lines.Cells page lent = page
 pageOf b (lines.Page c) page lent = kept.pageAfter c (b .kept) page
+pageOf b (lines.Dock c) page lent = dockPage b c page lent
 
--- and in the buffer that is lent to the front call
-abbrev pub lentOf : Bench → Line → List ℕ → List ℕ
-lentOf b lines.Passed lent = lent
-lentOf b lines.NotACall lent = lent
-lentOf b (lines.Element e) lent = lent
-lentOf b (lines.Make limit) lent = lent
-lentOf b (lines.Command c) lent = front.lentAfter (b .device) c lent
-lentOf b (lines.Bare e) lent = lent
-lentOf b (lines.Grade g) lent = lent
-lentOf b lines.Cells lent = lent
-lentOf b (lines.Page c) lent = lent
+-- and in the buffer that is lent to a call
+abbrev pub lentOf : Bench → Line → List ℕ → List ℕ → List ℕ
+lentOf b lines.Passed page lent = lent
+lentOf b lines.NotACall page lent = lent
+lentOf b (lines.Element e) page lent = lent
+lentOf b (lines.Make limit) page lent = lent
+lentOf b (lines.Command c) page lent = front.lentAfter (b .device) c lent
+lentOf b (lines.Bare e) page lent = lent
+lentOf b (lines.Grade g) page lent = lent
+lentOf b lines.Cells page lent = lent
+lentOf b (lines.Page c) page lent = lent
+lentOf b (lines.Dock c) page lent = dockLent b c page lent
 
 -- ## "Before the first device"
 
--- "`command`, `step`, `error`, `cut`, the resets, `grade` and `cells` answer `no device`"
+-- `scsi` alone: "the other three need none"
+abbrev pub asksDevice : DockCall → Bool
+asksDevice (docks.Send s) = true
+asksDevice (docks.ToScsi q) = false
+asksDevice (docks.ToAta t) = false
+
+-- "`command`, `step`, `error`, `cut`, the resets, `grade`, `cells` and `scsi` answer `no device`"
 abbrev pub needsDevice : Line → Bool
 needsDevice lines.Passed = false
 needsDevice lines.NotACall = false
@@ -154,6 +193,7 @@ needsDevice (lines.Bare e) = true
 needsDevice (lines.Grade g) = true
 needsDevice lines.Cells = true
 needsDevice (lines.Page c) = false
+needsDevice (lines.Dock c) = asksDevice (c .call)
 
 abbrev pub lacksDevice : Bool → Line → Bool
 lacksDevice made l = not made && needsDevice l
@@ -164,5 +204,5 @@ actedOn b l page lent = cond (lacksDevice (b .made) l) (act b noDevice) (actOf b
 unfoldable pub pageOn : Bench → Line → List ℕ → List ℕ → List ℕ
 pageOn b l page lent = cond (lacksDevice (b .made) l) page (pageOf b l page lent)
 
-unfoldable pub lentOn : Bench → Line → List ℕ → List ℕ
-lentOn b l lent = cond (lacksDevice (b .made) l) lent (lentOf b l lent)
+unfoldable pub lentOn : Bench → Line → List ℕ → List ℕ → List ℕ
+lentOn b l page lent = cond (lacksDevice (b .made) l) lent (lentOf b l page lent)

@@ -7,11 +7,15 @@ ghost use Rattle.paper.specs.Told.{said};
 ghost use Rattle.workbench.specs.Changes.{offering};
 ghost use Rattle.acts.specs.Acts as paper;
 use arguments::Command;
+use arguments::Dock;
+use arguments::DockCall;
 use arguments::Line;
 use arguments::PageCall;
 use arguments::Poke;
 use device::Stepped;
+use docking::Docked;
 use paper::Answer;
+use query::Query;
 use request::Request;
 use workbench::Bench;
 
@@ -33,6 +37,8 @@ pub enum Reply {
     Command(Lent),
     Cells,
     Read(Request),
+    ReadScsi(Query),
+    Dock(Docked),
 }
 
 // The bench after a line, and what it says.
@@ -96,6 +102,7 @@ fn page_reply(call: PageCall, kept: usize, after: usize) -> Reply
         PageCall::Length(_) => Reply::Length(after),
         PageCall::Poke(p) => poke_reply(p, kept),
         PageCall::Read(request) => Reply::Read(request),
+        PageCall::ReadScsi(query) => Reply::ReadScsi(query),
     }
 }
 
@@ -117,6 +124,30 @@ fn on_page(bench: Bench, c: PageCall, page: &mut [u8]) -> Acted
     replied(bench.with_kept(kept), page_reply(c, before, kept))
 }
 
+// A call for a SCSI host, of the device or of the kept page; the bytes that it wrote are kept.
+fn on_dock(bench: Bench, c: Dock, page: &mut [u8], lent: &mut [u8]) -> Acted
+    ensures { λ r. ⌜ paper.acted r ≡ paper.afterDock bench c (now (page .entry)) (now (lent .entry)) ⌝ }
+    ensures { λ _. ⌜ now (page .exit) ≡ paper.dockPage bench c (now (page .entry)) (now (lent .entry)) ⌝ }
+    ensures { λ _. ⌜ now (lent .exit) ≡ paper.dockLent bench c (now (page .entry)) (now (lent .entry)) ⌝ }
+{
+    let d = bench.device;
+    let docked = docking::call(d, c, slices::head(page, bench.kept), lent);
+    let said = docked.said;
+    let written = slices::head(lent, said.count());
+    let kept = kept::keep_data(page, bench.kept, said.number(), written);
+    replied(bench.with_kept(kept), Reply::Dock(docked))
+}
+
+fn does_ask_device(call: DockCall) -> bool
+    ensures { λ r. ⌜ r ≡ paper.asksDevice call ⌝ }
+{
+    match call {
+        DockCall::Send(_) => true,
+        DockCall::ToScsi(_) => false,
+        DockCall::ToAta(_) => false,
+    }
+}
+
 fn needs_device(line: Line) -> bool
     ensures { λ r. ⌜ r ≡ paper.needsDevice line ⌝ }
 {
@@ -130,6 +161,10 @@ fn needs_device(line: Line) -> bool
         Line::Grade(_) => true,
         Line::Cells => true,
         Line::Page(_) => false,
+        Line::Dock(c) => {
+            let call = c.call;
+            does_ask_device(call)
+        }
     }
 }
 
@@ -146,7 +181,7 @@ fn lacks_device(made: bool, line: Line) -> bool
 fn obey(bench: Bench, line: Line, page: &mut [u8], lent: &mut [u8]) -> Acted
     ensures { λ r. ⌜ paper.acted r ≡ paper.actOf bench line (now (page .entry)) (now (lent .entry)) ⌝ }
     ensures { λ _. ⌜ now (page .exit) ≡ paper.pageOf bench line (now (page .entry)) (now (lent .entry)) ⌝ }
-    ensures { λ _. ⌜ now (lent .exit) ≡ paper.lentOf bench line (now (lent .entry)) ⌝ }
+    ensures { λ _. ⌜ now (lent .exit) ≡ paper.lentOf bench line (now (page .entry)) (now (lent .entry)) ⌝ }
 {
     let d = bench.device;
     match line {
@@ -159,6 +194,7 @@ fn obey(bench: Bench, line: Line, page: &mut [u8], lent: &mut [u8]) -> Acted
         Line::Grade(g) => after(bench, events::graded(d, g)),
         Line::Cells => replied(bench, Reply::Cells),
         Line::Page(c) => on_page(bench, c, page),
+        Line::Dock(c) => on_dock(bench, c, page, lent),
     }
 }
 
@@ -166,7 +202,7 @@ fn obey(bench: Bench, line: Line, page: &mut [u8], lent: &mut [u8]) -> Acted
 pub fn call(bench: Bench, line: Line, page: &mut [u8], lent: &mut [u8]) -> Acted
     ensures { λ r. ⌜ paper.acted r ≡ paper.actedOn bench line (now (page .entry)) (now (lent .entry)) ⌝ }
     ensures { λ _. ⌜ now (page .exit) ≡ paper.pageOn bench line (now (page .entry)) (now (lent .entry)) ⌝ }
-    ensures { λ _. ⌜ now (lent .exit) ≡ paper.lentOn bench line (now (lent .entry)) ⌝ }
+    ensures { λ _. ⌜ now (lent .exit) ≡ paper.lentOn bench line (now (page .entry)) (now (lent .entry)) ⌝ }
 {
     if lacks_device(bench.made, line) {
         return replied(bench, Reply::NoDevice);

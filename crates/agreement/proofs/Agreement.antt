@@ -1,26 +1,26 @@
 -- The device's page keeps each rule of the layout, and reads back as what was written (specs/Agreement).
 use Prim.Native.Nat.{ℕ, zero, suc, _+_, _-_, _*_, _^_, _≤_, _<_}
 use mathlib.Core.Bool.{Bool, true, false, cond, false≢true}
-use mathlib.Core.List.{List, [], _∷_, _++_, map, append-assoc}
+use mathlib.Core.List.{List, [], _∷_, _++_, map}
 use mathlib.Core.Path.{_≡_, refl, sym, ap, _∙_, subst}
 use native.Mathlib.Nat.{min-comm}
 use native.Mathlib.Omega.{arith}
 use lib.Dec.{ltb}
-use lib.ListN.{length, getD, take, drop, replicate, length-append, length-take, length-map, getD-replicate, List·getD-map}
-use lib.Seq.{drop-append-add, getD-append-add, getD-take}
+use lib.ListN.{length, getD, take, replicate, length-take, length-map, getD-replicate, List·getD-map}
+use lib.Seq.{getD-append-add, getD-take}
 use borrow.Author.Tests.{lt-ltb, leb-true}
 use Rattle.cells.specs.declared.Note.the-variants.{Empty, Full}
 use Rattle.cells.specs.declared.Note.{Note}
 use Rattle.cells.specs.declared.Removal.{Removal}
 use Rattle.conduct.specs.Fits.{PartFits, Fits}
+use Rattle.device.specs.Record.{removedNumber}
 use Rattle.device.specs.declared.Device.{Device}
-use Rattle.layout.proofs.Bytes.{header-back, descriptor-back}
-use Rattle.layout.specs.Bytes.{headerBytes, headerIn, descriptorIn, roomOf, returnedOf}
+use Rattle.layout.specs.Bytes.{headerIn, laid, roomOf, returnedOf}
 use Rattle.layout.specs.Promises.{HeaderFits, DescriptorFits}
 use Rattle.layout.specs.declared.Descriptor.{Descriptor}
 use Rattle.layout.specs.declared.Header.{Header}
-use Rattle.offences.specs.Checks as checks
-use Rattle.offences.specs.Checks.{baseOf, lastBefore}
+use Rattle.offences.proofs.Laid.{length-laid, laid-header, laid-descriptor}
+use Rattle.offences.specs.Checks.{baseOf, descriptorAt, lastBefore}
 use Rattle.paper.specs.Elements.{removedHealth}
 use Rattle.paper.specs.Told.{tells}
 use Rattle.reader.proofs.LayoutTheorem.{and-both, type-exactly, health-exactly}
@@ -30,17 +30,17 @@ use Rattle.reader.specs.declared.Slot.the-variants.{Holds}
 use Rattle.request.proofs.Requests.{accepted}
 use Rattle.request.specs.Requests.{filterOf, reportTypeOf, pagesOf, refused, takesId, takesType}
 use Rattle.request.specs.declared.Request.{Request}
-use Rattle.slices.proofs.Lists.{length-keep, length-upTo, length-flat, every-take, every-keep, every-at, every-below, kept-all}
-use Rattle.slices.specs.Lists.{Every, keep, upTo, flat, one}
+use Rattle.slices.proofs.Lists.{length-keep, length-upTo, every-take, every-keep, every-at, every-below, kept-all}
+use Rattle.slices.specs.Lists.{Every, keep, upTo, one}
 use Rattle.status.proofs.EveryPage.{list-ascends, whole-pages}
-use Rattle.status.proofs.Page.{bytesOf, wide, shown-ids}
-use Rattle.status.specs.Page.{shownAt, shownAll, listOf, headerOf, pageOf}
+use Rattle.status.specs.Page.{shownAt, shownAll, listOf, headed, headerOf, pageOf}
 use Rattle.table.specs.Elements.{live, blankPart, identifiers, size, ascending, removedCount}
 use Rattle.table.specs.declared.Part.{Part}
 use Rattle.view.specs.Shown.{shownOf, asks, busyOf}
 use Rattle.words.specs.declared.Order.the-variants.{Little}
+use Rattle.words.specs.declared.Order.{Order}
 use Rattle.agreement.specs.Agreement.{Agrees}
-use Rattle.agreement.proofs.Lists.{before, ascending-at, after, flat-at}
+use Rattle.agreement.proofs.Lists.{before, ascending-at}
 
 -- ## An element
 
@@ -89,30 +89,29 @@ getD-there [] k x y h = absurd (omega arith)
 getD-there (z ∷ l) zero x y h = refl
 getD-there (z ∷ l) (suc k) x y h = getD-there l k x y (omega arith)
 
-abbrev none : Descriptor
+abbrev pub none : Descriptor
 none = shownOf blankPart 0
 
 abbrev idOf : Descriptor → ℕ
 idOf x = x .id .0
 
-module _ (d : Device) (q : Request) (fits : Fits d) (asc : ascending 0 (identifiers (d .table)) ≡ true) (ok : refused q ≡ false) where
+-- ## The list of a request
+
+module _ (d : Device) (q : Request) (fits : Fits d) where
   list-is : listOf d q ≡ keep (asks q) (shownAll d)
   unfolding listOf
   list-is = refl
 
-  abbrev n : ℕ
-  n = headerOf d q .returned
-
   size-few : size (d .table) ≤ 128
   size-few = rw (length-map, length-take, fits .full) (omega arith)
 
-  few : length (listOf d q) ≤ 128
+  pub few : length (listOf d q) ≤ 128
   few =
       let h = length-keep (asks q) (shownAll d) in
       let all : length (shownAll d) ≡ size (d .table) = length-map (upTo (size (d .table))) (shownAt d) ∙ length-upTo (size (d .table)) in
       rw list-is (omega (arith, h, all, size-few))
 
-  list-fits : Every DescriptorFits (listOf d q)
+  pub list-fits : Every DescriptorFits (listOf d q)
   list-fits =
       rw list-is (every-keep DescriptorFits (asks q) (shownAll d)
       (every-below DescriptorFits (shownAt d) (size (d .table)) (λ i h.
@@ -126,22 +125,43 @@ module _ (d : Device) (q : Request) (fits : Fits d) (asc : ascending 0 (identifi
   list-clear : Every (λ (x : Descriptor). x .restorable ≡ false) (listOf d q)
   list-clear = rw list-is (every-keep (λ (x : Descriptor). x .restorable ≡ false) (asks q) (shownAll d) (bit-clear d (size (d .table))))
 
-  header-fits : HeaderFits (headerOf d q)
-  header-fits =
+  pub header-fits : (n r : ℕ) → n ≤ 128 → r ≤ 128 → HeaderFits (headed n r (d .cells .note) (d .table .limit) (removedNumber d))
+  header-fits n r few-n few-r =
       let removed = few-removed (take (d .table .count) (d .cells .healths)) in
       let few-cells : length (take (d .table .count) (d .cells .healths)) ≤ 128 = rw (length-take, fits .celled) (omega arith) in
       record {
-        number = omega (arith, few);
-        returned = omega (arith, few);
+        number = omega arith;
+        returned = omega arith;
         busy = busy-fits (d .cells .note) (fits .noted);
         limit = fits .limit;
         removed = omega (arith, removed, few-cells);
       }
 
-  -- ## The page, part by part
+  -- bytes that have its first n elements, in an order, keep the rules of their places
+  module _ (asc : ascending 0 (identifiers (d .table)) ≡ true) (o : Order) (s : List ℕ) (n : ℕ) (less : n ≤ length (listOf d q))
+      (here : (k : ℕ) → k < n → descriptorAt o s k ≡ getD (listOf d q) k none) where
+    id-at : (k : ℕ) → k < n → getD (map idOf (listOf d q)) k 0 ≡ idOf (getD (listOf d q) k none)
+    id-at k l = getD-there (map idOf (listOf d q)) k 0 (idOf none) (rw (length-map (listOf d q) idOf) (omega arith)) ∙ List·getD-map idOf (listOf d q) k none
 
-  abbrev first : List ℕ
-  first = headerBytes Little (headerOf d q)
+    last-here : (k : ℕ) → k < n → lastBefore o s k ≡ before 0 (map idOf (listOf d q)) k
+    last-here zero l = refl
+    last-here (suc k) l = ap idOf (here k (omega arith)) ∙ sym (id-at k (omega arith))
+
+    pub list-here : (k : ℕ) → k < n → Listed q (lastBefore o s k) (descriptorAt o s k)
+    list-here k l =
+        let e = getD (listOf d q) k none in
+        let asked : asks q e ≡ true = every-at (λ (x : Descriptor). asks q x ≡ true) (listOf d q) k none (omega arith) list-asked in
+        let clear : e .restorable ≡ false = every-at (λ (x : Descriptor). x .restorable ≡ false) (listOf d q) k none (omega arith) list-clear in
+        let up : before 0 (map idOf (listOf d q)) k < idOf e =
+        subst (λ (m : ℕ). before 0 (map idOf (listOf d q)) k < m) (id-at k l) (ascending-at 0 (map idOf (listOf d q)) k (rw (length-map (listOf d q) idOf) (omega arith)) (list-ascends d q asc)) in
+        subst (λ (x : Descriptor). Listed q (lastBefore o s k) x) (sym (here k l))
+        (subst (λ (m : ℕ). Listed q m e) (sym (last-here k l)) (asked-listed q (before 0 (map idOf (listOf d q)) k) e asked clear up))
+
+-- ## The page
+
+module _ (d : Device) (q : Request) (fits : Fits d) (asc : ascending 0 (identifiers (d .table)) ≡ true) (ok : refused q ≡ false) where
+  abbrev n : ℕ
+  n = headerOf d q .returned
 
   abbrev listed : List Descriptor
   listed = take (roomOf (pagesOf q)) (listOf d q)
@@ -149,56 +169,30 @@ module _ (d : Device) (q : Request) (fits : Fits d) (asc : ascending 0 (identifi
   abbrev zeros : List ℕ
   zeros = replicate (512 * pagesOf q - 32 * (n + 1)) 0
 
-  parts : pageOf d q ≡ first ++ (flat bytesOf listed ++ zeros)
+  page-is : pageOf d q ≡ laid Little (headerOf d q) listed ++ zeros
   unfolding pageOf
-  parts = append-assoc first (flat bytesOf listed) zeros
+  page-is = refl
 
   listed-length : length listed ≡ n
   listed-length = length-take (roomOf (pagesOf q)) (listOf d q) ∙ min-comm (roomOf (pagesOf q)) (length (listOf d q))
 
-  header-here : headerIn Little (pageOf d q) ≡ headerOf d q
-  header-here = ap (headerIn Little) parts ∙ header-back Little (headerOf d q) (flat bytesOf listed ++ zeros) header-fits
+  pub header-here : headerIn Little (pageOf d q) ≡ headerOf d q
+  header-here = ap (headerIn Little) page-is ∙ laid-header Little (headerOf d q) listed zeros (header-fits d q fits _ _ (few d q fits) (omega (arith, few d q fits)))
 
-  descriptor-here : (k : ℕ) → k < n → checks.descriptorAt Little (pageOf d q) k ≡ getD (listOf d q) k none
+  pub descriptor-here : (k : ℕ) → k < n → descriptorAt Little (pageOf d q) k ≡ getD (listOf d q) k none
   descriptor-here k l =
-      let e = getD (listOf d q) k none in
-      let same : getD listed k none ≡ e = getD-take (roomOf (pagesOf q)) (listOf d q) k none (omega arith) in
-      let fit : DescriptorFits e = every-at DescriptorFits (listOf d q) k none (omega arith) list-fits in
-      let here : drop (baseOf k) (pageOf d q) ≡ bytesOf e ++ after bytesOf 32 wide listed k zeros =
-      ap (drop (baseOf k)) parts
-      ∙ drop-append-add first (flat bytesOf listed ++ zeros) (32 * k)
-      ∙ flat-at bytesOf 32 wide listed k none zeros (omega (arith, listed-length))
-      ∙ ap (λ (x : Descriptor). bytesOf x ++ after bytesOf 32 wide listed k zeros) same in
-      ap (descriptorIn Little) here ∙ descriptor-back Little e (after bytesOf 32 wide listed k zeros) fit
+      ap (λ (s : List ℕ). descriptorAt Little s k) page-is
+      ∙ laid-descriptor Little (headerOf d q) listed zeros (every-take DescriptorFits (roomOf (pagesOf q)) (listOf d q) (list-fits d q fits)) k none (omega (arith, listed-length))
+      ∙ getD-take (roomOf (pagesOf q)) (listOf d q) k none (omega arith)
 
   padding-here : (i : ℕ) → i < length (pageOf d q) - baseOf n → getD (pageOf d q) (baseOf n + i) 0 ≡ 0
   padding-here i l =
       let whole = whole-pages d q (accepted q ok .2) in
-      let front : List ℕ = first ++ flat bytesOf listed in
-      let long : length front ≡ baseOf n = rw (length-append, length-flat bytesOf 32 wide listed, listed-length) in
-      let same : pageOf d q ≡ front ++ zeros = parts ∙ sym (append-assoc first (flat bytesOf listed) zeros) in
-      ap (λ (s : List ℕ). getD s (baseOf n + i) 0) same
+      let front : List ℕ = laid Little (headerOf d q) listed in
+      let long : length front ≡ baseOf n = length-laid Little (headerOf d q) listed ∙ ap baseOf listed-length in
+      ap (λ (s : List ℕ). getD s (baseOf n + i) 0) page-is
       ∙ subst (λ (m : ℕ). getD (front ++ zeros) (m + i) 0 ≡ 0) long
       (getD-append-add front zeros i 0 ∙ getD-replicate (512 * pagesOf q - 32 * (n + 1)) i 0 0 (omega (arith, whole)))
-
-  -- ## Each rule
-
-  id-at : (k : ℕ) → k < n → getD (map idOf (listOf d q)) k 0 ≡ idOf (getD (listOf d q) k none)
-  id-at k l = getD-there (map idOf (listOf d q)) k 0 (idOf none) (rw (length-map (listOf d q) idOf) (omega arith)) ∙ List·getD-map idOf (listOf d q) k none
-
-  last-here : (k : ℕ) → k < n → lastBefore Little (pageOf d q) k ≡ before 0 (map idOf (listOf d q)) k
-  last-here zero l = refl
-  last-here (suc k) l = ap idOf (descriptor-here k (omega arith)) ∙ sym (id-at k (omega arith))
-
-  list-here : (k : ℕ) → k < n → Listed q (lastBefore Little (pageOf d q) k) (checks.descriptorAt Little (pageOf d q) k)
-  list-here k l =
-      let e = getD (listOf d q) k none in
-      let asked : asks q e ≡ true = every-at (λ (x : Descriptor). asks q x ≡ true) (listOf d q) k none (omega arith) list-asked in
-      let clear : e .restorable ≡ false = every-at (λ (x : Descriptor). x .restorable ≡ false) (listOf d q) k none (omega arith) list-clear in
-      let up : before 0 (map idOf (listOf d q)) k < idOf e =
-      subst (λ (m : ℕ). before 0 (map idOf (listOf d q)) k < m) (id-at k l) (ascending-at 0 (map idOf (listOf d q)) k (rw (length-map (listOf d q) idOf) (omega arith)) (list-ascends d q asc)) in
-      subst (λ (x : Descriptor). Listed q (lastBefore Little (pageOf d q) k) x) (sym (descriptor-here k l))
-      (subst (λ (m : ℕ). Listed q m e) (sym (last-here k l)) (asked-listed q (before 0 (map idOf (listOf d q)) k) e asked clear up))
 
   returned-here : headerIn Little (pageOf d q) .returned ≡ n
   returned-here = ap (λ (h : Header). h .returned) header-here
@@ -209,7 +203,7 @@ module _ (d : Device) (q : Request) (fits : Fits d) (asc : ascending 0 (identifi
         asked = accepted q ok;
         long = whole-pages d q (accepted q ok .2);
         returned = returned-here ∙ ap (λ (h : Header). returnedOf (h .number) (pagesOf q)) (sym header-here);
-        list = λ k l. list-here k (rw returned-here at l);
+        list = λ k l. list-here d q fits asc Little (pageOf d q) n (omega arith) descriptor-here k (rw returned-here at l);
         padding = subst (λ (m : ℕ). (i : ℕ) → i < length (pageOf d q) - baseOf m → getD (pageOf d q) (baseOf m + i) 0 ≡ 0) (sym returned-here) padding-here;
       }
 

@@ -3,3 +3,4 @@ pub mod Agreement
 pub mod Examples
 pub mod Lists
 pub mod Pages
+pub mod Sent

@@ -2,3 +2,4 @@
 
 pub mod Agreement
 pub mod Examples
+pub mod Sent

@@ -1,26 +1,18 @@
 // The calls, each from the words of its line.
-ghost use mathlib.Core.Bool.{cond};
 ghost use mathlib.Core.Path.{_≡_};
 ghost use Rattle.arguments.specs.Calls as spec;
-ghost use Rattle.arguments.specs.declared.Line.the-variants.{NotACall};
 use crate::Command;
 use crate::Grade;
 use crate::Line;
 use crate::PageCall;
 use crate::Poke;
+use crate::fitting;
 use lines::field_at;
 use offer::Element;
 use paper::ElementId;
 use paper::Lba;
 use registers::both;
 use registers::each;
-
-// A call if its words fit.
-fn fitting(fits: bool, call: Line) -> Line
-    ensures { λ r. ⌜ r ≡ cond fits call NotACall ⌝ }
-{
-    if fits { call } else { Line::NotACall }
-}
 
 // ---- The calls on the device
 

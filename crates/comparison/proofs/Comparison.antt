@@ -1,12 +1,11 @@
 -- Laws of a comparison's text: one for each way out of a function, and one for each turn of a loop.
-use Prim.Native.Nat.{ℕ, _+_, _^_, _≤_, _<_}
+use Prim.Native.Nat.{ℕ, _+_, _^_, _<_}
 use mathlib.Core.Bool.{Bool, true, false}
 use mathlib.Core.List.{List, [], _++_}
 use mathlib.Core.Path.{_≡_, refl, sym, ap, _∙_}
 use native.Mathlib.Omega.{arith}
 use lib.Dec.{leb}
-use lib.ListN.{length, drop, length-append}
-use borrow.Author.Tests.{leb-true, leb-false}
+use lib.ListN.{length, length-append}
 use Rattle.changes.specs.Changes.{lineOf}
 use Rattle.compare.proofs.Steps.{next-whole}
 use Rattle.compare.proofs.Walking.{walk-done, walk-found, found-leaves}
@@ -18,14 +17,8 @@ use Rattle.compare.specs.declared.Step.the-variants.{Done, Found}
 use Rattle.compare.specs.declared.Step.{Step}
 use Rattle.ending.proofs.Ending.{length-last}
 use Rattle.ending.specs.Ending.{lastLine}
-use Rattle.io.specs.Counts.{Counts}
-use Rattle.listing.proofs.Printing.{printed-small, printed-done, printed-counts}
-use Rattle.listing.specs.Listing.{output, printed}
-use Rattle.paper.specs.Told.{said}
-use Rattle.paper.specs.declared.Answer.the-variants as answer
 use Rattle.reach.specs.Opening.{heard, judged}
 use Rattle.reach.specs.declared.Opening.{Opening}
-use Rattle.slices.proofs.Lists.{stored-front}
 use Rattle.slices.specs.Lists.{stored, ended}
 use Rattle.writing.proofs.Puts.{puts-none, puts-one, puts-more}
 use Rattle.writing.specs.Private.{Puts}
@@ -127,33 +120,8 @@ module _ (s t : List ℕ) (opening : Opening) (is-opening : heard opening ≡ ju
         let long : m + w ≡ length (comparisonOf s t) = omega (arith, ap length whole, length-append (linesFrom a s t first) (lastLine (heard opening .state))) in
         rw long
 
-  module _ (out x y : List ℕ) (lines size : ℕ) (b : Bool) (is-b : b ≡ leb (length (comparisonOf s t)) (length out)) (fit : b ≡ true)
-      (one : Puts out 0 (linesFrom a s t first) x lines)
-      (is-y : y ≡ stored x lines (lastLine (heard opening .state))) (is-size : size ≡ ended x lines (lastLine (heard opening .state))) where
-    room : length (comparisonOf s t) ≤ length out
-    room = leb-true (length (comparisonOf s t)) (length out) (sym is-b ∙ fit)
-
-    stands : (y ≡ stored out 0 (comparisonOf s t)) × (size ≡ 0 + length (comparisonOf s t))
-    unfolding Puts
-    stands =
-        let last : List ℕ = lastLine (heard opening .state) in
-        let both : Puts out 0 (comparisonOf s t) y size =
-        rw whole (puts-more out x 0 lines (linesFrom a s t first) last y size (puts-one x y lines size last is-y is-size) one) in
-        both (omega (arith, room))
-
-    filled : y ≡ comparisonOf s t ++ drop (length (comparisonOf s t)) out
-    filled = stands .0 ∙ stored-front out (comparisonOf s t) room
-
-    long : size ≡ length (comparisonOf s t)
-    long = omega (arith, stands .1)
-
-    pub compared-done : said answer.Done (output size y) ≡ printed (comparisonOf s t) out
-    compared-done = printed-done (comparisonOf s t) out size long (omega (arith, room, long)) y filled
-
-    pub compared-counts : Counts size y
-    compared-counts = printed-counts (comparisonOf s t) out size long (omega (arith, room, long)) y filled
-
-pub compared-small : (s t out : List ℕ) (b : Bool) → b ≡ leb (length (comparisonOf s t)) (length out) → b ≡ false
-    → said answer.SmallBuffer (output 0 out) ≡ printed (comparisonOf s t) out
-compared-small s t out b is-b short =
-    printed-small (comparisonOf s t) out (length (comparisonOf s t)) refl (leb-false (length (comparisonOf s t)) (length out) (sym is-b ∙ short))
+  pub compared-puts : (out x y : List ℕ) (lines size : ℕ) → Puts out 0 (linesFrom a s t first) x lines
+      → y ≡ stored x lines (lastLine (heard opening .state)) → size ≡ ended x lines (lastLine (heard opening .state)) → Puts out 0 (comparisonOf s t) y size
+  compared-puts out x y lines size one is-y is-size =
+      let last : List ℕ = lastLine (heard opening .state) in
+      rw whole (puts-more out x 0 lines (linesFrom a s t first) last y size (puts-one x y lines size last is-y is-size) one)

@@ -4,17 +4,17 @@ use mathlib.Core.List.{List}
 use mathlib.Core.Path.{_≡_}
 use lib.ListN.{length}
 use Rattle.compare.specs.Differences.{differencesOf}
-use Rattle.listing.specs.Listing.{printed}
+use Rattle.paper.specs.Output.{written}
 use Rattle.reach.specs.Opening.{judged}
 use Rattle.reader.specs.Reserved.{Looks-alike}
 use Rattle.words.specs.declared.Order.the-variants.{Little}
 use Rattle.comparison.specs.Comparison.{comparisonOf, statusFor, statusOf}
 
--- No second answer fits a text, and a refusal writes nothing: `listing`'s `One-printing` and `Refusal-writes-nothing`, of any text.
+-- No second answer fits a text, and a refusal writes nothing: `paper`'s `One-output` and `Refusal-writes-nothing`, of any bytes.
 
 -- room for every text: at most 4,094 lines of 38 bytes, or half as many of 68, and a last one of 24
 abbrev pub Enough : Type 0
-Enough = (s t out : List ℕ) → 160000 ≤ length out → printed (comparisonOf s t) out .number ≡ 0
+Enough = (s t out : List ℕ) → 160000 ≤ length out → written (comparisonOf s t) out .number ≡ 0
 
 -- the text tells the exit status
 abbrev pub Tells-status : Type 0

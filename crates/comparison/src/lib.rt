@@ -5,7 +5,7 @@ ghost use lib.Dec.{leb};
 ghost use lib.ListN.{length};
 ghost use Rattle.compare.specs.Walk.{first, frameOf};
 ghost use Rattle.io.specs.Counts.{Counts};
-ghost use Rattle.listing.specs.Listing.{output, printed};
+ghost use Rattle.paper.specs.Output.{output, written};
 ghost use Rattle.paper.specs.Told.{said};
 ghost use Rattle.reach.specs.Opening.{heard, judged};
 ghost use Rattle.writing.specs.Private as writing·private;
@@ -14,8 +14,8 @@ ghost use Rattle.comparison.specs.Private as private;
 use compare::Cursor;
 use compare::Frame;
 use compare::Step;
-use listing::Printed;
 use paper::Answer;
+use paper::Written;
 use reach::Opening;
 
 fn is_accepted(opening: Opening) -> bool
@@ -91,20 +91,20 @@ fn put_lines<'a>(older: &'a [u8], newer: &'a [u8], accepted: bool, out: &mut [u8
 }
 
 // The whole text, or nothing where it does not fit.
-pub fn write<'a>(older: &'a [u8], newer: &'a [u8], out: &mut [u8]) -> Printed
-    ensures { λ r. ⌜ said (r .answer) (output (r .count) (now (out .exit))) ≡ printed (paper.comparisonOf (now (older .entry)) (now (newer .entry))) (now (out .entry)) ⌝ }
+pub fn write<'a>(older: &'a [u8], newer: &'a [u8], out: &mut [u8]) -> Written
+    ensures { λ r. ⌜ said (r .answer) (output (r .count) (now (out .exit))) ≡ written (paper.comparisonOf (now (older .entry)) (now (newer .entry))) (now (out .entry)) ⌝ }
     ensures { λ r. ⌜ Counts (r .count) (now (out .exit)) ⌝ }
 {
     let opening = reach::judge(older, newer);
     if !has_room(older, newer, opening, out.len()) {
-        return Printed {
+        return Written {
             answer: Answer::SmallBuffer,
             count: 0,
         };
     }
     let lines = put_lines(older, newer, is_accepted(opening), out);
     let size = ending::put_last(opening, out, lines);
-    Printed {
+    Written {
         answer: Answer::Done,
         count: size,
     }

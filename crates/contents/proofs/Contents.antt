@@ -2,7 +2,7 @@
 use Prim.Native.Nat.{ℕ, zero, suc, _+_, _*_, _≤_, _<_}
 use mathlib.Core.Bool.{Bool, true, false}
 use mathlib.Core.List.{List, [], _∷_, _++_}
-use mathlib.Core.Path.{_≡_, refl, ap}
+use mathlib.Core.Path.{_≡_, refl, sym, ap, _∙_}
 use native.Mathlib.Numerals.{add-one}
 use native.Mathlib.Omega.{arith}
 use lib.ListN.{length, take, getD, length-append, length-take}
@@ -24,11 +24,12 @@ use Rattle.text.proofs.Digits.{length-decimal}
 use Rattle.text.specs.Digits.{digits, decimalOf}
 use Rattle.text.specs.Text.{ascii}
 use Rattle.words.specs.declared.Order.the-variants.{Little}
+use Rattle.words.specs.declared.Order.{Order}
 use Rattle.writing.proofs.Puts.{puts-none, puts-one, puts-same, puts-more}
 use Rattle.writing.specs.Private.{Puts}
 use Rattle.writing.specs.Writing.{numberLine}
-use Rattle.contents.specs.Contents.{heldLine, slotLine, slotsBelow, readingFor, readingOf}
-use Rattle.contents.specs.Private.{headOf}
+use Rattle.contents.specs.Contents.{heldLine, slotLine, slotsBelow, listText, refusedLine, readingFor, readingOf}
+use Rattle.contents.specs.Private.{headOf, slotAt}
 use Rattle.contents.specs.Promises.{Enough}
 
 -- ## A descriptor's line
@@ -59,29 +60,33 @@ module _ (slot : Slot) (d : List ℕ) (at : ℕ) where
   pub slot-holds : (x : List ℕ) (r : ℕ) (h : Descriptor) → slot ≡ Holds h → Puts d at (heldLine h) x r → Puts d at (slotLine slot) x r
   slot-holds x r h e so = rw e so
 
+-- the slot, by the order that it was found in
+pub at-order : (o found : Order) → o ≡ found → (s : List ℕ) (k : ℕ) (slot : Slot) → slot ≡ slotAt found s k → slot ≡ slotAt o s k
+at-order o found e s k slot is-slot = is-slot ∙ sym (rw e)
+
 -- a turn of the loop
-pub slots-next : (s : List ℕ) (k : ℕ) (slot : Slot) → slot ≡ slotOf Little s k → (d x y : List ℕ) (from at r : ℕ) → Puts x at (slotLine slot) y r
-    → Puts d from (slotsBelow s k) x at → Puts d from (slotsBelow s (k + 1)) y r
-slots-next s k slot is-slot d x y from at r two one =
-    let line : Puts x at (slotLine (slotOf Little s k)) y r = rw is-slot at two in
-    rw (add-one k) (puts-more d x from at (slotsBelow s k) (slotLine (slotOf Little s k)) y r line one)
+pub slots-next : (slots : ℕ → Slot) (k : ℕ) (slot : Slot) → slot ≡ slots k → (d x y : List ℕ) (from at r : ℕ) → Puts x at (slotLine slot) y r
+    → Puts d from (slotsBelow slots k) x at → Puts d from (slotsBelow slots (k + 1)) y r
+slots-next slots k slot is-slot d x y from at r two one =
+    let line : Puts x at (slotLine (slots k)) y r = rw is-slot at two in
+    rw (add-one k) (puts-more d x from at (slotsBelow slots k) (slotLine (slots k)) y r line one)
 
 -- ## The whole text
 
-pub accepted-puts : (s : List ℕ) (h : Header) (d x y z : List ℕ) (at m n r : ℕ) → x ≡ stored d at (ascii "0\n") → m ≡ ended d at (ascii "0\n")
-    → y ≡ stored x m (headerLine h) → n ≡ ended x m (headerLine h) → Puts y n (slotsBelow s (h .returned)) z r → Puts d at (readingFor s (header h)) z r
-accepted-puts s h d x y z at m n r is-x is-m is-y is-n three =
+pub list-puts : (h : Header) (slots : ℕ → Slot) (count : ℕ) (d x y z : List ℕ) (at m n r : ℕ) → x ≡ stored d at (ascii "0\n") → m ≡ ended d at (ascii "0\n")
+    → y ≡ stored x m (headerLine h) → n ≡ ended x m (headerLine h) → Puts y n (slotsBelow slots count) z r → Puts d at (listText h slots count) z r
+list-puts h slots count d x y z at m n r is-x is-m is-y is-n three =
     let one : Puts d at (ascii "0\n") x m = puts-one d x at m (ascii "0\n") is-x is-m in
     let two : Puts x m (headerLine h) y n = puts-one x y m n (headerLine h) is-y is-n in
-    puts-more d y at n (ascii "0\n" ++ headerLine h) (slotsBelow s (h .returned)) z r three (puts-more d x at m (ascii "0\n") (headerLine h) y n two one)
+    puts-more d y at n (ascii "0\n" ++ headerLine h) (slotsBelow slots count) z r three (puts-more d x at m (ascii "0\n") (headerLine h) y n two one)
 
 module _ (s : List ℕ) (answer : Judgement) (d x : List ℕ) (at r : ℕ) where
-  pub judged-accepted : (h : Header) → answer ≡ Accepted h → Puts d at (readingFor s (header h)) x r → Puts d at (readingFor s (heard answer .state)) x r
+  pub judged-accepted : (h : Header) → answer ≡ Accepted h → Puts d at (listText h (slotAt Little s) (h .returned)) x r → Puts d at (readingFor s (heard answer .state)) x r
   judged-accepted h e so = rw e so
 
-  pub judged-refused : (p : ℕ) → answer ≡ Refused p → x ≡ stored d at (numberLine (ascii "9 at ") p) → r ≡ ended d at (numberLine (ascii "9 at ") p)
+  pub judged-refused : (p : ℕ) → answer ≡ Refused p → x ≡ stored d at (refusedLine p) → r ≡ ended d at (refusedLine p)
       → Puts d at (readingFor s (heard answer .state)) x r
-  judged-refused p e is-x is-r = rw e (puts-one d x at r (numberLine (ascii "9 at ") p) is-x is-r)
+  judged-refused p e is-x is-r = rw e (puts-one d x at r (refusedLine p) is-x is-r)
 
 pub reading-puts : (page kept : List ℕ) (q : Request) (answer : Judgement) (d x : List ℕ) (at r : ℕ) → kept ≡ take 65536 page
     → heard answer ≡ readOf Little kept q → Puts d at (readingFor kept (heard answer .state)) x r → Puts d at (readingOf page q) x r
@@ -94,11 +99,19 @@ length-slot : (slot : Slot) → length (slotLine slot) ≤ 38
 length-slot Outside = omega arith
 length-slot (Holds d) = simp length-append (omega (arith, ap length (bit-digit (d .restorable)), length-values d))
 
-length-slots : (s : List ℕ) (k : ℕ) → length (slotsBelow s k) ≤ 38 * k
-length-slots s zero = omega arith
-length-slots s (suc k) =
-    let line : List ℕ = slotLine (slotOf Little s k) in
-    omega (arith, length-append (slotsBelow s k) line, length-slots s k, length-slot (slotOf Little s k))
+length-slots : (slots : ℕ → Slot) (k : ℕ) → length (slotsBelow slots k) ≤ 38 * k
+length-slots slots zero = omega arith
+length-slots slots (suc k) = omega (arith, length-append (slotsBelow slots k) (slotLine (slots k)), length-slots slots k, length-slot (slots k))
+
+pub length-list : (h : Header) (slots : ℕ → Slot) (k : ℕ) → k ≤ 2047 → length (listText h slots k) ≤ 79000
+length-list h slots k less =
+    omega (
+      arith,
+      length-append (ascii "0\n" ++ headerLine h) (slotsBelow slots k),
+      length-append (ascii "0\n") (headerLine h),
+      length-header h,
+      length-slots slots k,
+    )
 
 few : (s : List ℕ) (q : Request) (h : Header) → length s ≤ 65536 → readOf Little s q .state ≡ header h → h .returned ≤ 2047
 few s q h short e =
@@ -108,16 +121,7 @@ few s q h short e =
 
 length-values-of : (s : List ℕ) (q : Request) → length s ≤ 65536 → (v : Values) → readOf Little s q .state ≡ v → length (readingFor s v) ≤ 80000
 length-values-of s q short (place p) e = simp length-append (omega (arith, length-decimal p))
-length-values-of s q short (header h) e =
-    let n : ℕ = h .returned in
-    omega (
-      arith,
-      length-append (ascii "0\n" ++ headerLine h) (slotsBelow s n),
-      length-append (ascii "0\n") (headerLine h),
-      length-header h,
-      length-slots s n,
-      few s q h short e,
-    )
+length-values-of s q short (header h) e = omega (arith, length-list h (slotOf Little s) (h .returned) (few s q h short e))
 
 pub length-reading : (page : List ℕ) (q : Request) → length (readingOf page q) ≤ 80000
 unfolding readingOf

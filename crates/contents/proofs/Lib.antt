@@ -1,4 +1,5 @@
 -- What is proved of a reading.
 pub mod Contents
+pub mod DockContents
 pub mod Examples
 pub mod Reserved

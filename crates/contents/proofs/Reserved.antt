@@ -7,7 +7,7 @@ use lib.ListN.{length}
 use lib.Seq.{take-all}
 use Rattle.paper.specs.Told.{Told}
 use Rattle.reader.proofs.Reserved.{reserved-unseen}
-use Rattle.reader.specs.Judgement.{Values, header, place, readOf}
+use Rattle.reader.specs.Judgement.{Values, header, place, readOf, slotOf}
 use Rattle.reader.specs.Reserved.{Looks-alike}
 use Rattle.request.specs.declared.Request.{Request}
 use Rattle.rows.specs.Rows.{headerLine}
@@ -17,7 +17,7 @@ use Rattle.contents.specs.Contents.{slotLine, slotsBelow, readingFor, re
 use Rattle.contents.specs.Promises.{Reserved-unsaid}
 
 module _ (s t : List ℕ) (alike : Looks-alike Little s t) where
-  slots-same : (n : ℕ) → slotsBelow s n ≡ slotsBelow t n
+  slots-same : (n : ℕ) → slotsBelow (slotOf Little s) n ≡ slotsBelow (slotOf Little t) n
   slots-same zero = refl
   slots-same (suc n) = λ i. slots-same n i ++ slotLine (reserved-unseen Little s t alike .1 n i)
 

@@ -3,6 +3,7 @@ use Prim.Native.Nat.{ℕ, zero, suc}
 use mathlib.Core.List.{List, [], _++_}
 use lib.ListN.{take}
 use Rattle.layout.specs.declared.Descriptor.{Descriptor}
+use Rattle.layout.specs.declared.Header.{Header}
 use Rattle.reader.specs.Judgement.{Values, header, place, readOf, slotOf}
 use Rattle.reader.specs.declared.Slot.the-variants.{Outside, Holds}
 use Rattle.reader.specs.declared.Slot.{Slot}
@@ -24,14 +25,21 @@ slotLine Outside = []
 slotLine (Holds d) = heldLine d
 
 -- the lines of the first n numbers
-abbrev pub slotsBelow : List ℕ → ℕ → List ℕ
-slotsBelow s zero = []
-slotsBelow s (suc n) = slotsBelow s n ++ slotLine (slotOf Little s n)
+abbrev pub slotsBelow : (ℕ → Slot) → ℕ → List ℕ
+slotsBelow slots zero = []
+slotsBelow slots (suc n) = slotsBelow slots n ++ slotLine (slots n)
 
--- "`9 at PLACE` (decimal), or `0`, then `number N ..`, then a line .. for each descriptor"
+-- "a line `0` (without a sense), then a line `number N ..`, then a line .. for each descriptor"
+abbrev pub listText : Header → (ℕ → Slot) → ℕ → List ℕ
+listText h slots n = ascii "0\n" ++ headerLine h ++ slotsBelow slots n
+
+-- "`9 at PLACE` (decimal)"
+abbrev pub refusedLine : ℕ → List ℕ
+refusedLine p = numberLine (ascii "9 at ") p
+
 abbrev pub readingFor : List ℕ → Values → List ℕ
-readingFor s (header h) = ascii "0\n" ++ headerLine h ++ slotsBelow s (h .returned)
-readingFor s (place p) = numberLine (ascii "9 at ") p
+readingFor s (header h) = listText h (slotOf Little s) (h .returned)
+readingFor s (place p) = refusedLine p
 
 -- a kept page has at most 65,536 bytes
 unfoldable pub readingOf : List ℕ → Request → List ℕ

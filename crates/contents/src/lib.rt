@@ -1,15 +1,19 @@
-// What the bench says of the page that it reads: what it holds, or where it is refused; stored straight into a lent buffer.
+// What the bench says of the page or the SCSI data that it reads: what it holds, or where it is refused; stored straight into a lent buffer.
+mod dock;
+
 ghost use mathlib.Core.Path.{_≡_};
-ghost use Rattle.reader.specs.Judgement.{header, heard};
+ghost use Rattle.reader.specs.Judgement.{heard};
 ghost use Rattle.writing.specs.Private as writing·private;
 ghost use Rattle.writing.specs.Writing.{storedIn, endedIn};
-ghost use Rattle.contents.specs.Contents.{heldLine, slotLine, slotsBelow, readingFor, readingOf};
+ghost use Rattle.contents.specs.Contents.{heldLine, slotLine, slotsBelow, listText, readingFor, readingOf};
 ghost use Rattle.contents.specs.Private as private;
+pub use dock::put_scsi_reading;
 use layout::Descriptor;
 use layout::Header;
 use reader::Judgement;
 use reader::Slot;
 use request::Request;
+use words::Order;
 
 // ---- A descriptor's line
 
@@ -40,14 +44,24 @@ fn put_slot(out: &mut [u8], at: usize, slot: Slot) -> usize
     }
 }
 
+// The descriptor at a number, of a page or of SCSI data.
+fn slot_at(bytes: &[u8], k: u32, o: Order) -> Slot
+    ensures { λ r. ⌜ r ≡ private.slotAt o (now (bytes .entry)) k ⌝ }
+{
+    match o {
+        Order::Little => reader::descriptor(bytes, k),
+        Order::Big => scsi::descriptor(bytes, k),
+    }
+}
+
 // The lines of the first `count` descriptors.
-fn put_slots(out: &mut [u8], from: usize, page: &[u8], count: u32) -> usize
-    ensures { λ r. ⌜ writing·private.Puts (now (out .entry)) from (slotsBelow (now (page .entry)) count) (now (out .exit)) r ⌝ }
+fn put_slots(out: &mut [u8], from: usize, bytes: &[u8], count: u32, o: Order) -> usize
+    ensures { λ r. ⌜ writing·private.Puts (now (out .entry)) from (slotsBelow (private.slotAt o (now (bytes .entry))) count) (now (out .exit)) r ⌝ }
 {
     let mut at = from;
     let mut k: u32 = 0;
     while k < count {
-        at = put_slot(out, at, reader::descriptor(page, k));
+        at = put_slot(out, at, slot_at(bytes, k, o));
         k += 1;
     }
     at
@@ -55,19 +69,20 @@ fn put_slots(out: &mut [u8], from: usize, page: &[u8], count: u32) -> usize
 
 // ---- The whole text
 
-fn put_accepted(out: &mut [u8], at: usize, page: &[u8], h: Header) -> usize
-    ensures { λ r. ⌜ writing·private.Puts (now (out .entry)) at (readingFor (now (page .entry)) (header h)) (now (out .exit)) r ⌝ }
+// The header's line, and the lines of the first `count` descriptors.
+fn put_list(out: &mut [u8], at: usize, bytes: &[u8], h: Header, count: u32, o: Order) -> usize
+    ensures { λ r. ⌜ writing·private.Puts (now (out .entry)) at (listText h (private.slotAt o (now (bytes .entry))) count) (now (out .exit)) r ⌝ }
 {
     let a = writing::word(out, at, b"0\n");
     let b = heading::put_header(out, a, h);
-    put_slots(out, b, page, h.returned)
+    put_slots(out, b, bytes, count, o)
 }
 
 fn put_judged(out: &mut [u8], at: usize, page: &[u8], answer: Judgement) -> usize
     ensures { λ r. ⌜ writing·private.Puts (now (out .entry)) at (readingFor (now (page .entry)) (heard answer .state)) (now (out .exit)) r ⌝ }
 {
     match answer {
-        Judgement::Accepted(h) => put_accepted(out, at, page, h),
+        Judgement::Accepted(h) => put_list(out, at, page, h, h.returned, Order::Little),
         Judgement::Refused(place) => writing::numbered(out, at, b"9 at ", place as u64),
     }
 }

@@ -2,8 +2,10 @@
 use Rattle.calls.proofs.Lists.{refused-list-leaves}
 use Rattle.calls.proofs.Refusals.{refusal-leaves-both}
 use Rattle.conduct.proofs.EveryCall.{refusal-leaves}
-use Rattle.listing.proofs.Printing.{refusal-writes-nothing}
+use Rattle.convert.proofs.Outcomes as convert
+use Rattle.paper.proofs.Output.{refusal-writes-nothing}
 use Rattle.status.proofs.EveryPage.{refusal-leaves-bytes}
+use Rattle.status.proofs.Sending.{unsent-leaves-bytes}
 use Rattle.demands.specs.Demand1.{Demand-1}
 
 pub demand-1 : Demand-1
@@ -12,6 +14,8 @@ demand-1 =
       changing = refusal-leaves;
       command = refusal-leaves-both;
       showing = refusal-leaves-bytes;
+      sending = unsent-leaves-bytes;
+      converting = convert.refusal-leaves-bytes;
       making = refused-list-leaves;
       printing = refusal-writes-nothing;
     }

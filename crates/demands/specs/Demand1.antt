@@ -1,9 +1,10 @@
 -- Demand 1: "A refusal has the number of document 01 and changes neither the device nor a byte lent to us." The number is each call's own
 -- promise, and no second one fits (calls/specs/Promises, `One-fits`).
 use Rattle.calls.specs.Promises.{Refusal-leaves-both, Refused-list-leaves}
+use Rattle.convert.specs.Promises as convert
 use Rattle.conduct.specs.Promises.{Refusal-leaves}
-use Rattle.listing.specs.Promises.{Refusal-writes-nothing}
-use Rattle.status.specs.Promises.{Refusal-leaves-bytes}
+use Rattle.paper.specs.Promises.{Refusal-writes-nothing}
+use Rattle.status.specs.Promises.{Refusal-leaves-bytes, Unsent-leaves-bytes}
 
 -- of every call that changes what is lent
 pub record Demand-1 : Type 0 where
@@ -11,6 +12,9 @@ pub record Demand-1 : Type 0 where
   pub changing : Refusal-leaves
   pub command : Refusal-leaves-both
   pub showing : Refusal-leaves-bytes
+  -- the data for a SCSI host, and the conversions
+  pub sending : Unsent-leaves-bytes
+  pub converting : convert.Refusal-leaves-bytes
   pub making : Refused-list-leaves
   -- the listing and the comparison, and any other text in a lent buffer
   pub printing : Refusal-writes-nothing

@@ -1,40 +1,10 @@
 // Compares the status pages in the files that the arguments name two by two, the older first; of several pairs, each after a line with its
 // names. If a file cannot be read, it says so on standard error and compares nothing.
-ghost use Rattle.io.specs.Counts.{Counts};
-use input::Input;
 use libc::STDOUT_FILENO;
 
 // A byte more than may be compared, so that a longer file is seen.
 fn page_room() -> [u8; 65537] {
     [0u8; 65537]
-}
-
-fn read_file(i: usize, buf: &mut [u8]) -> Input
-    ensures { λ r. ⌜ Counts (r .count) (now (buf .exit)) ⌝ }
-{
-    let mut path = io::buffer();
-    let length = os::arg(i, &mut path);
-    let fd = os::open_read(&path[..length]);
-    if fd < 0 {
-        os::fail(&path[..length]);
-        return Input {
-            count: 0,
-            failed: true,
-        };
-    }
-    let page = input::read_whole(fd, buf);
-    if page.failed {
-        os::fail(&path[..length]);
-    }
-    libc::close(fd);
-    page
-}
-
-fn write_name(i: usize, end: &[u8]) {
-    let mut path = io::buffer();
-    let length = os::arg(i, &mut path);
-    io::write_all(STDOUT_FILENO, &path[..length]);
-    io::write_all(STDOUT_FILENO, end);
 }
 
 // Room for every text.
@@ -54,8 +24,8 @@ fn compare<'a>(older: &'a [u8], newer: &'a [u8]) {
 fn compare_files(i: usize, j: usize) {
     let mut older = page_room();
     let mut newer = page_room();
-    let first = read_file(i, &mut older);
-    let second = read_file(j, &mut newer);
+    let first = input::read_file(i, &mut older);
+    let second = input::read_file(j, &mut newer);
     if first.failed {
         return;
     }
@@ -68,8 +38,8 @@ fn compare_files(i: usize, j: usize) {
 }
 
 fn write_names(i: usize, j: usize) {
-    write_name(i, b" ");
-    write_name(j, b"\n");
+    input::write_name(i, b" ");
+    input::write_name(j, b"\n");
 }
 
 fn main() {

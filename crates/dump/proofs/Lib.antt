@@ -1,3 +1,4 @@
 -- What is proved of a lent buffer as text.
+pub mod Data
 pub mod Dump
 pub mod Examples

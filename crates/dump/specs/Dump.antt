@@ -1,5 +1,5 @@
--- docs/BENCH.md, `command`: the page that follows an answer, and the line `touched`.
-use Prim.Native.Nat.{ℕ, zero, suc, _-_, _*_, _/_}
+-- docs/BENCH.md, `command` and `scsi`: the page or the data that follows an answer, and the line `touched`.
+use Prim.Native.Nat.{ℕ, zero, suc, _+_, _-_, _*_, _/_}
 use mathlib.Core.Bool.{Bool, cond}
 use mathlib.Core.List.{List, [], _∷_, _++_}
 use lib.Dec.{eqb, leb}
@@ -42,6 +42,16 @@ rowsOf s n = rowsBelow s (rowsShown s n) ++ zerosLine (n - rowsShown s n)
 -- of a page's whole rows, up to 65,536 bytes
 unfoldable pub pageText : List ℕ → List ℕ
 pageText s = rowsOf (take 65536 s) (length (take 65536 s) / 32)
+
+-- ## Data
+
+-- "a line `bytes N` (decimal) and rows of 64 upper hex digits for each 32 bytes, the last one shorter, zero rows too"
+abbrev pub dataLines : List ℕ → List ℕ
+dataLines s = numberLine (ascii "bytes ") (length s) ++ rowsBelow s ((length s + 31) / 32)
+
+-- up to 65,536 bytes
+unfoldable pub dataText : List ℕ → List ℕ
+dataText s = dataLines (take 65536 s)
 
 -- ## What was left alone
 

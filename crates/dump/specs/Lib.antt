@@ -1,3 +1,4 @@
 -- A lent buffer as text.
 pub mod Dump
+pub mod Private
 pub mod Promises

@@ -1,4 +1,5 @@
-// A lent buffer as the bench shows it, stored straight into another: a page in rows of hexadecimal digits, and the first byte that was touched.
+// A lent buffer as the bench shows it, stored straight into another: a page or data in rows of hexadecimal digits, and the first byte that was
+// touched.
 ghost use mathlib.Core.Path.{_≡_};
 ghost use Prim.Native.Nat.{_*_, _≤_, _<_};
 ghost use lib.ListN.{length, take, drop};
@@ -6,7 +7,8 @@ ghost use Rattle.slices.specs.Lists.{stored, ended};
 ghost use Rattle.text.specs.Digits.{glyph, digits};
 ghost use Rattle.writing.specs.Private as writing·private;
 ghost use Rattle.writing.specs.Writing.{storedIn, endedIn};
-ghost use Rattle.dump.specs.Dump.{rowLine, rowsBelow, isZero, rowsShown, zerosLine, pageText, firstTouched, touchedText};
+ghost use Rattle.dump.specs.Dump.{rowLine, rowsBelow, isZero, rowsShown, zerosLine, pageText, dataLines, dataText, firstTouched, touchedText};
+ghost use Rattle.dump.specs.Private as private;
 
 // ---- A page
 
@@ -106,6 +108,57 @@ pub fn put_page(out: &mut [u8], at: usize, page: &[u8]) -> usize
     let shown = shown_rows(whole, rows);
     let end = put_rows(out, at, whole, shown);
     put_zeros(out, end, rows - shown)
+}
+
+// ---- Data
+
+// The digits of at most 32 bytes, in front of newlines.
+fn digits_of(bytes: &[u8]) -> [u8; 65]
+    requires { ⌜ length (now bytes) ≤ 32 ⌝ }
+    ensures { λ r. ⌜ r ≡ private.begun (now (bytes .entry)) (length (now (bytes .entry))) ⌝ }
+{
+    let mut begun = [b'\n'; 65];
+    let mut k: usize = 0;
+    while k < bytes.len() {
+        let digits = pair(bytes[k]);
+        slices::put(&mut begun, 2 * k, &digits);
+        k += 1;
+    }
+    begun
+}
+
+// The last row, if it has a byte.
+fn put_last(out: &mut [u8], at: usize, bytes: &[u8]) -> usize
+    requires { ⌜ length (now bytes) ≤ 32 ⌝ }
+    ensures { λ r. ⌜ writing·private.Puts (now (out .entry)) at (private.lastLine (now (bytes .entry))) (now (out .exit)) r ⌝ }
+{
+    if bytes.len() == 0 {
+        return at;
+    }
+    let line = digits_of(bytes);
+    let a = writing::word(out, at, slices::head(&line, 2 * bytes.len()));
+    writing::word(out, a, b"\n")
+}
+
+// How many bytes there are, and a row for each 32 of them.
+fn put_lines(out: &mut [u8], at: usize, bytes: &[u8]) -> usize
+    ensures { λ r. ⌜ writing·private.Puts (now (out .entry)) at (dataLines (now (bytes .entry))) (now (out .exit)) r ⌝ }
+{
+    let rows = bytes.len() / 32;
+    let a = writing::numbered(out, at, b"bytes ", bytes.len() as u64);
+    let b = put_rows(out, a, bytes, rows);
+    put_last(out, b, slices::tail(bytes, 32 * rows))
+}
+
+// They are stored as a page is; 134,000 bytes are enough for all data.
+pub fn put_data(out: &mut [u8], at: usize, bytes: &[u8]) -> usize
+    ensures { λ _. ⌜ now (out .exit) ≡ storedIn 134000 (now (out .entry)) at (dataText (now (bytes .entry))) ⌝ }
+    ensures { λ r. ⌜ r ≡ endedIn 134000 (now (out .entry)) at (dataText (now (bytes .entry))) ⌝ }
+{
+    if !slices::does_fit(134000, at, out.len()) {
+        return at;
+    }
+    put_lines(out, at, slices::head(bytes, 65536))
 }
 
 // ---- What was left alone

@@ -15,7 +15,8 @@ pub struct Left {
     pub count: usize,
 }
 
-fn fill(lent: &mut [u8])
+// Fills a buffer that is to be lent.
+pub fn fill(lent: &mut [u8])
     ensures { λ _. ⌜ now (lent .exit) ≡ replicate (length (now (lent .entry))) 0xA5 ⌝ }
 {
     let mut i: usize = 0;

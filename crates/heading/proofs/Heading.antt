@@ -62,9 +62,6 @@ pub width-header : (h : Header) (a b c d : ℕ)
     → 48 + (a + b) + (c + d) ≡ length (headerLine h)
 width-header h a b c d is-a is-b is-c is-d = simp length-append (omega arith)
 
-pub width-refused : (p a : ℕ) → a ≡ length (decimalOf p) → 14 + a ≡ length (refusedLine p)
-width-refused p a is-a = simp length-append (omega arith)
-
 pub length-header : (h : Header) → length (headerLine h) ≤ 128
 length-header h =
     simp length-append

@@ -53,13 +53,6 @@ pub fn put_header(out: &mut [u8], at: usize, h: Header) -> usize
     put_limits(out, begun, h)
 }
 
-// How long the line of a refusal is.
-pub fn refused_width(place: usize) -> usize
-    ensures { λ r. ⌜ r ≡ length (refusedLine place) ⌝ }
-{
-    14 + writing::width(place as u64)
-}
-
 // Stores the line of a refusal from a place on and answers where it ends; nothing, if it does not fit.
 pub fn put_refused(out: &mut [u8], at: usize, place: usize) -> usize
     ensures { λ _. ⌜ now (out .exit) ≡ stored (now (out .entry)) at (refusedLine place) ⌝ }

@@ -8,7 +8,7 @@ use Rattle.arguments.specs.declared.PageCall.{PageCall}
 use Rattle.arguments.specs.declared.Poke.{Poke}
 use Rattle.slices.proofs.Lists.{length-stored}
 use Rattle.slices.specs.Lists.{stored}
-use Rattle.kept.specs.Kept.{lengthened, poked, keptAfter, pageAfter, keptWith}
+use Rattle.kept.specs.Kept.{lengthened, poked, keptAfter, pageAfter, replaced, keptWith, keptData, pageData}
 
 pub length-as-given : (kept n m : ℕ) (page r : List ℕ) → n ≡ m → r ≡ lengthened kept n page → r ≡ lengthened kept m page
 length-as-given kept n m page r is-n is-r = is-r ∙ rw is-n
@@ -29,16 +29,34 @@ module _ (call found : PageCall) (is-found : call ≡ found) (kept : ℕ) (page 
   page-of r is-r = is-r ∙ sym (rw is-found)
 
 -- `after` is the page once the bytes were stored
+module _ (kept : ℕ) (written page after : List ℕ) (is-after : after ≡ stored page 0 written) where
+  same : length after ≡ length page
+  same = ap length is-after ∙ length-stored page written 0
+
+  pub long-replaced : length after < length written → kept ≡ replaced kept written page
+  long-replaced h = sym (rw (lt-leb (length written) (length page) (rw (← same) h)))
+
+  pub some-replaced : length written ≤ length after → length written ≡ replaced kept written page
+  some-replaced h = sym (rw (le-leb (length written) (length page) (rw (← same) h)))
+
 module _ (kept : ℕ) (written page : List ℕ) where
   pub none-kept : length written ≡ 0 → kept ≡ keptWith kept written page
   none-kept e = sym (rw (eq-eqb (length written) 0 e))
 
-  module _ (e : length written ≡ 0 → ⊥) (after : List ℕ) (is-after : after ≡ stored page 0 written) where
-    same : length after ≡ length page
-    same = ap length is-after ∙ length-stored page written 0
+  pub some-kept : (length written ≡ 0 → ⊥) → (r : ℕ) → r ≡ replaced kept written page → r ≡ keptWith kept written page
+  some-kept e r is-r = is-r ∙ sym (rw (ne-eqb (length written) 0 e))
 
-    pub long-kept : length after < length written → kept ≡ keptWith kept written page
-    long-kept h = sym (rw (ne-eqb (length written) 0 e, lt-leb (length written) (length page) (rw (← same) h)))
+  module _ (number : ℕ) where
+    module _ (e : number ≡ 0 → ⊥) where
+      pub refused-kept : kept ≡ keptData number kept written page
+      refused-kept = sym (rw (ne-eqb number 0 e))
 
-    pub some-kept : length written ≤ length after → length written ≡ keptWith kept written page
-    some-kept h = sym (rw (ne-eqb (length written) 0 e, le-leb (length written) (length page) (rw (← same) h)))
+      pub refused-page : page ≡ pageData number written page
+      refused-page = sym (rw (ne-eqb number 0 e))
+
+    module _ (e : number ≡ 0) where
+      pub done-kept : (r : ℕ) → r ≡ replaced kept written page → r ≡ keptData number kept written page
+      done-kept r is-r = is-r ∙ sym (rw (eq-eqb number 0 e))
+
+      pub done-page : (x : List ℕ) → x ≡ stored page 0 written → x ≡ pageData number written page
+      done-page x is-x = is-x ∙ sym (rw (eq-eqb number 0 e))

@@ -22,13 +22,26 @@ abbrev pub keptAfter : PageCall → ℕ → List ℕ → ℕ
 keptAfter (calls.Length n) kept page = min n (length page)
 keptAfter (calls.Poke p) kept page = kept
 keptAfter (calls.Read q) kept page = kept
+keptAfter (calls.ReadScsi q) kept page = kept
 
--- what then stands there; "`read FEATURE COUNT LBA` runs the reader on it" and changes nothing
+-- what then stands there; "`read FEATURE COUNT LBA` runs the reader on it" and changes nothing, nor does `scsiread FILTER TYPE START`
 abbrev pub pageAfter : PageCall → ℕ → List ℕ → List ℕ
 pageAfter (calls.Length n) kept page = lengthened kept (min n (length page)) page
 pageAfter (calls.Poke p) kept page = poked kept p page
 pageAfter (calls.Read q) kept page = page
+pageAfter (calls.ReadScsi q) kept page = page
+
+-- how long it is with some bytes in its place, if there is room for them
+abbrev pub replaced : ℕ → List ℕ → List ℕ → ℕ
+replaced kept written page = cond (leb (length written) (length page)) (length written) kept
 
 -- how long it is after an answer that wrote some bytes: "the page .. is kept", if there is one and room for it. No byte is no page
 abbrev pub keptWith : ℕ → List ℕ → List ℕ → ℕ
-keptWith kept written page = cond (eqb (length written) 0) kept (cond (leb (length written) (length page)) (length written) kept)
+keptWith kept written page = cond (eqb (length written) 0) kept (replaced kept written page)
+
+-- request 2026-03: after 0 "these bytes are kept (one kept page serves both kinds)", and no byte is an empty page; "A refusal keeps what was kept"
+abbrev pub keptData : ℕ → ℕ → List ℕ → List ℕ → ℕ
+keptData number kept written page = cond (eqb number 0) (replaced kept written page) kept
+
+abbrev pub pageData : ℕ → List ℕ → List ℕ → List ℕ
+pageData number written page = cond (eqb number 0) (stored page 0 written) page

@@ -1,29 +1,18 @@
 // The page that the bench keeps: the calls on it, and the page that an answer wrote.
 ghost use mathlib.Core.Path.{_≡_};
-ghost use Prim.Native.Nat.{_≤_, min};
+ghost use Prim.Native.Nat.{min};
 ghost use lib.ListN.{length};
 ghost use Rattle.slices.specs.Lists.{stored};
-ghost use Rattle.kept.specs.Kept.{lengthened, poked, keptAfter, pageAfter, keptWith};
+ghost use Rattle.kept.specs.Kept.{lengthened, poked, keptAfter, pageAfter, replaced, keptWith, keptData, pageData};
 use arguments::PageCall;
 use arguments::Poke;
-
-fn clear(page: &mut [u8], from: usize, to: usize)
-    requires { ⌜ to ≤ length (now page) ⌝ }
-    ensures { λ _. ⌜ now (page .exit) ≡ lengthened from to (now (page .entry)) ⌝ }
-{
-    let mut i = from;
-    while i < to {
-        page[i] = 0;
-        i += 1;
-    }
-}
 
 // Cuts the kept page, or lengthens it with zeros, and returns its length.
 fn set_length(page: &mut [u8], kept: usize, size: usize) -> usize
     ensures { λ r. ⌜ (r ≡ min size (length (now (page .entry)))) × (now (page .exit) ≡ lengthened kept (min size (length (now (page .entry)))) (now (page .entry))) ⌝ }
 {
     let n = slices::smaller(size, page.len());
-    clear(page, kept, n);
+    slices::clear(page, kept, n);
     n
 }
 
@@ -48,19 +37,38 @@ pub fn call(page: &mut [u8], kept: usize, call: PageCall) -> usize
             kept
         }
         PageCall::Read(_) => kept,
+        PageCall::ReadScsi(_) => kept,
     }
+}
+
+// Puts some bytes in the page's place, if there is room, and returns how long the kept page then is.
+fn replace(page: &mut [u8], kept: usize, written: &[u8]) -> usize
+    ensures { λ r. ⌜ (r ≡ replaced kept (now (written .entry)) (now (page .entry))) × (now (page .exit) ≡ stored (now (page .entry)) 0 (now (written .entry))) ⌝ }
+{
+    slices::put(page, 0, written);
+    if page.len() < written.len() {
+        return kept;
+    }
+    written.len()
 }
 
 // Keeps the page that an answer wrote, if it wrote one and there is room, and returns how long the kept page then is.
 pub fn keep(page: &mut [u8], kept: usize, written: &[u8]) -> usize
     ensures { λ r. ⌜ (r ≡ keptWith kept (now (written .entry)) (now (page .entry))) × (now (page .exit) ≡ stored (now (page .entry)) 0 (now (written .entry))) ⌝ }
 {
-    slices::put(page, 0, written);
+    let length = replace(page, kept, written);
     if written.len() == 0 {
         return kept;
     }
-    if page.len() < written.len() {
+    length
+}
+
+// Keeps the bytes that an answer wrote, though there be none, if its number is 0 and there is room; and returns how long the kept page then is.
+pub fn keep_data(page: &mut [u8], kept: usize, number: u8, written: &[u8]) -> usize
+    ensures { λ r. ⌜ (r ≡ keptData number kept (now (written .entry)) (now (page .entry))) × (now (page .exit) ≡ pageData number (now (written .entry)) (now (page .entry))) ⌝ }
+{
+    if number != 0 {
         return kept;
     }
-    written.len()
+    replace(page, kept, written)
 }

@@ -18,6 +18,14 @@ use Rattle.layout.specs.Promises.{Header-back, Descriptor-back}
 use Rattle.layout.specs.declared.Descriptor.{Descriptor}
 use Rattle.layout.specs.declared.Header.{Header}
 
+pub header-wide : (o : Order) (h : Header) → length (headerBytes o h) ≡ 32
+header-wide Little h = refl
+header-wide Big h = refl
+
+pub wide : (o : Order) (d : Descriptor) → length (descriptorBytes o d) ≡ 32
+wide Little d = refl
+wide Big d = refl
+
 -- each field stored at its place, over zeros
 pub header-laid : (o : Order) (h : Header) (n r b l m : List ℕ) (a₁ a₂ a₃ a₄ a₅ : List ℕ)
     → n ≡ bytesOf o 4 (h .number) → a₁ ≡ stored (replicate 32 0) 0 n
@@ -52,23 +60,19 @@ descriptor-fields o s i f k h c is-i is-f is-k is-h is-c =
     λ j. record { id = record { 0 = is-i j }; restorable = eqb (is-f j % 2) 1; kind = is-k j; health = is-h j; capacity = is-c j }
 
 -- of 32 bytes, each looked up
-module _ (s : List ℕ) where
+module _ (o : Order) (s : List ℕ) where
   pub header-whole : (n r b l m : ℕ)
-      → n ≡ number Little (placed 4 s 0) → r ≡ number Little (placed 4 s 4) → b ≡ number Little (placed 4 s 8)
-      → l ≡ number Little (placed 2 s 12) → m ≡ number Little (placed 2 s 14)
-      → record { number = n; returned = r; busy = record { 0 = b }; limit = l; removed = m } ≡ headerIn Little s
+      → n ≡ number o (placed 4 s 0) → r ≡ number o (placed 4 s 4) → b ≡ number o (placed 4 s 8)
+      → l ≡ number o (placed 2 s 12) → m ≡ number o (placed 2 s 14)
+      → record { number = n; returned = r; busy = record { 0 = b }; limit = l; removed = m } ≡ headerIn o s
   header-whole n r b l m is-n is-r is-b is-l is-m =
-      header-fields Little s n r b l m (is-n ∙ number-placed Little 4 s 0) (is-r ∙ number-placed Little 4 s 4) (is-b ∙ number-placed Little 4 s 8)
-      (is-l ∙ number-placed Little 2 s 12) (is-m ∙ number-placed Little 2 s 14)
+      header-fields o s n r b l m (is-n ∙ number-placed o 4 s 0) (is-r ∙ number-placed o 4 s 4) (is-b ∙ number-placed o 4 s 8)
+      (is-l ∙ number-placed o 2 s 12) (is-m ∙ number-placed o 2 s 14)
 
-  pub descriptor-whole : (i c : ℕ) → i ≡ number Little (placed 4 s 4) → c ≡ number Little (placed 8 s 16)
-      → record { id = record { 0 = i }; restorable = eqb (getD s 13 0 % 2) 1; kind = getD s 14 0; health = getD s 15 0; capacity = c } ≡ descriptorIn Little s
+  pub descriptor-whole : (i c : ℕ) → i ≡ number o (placed 4 s 4) → c ≡ number o (placed 8 s 16)
+      → record { id = record { 0 = i }; restorable = eqb (getD s 13 0 % 2) 1; kind = getD s 14 0; health = getD s 15 0; capacity = c } ≡ descriptorIn o s
   descriptor-whole i c is-i is-c =
-      descriptor-fields Little s i (getD s 13 0) (getD s 14 0) (getD s 15 0) c (is-i ∙ number-placed Little 4 s 4) refl refl refl (is-c ∙ number-placed Little 8 s 16)
-
--- where a `match` has told the order
-pub header-little : {o : Order} (s : List ℕ) (h : Header) → o ≡ Little → h ≡ headerIn Little s → h ≡ headerIn o s
-header-little s h e so = so ∙ sym (ap (λ (p : Order). headerIn p s) e)
+      descriptor-fields o s i (getD s 13 0) (getD s 14 0) (getD s 15 0) c (is-i ∙ number-placed o 4 s 4) refl refl refl (is-c ∙ number-placed o 8 s 16)
 
 -- from a place on, where 32 bytes fit
 module _ (s : List ℕ) (at : ℕ) (b : Bool) (is-b : b ≡ fits 32 at (length s)) (so : b ≡ true) where
@@ -78,8 +82,8 @@ module _ (s : List ℕ) (at : ℕ) (b : Bool) (is-b : b ≡ fits 32 at (length s
   pub place-there : 32 ≤ length (take (length s - at) (drop at s))
   place-there = rw (part-end s at) (omega (arith, leb-true (at + 32) (length s) (sym is-b ∙ so), length-drop at s))
 
-pub descriptor-from : (o : Order) (s : List ℕ) (at : ℕ) (d : Descriptor) → o ≡ Little → d ≡ descriptorIn Little (take (length s - at) (drop at s)) → d ≡ descriptorIn o (drop at s)
-descriptor-from o s at d e so = so ∙ ap (descriptorIn Little) (part-end s at) ∙ sym (ap (λ (p : Order). descriptorIn p (drop at s)) e)
+pub descriptor-from : (o : Order) (s : List ℕ) (at : ℕ) (d : Descriptor) → d ≡ descriptorIn o (take (length s - at) (drop at s)) → d ≡ descriptorIn o (drop at s)
+descriptor-from o s at d so = so ∙ ap (descriptorIn o) (part-end s at)
 
 pub descriptor-part : (o : Order) (s u : List ℕ) (at : ℕ) → u ≡ drop at s → (d : Descriptor) → d ≡ descriptorIn o u → d ≡ descriptorIn o (drop at s)
 descriptor-part o s u at is-u d is-d = is-d ∙ ap (descriptorIn o) is-u

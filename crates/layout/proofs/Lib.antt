@@ -1,4 +1,5 @@
 -- What is proved of `layout`'s definitions, and of its functions.
 pub mod Bytes
 pub mod Examples
+pub mod Fits
 pub mod Reserved

@@ -3,7 +3,7 @@ use Prim.Native.Nat.{ℕ, _-_, _*_, _%_, _^_, min}
 use mathlib.Core.List.{List, [], _∷_, _++_}
 use lib.Dec.{eqb}
 use lib.ListN.{getD, replicate}
-use Rattle.slices.specs.Lists.{one}
+use Rattle.slices.specs.Lists.{flat, one}
 use Rattle.words.specs.Bytes.{bytesOf, numberAt}
 use Rattle.words.specs.declared.Order.{Order}
 use Rattle.layout.specs.declared.Descriptor.{Descriptor}
@@ -48,6 +48,10 @@ descriptorIn o s =
       health = getD s 15 0;
       capacity = numberAt o 8 s 16;
     }
+
+-- a header, and descriptors after it
+abbrev pub laid : Order → Header → List Descriptor → List ℕ
+laid o h l = headerBytes o h ++ flat (descriptorBytes o) l
 
 -- ## What a page of p times 512 bytes holds
 

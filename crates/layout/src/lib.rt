@@ -37,17 +37,14 @@ impl Header {
         b
     }
 
-    // The header that a slice starts with; a byte past its end counts as 0. Of 32 bytes in the order of ATA pages none is tested for.
+    // The header that a slice starts with; a byte past its end counts as 0. Of 32 bytes none is tested for.
     pub fn read(s: &[u8], o: Order) -> Header
         ensures { λ r. ⌜ r ≡ headerIn o (now (s .entry)) ⌝ }
     {
         if s.len() < 32 {
             return Header::part(s, o);
         }
-        match o {
-            Order::Little => Header::whole(s),
-            Order::Big => Header::part(s, o),
-        }
+        Header::whole(s, o)
     }
 
     fn part(s: &[u8], o: Order) -> Header
@@ -62,16 +59,16 @@ impl Header {
         }
     }
 
-    fn whole(s: &[u8]) -> Header
+    fn whole(s: &[u8], o: Order) -> Header
         requires { ⌜ 32 ≤ length (now s) ⌝ }
-        ensures { λ r. ⌜ r ≡ headerIn Order.Little (now (s .entry)) ⌝ }
+        ensures { λ r. ⌜ r ≡ headerIn o (now (s .entry)) ⌝ }
     {
         Header {
-            number: words::of4(s[0], s[1], s[2], s[3], Order::Little),
-            returned: words::of4(s[4], s[5], s[6], s[7], Order::Little),
-            busy: ElementId(words::of4(s[8], s[9], s[10], s[11], Order::Little)),
-            limit: words::of2(s[12], s[13], Order::Little),
-            removed: words::of2(s[14], s[15], Order::Little),
+            number: words::of4(s[0], s[1], s[2], s[3], o),
+            returned: words::of4(s[4], s[5], s[6], s[7], o),
+            busy: ElementId(words::of4(s[8], s[9], s[10], s[11], o)),
+            limit: words::of2(s[12], s[13], o),
+            removed: words::of2(s[14], s[15], o),
         }
     }
 }
@@ -95,7 +92,10 @@ impl Descriptor {
     pub fn read(s: &[u8], o: Order) -> Descriptor
         ensures { λ r. ⌜ r ≡ descriptorIn o (now (s .entry)) ⌝ }
     {
-        Descriptor::read_at(s, 0, o)
+        if s.len() < 32 {
+            return Descriptor::part(s, o);
+        }
+        Descriptor::whole(s, o)
     }
 
     // The descriptor that stands from a place on.
@@ -105,10 +105,7 @@ impl Descriptor {
         if !slices::does_fit(32, at, s.len()) {
             return Descriptor::part(slices::tail(s, at), o);
         }
-        match o {
-            Order::Little => Descriptor::whole(&s[at..]),
-            Order::Big => Descriptor::part(slices::tail(s, at), o),
-        }
+        Descriptor::whole(&s[at..], o)
     }
 
     fn part(s: &[u8], o: Order) -> Descriptor
@@ -124,27 +121,17 @@ impl Descriptor {
         }
     }
 
-    fn whole(s: &[u8]) -> Descriptor
+    fn whole(s: &[u8], o: Order) -> Descriptor
         requires { ⌜ 32 ≤ length (now s) ⌝ }
-        ensures { λ r. ⌜ r ≡ descriptorIn Order.Little (now (s .entry)) ⌝ }
+        ensures { λ r. ⌜ r ≡ descriptorIn o (now (s .entry)) ⌝ }
     {
         let flags = s[13];
         Descriptor {
-            id: ElementId(words::of4(s[4], s[5], s[6], s[7], Order::Little)),
+            id: ElementId(words::of4(s[4], s[5], s[6], s[7], o)),
             restorable: flags % 2 == 1,
             kind: s[14],
             health: s[15],
-            capacity: words::of8(
-                s[16],
-                s[17],
-                s[18],
-                s[19],
-                s[20],
-                s[21],
-                s[22],
-                s[23],
-                Order::Little,
-            ),
+            capacity: words::of8(s[16], s[17], s[18], s[19], s[20], s[21], s[22], s[23], o),
         }
     }
 }

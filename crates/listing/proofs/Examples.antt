@@ -4,6 +4,7 @@ use mathlib.Core.Bool.{false}
 use mathlib.Core.List.{List, [], _∷_, _++_}
 use mathlib.Core.Path.{_≡_, refl, ap, _∙_}
 use lib.ListN.{replicate}
+use Rattle.entries.specs.Entries.{linesBelow}
 use Rattle.layout.specs.Bytes.{allOnes}
 use Rattle.layout.specs.Examples.{zeros, headerG1, pageG1}
 use Rattle.layout.specs.declared.Descriptor.{Descriptor}
@@ -13,7 +14,7 @@ use Rattle.request.specs.Requests.{refused, takesHealth}
 use Rattle.rows.specs.Rows.{descriptorLine, headerLine}
 use Rattle.text.specs.Text.{ascii}
 use Rattle.words.specs.declared.Order.the-variants.{Little}
-use Rattle.listing.specs.Listing.{linesBelow, judged, firstLine, lineCount, listingOf}
+use Rattle.listing.specs.Listing.{judged, firstLine, lineCount, listingOf}
 
 -- a page of one descriptor, whose capacity has these bytes: the first, the second, and each of the other six
 abbrev page : ℕ → ℕ → ℕ → List ℕ
@@ -32,7 +33,7 @@ taken a b c = refl
 listed : (a b c : ℕ) (d : Descriptor) → descriptorAt Little (page a b c) 0 ≡ d → listingOf (page a b c) ≡ headerLine headerG1 ++ descriptorLine d
 unfolding listingOf
 listed a b c d is-d =
-    ap (λ (v : Values). firstLine v ++ linesBelow (page a b c) (lineCount v)) (taken a b c)
+    ap (λ (v : Values). firstLine v ++ linesBelow Little (page a b c) (lineCount v)) (taken a b c)
     ∙ ap (λ (x : Descriptor). headerLine headerG1 ++ descriptorLine x) is-d
 
 pub G1 : listingOf pageG1 ≡ ascii "number 1 returned 1 busy 00000000 limit 2 removed 0\n00010003 01 70 500\n"

@@ -2,5 +2,4 @@
 pub mod EveryListing
 pub mod Examples
 pub mod Listing
-pub mod Printing
 pub mod Reserved

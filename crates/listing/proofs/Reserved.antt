@@ -4,6 +4,7 @@ use mathlib.Core.Bool.{cond}
 use mathlib.Core.List.{List, _++_}
 use mathlib.Core.Path.{_≡_, refl}
 use lib.Dec.{ltb}
+use Rattle.entries.specs.Entries.{linesBelow}
 use Rattle.paper.specs.Told.{tells}
 use Rattle.reader.proofs.Reserved.{read-same, descriptor-same}
 use Rattle.reader.specs.Judgement.{place}
@@ -11,11 +12,11 @@ use Rattle.reader.specs.Reserved.{Looks-alike}
 use Rattle.request.specs.Requests.{requestFor}
 use Rattle.rows.specs.Rows.{descriptorLine}
 use Rattle.words.specs.declared.Order.the-variants.{Little}
-use Rattle.listing.specs.Listing.{linesBelow, judged, firstLine, lineCount, listingOf}
+use Rattle.listing.specs.Listing.{judged, firstLine, lineCount, listingOf}
 use Rattle.listing.specs.Promises.{Reserved-unlisted}
 
 module _ (s t : List ℕ) (alike : Looks-alike Little s t) where
-  lines-same : (n : ℕ) → linesBelow s n ≡ linesBelow t n
+  lines-same : (n : ℕ) → linesBelow Little s n ≡ linesBelow Little t n
   lines-same zero = refl
   lines-same (suc n) = λ i. lines-same n i ++ descriptorLine (descriptor-same Little s t alike n i)
 

@@ -1,22 +1,16 @@
 -- Document 01, "The reader", last paragraph: the listing's text, and the lent output buffer.
-use Prim.Native.Nat.{ℕ, zero, suc}
+use Prim.Native.Nat.{ℕ}
 use mathlib.Core.Bool.{cond}
-use mathlib.Core.List.{List, [], _++_}
+use mathlib.Core.List.{List, _++_}
 use lib.Dec.{ltb}
-use lib.ListN.{length, drop}
-use Rattle.offences.specs.Checks.{descriptorAt}
+use lib.ListN.{length}
+use Rattle.entries.specs.Entries.{linesBelow}
+use Rattle.paper.specs.Output.{Output, written}
 use Rattle.paper.specs.Told.{Told, tells}
 use Rattle.reader.specs.Judgement.{Values, header, place, readOf}
 use Rattle.request.specs.Requests.{requestOf}
-use Rattle.rows.specs.Rows.{descriptorLine, headerLine, refusedLine}
+use Rattle.rows.specs.Rows.{headerLine, refusedLine}
 use Rattle.words.specs.declared.Order.the-variants.{Little}
-
--- ## The lines
-
--- the lines of the first n descriptors
-abbrev pub linesBelow : List ℕ → ℕ → List ℕ
-linesBelow s zero = []
-linesBelow s (suc n) = linesBelow s n ++ descriptorLine (descriptorAt Little s n)
 
 -- ## The text
 
@@ -34,22 +28,9 @@ lineCount (place p) = 0
 
 -- "It prints one header and a line for each descriptor .. or `refused 9 at ` and the place."
 unfoldable pub listingOf : List ℕ → List ℕ
-listingOf s = firstLine (judged s .state) ++ linesBelow s (lineCount (judged s .state))
+listingOf s = firstLine (judged s .state) ++ linesBelow Little s (lineCount (judged s .state))
 
 -- ## The lent buffer
 
--- how many bytes were written, and the whole buffer
-pub record Output : Type 0 where
-  pub count : ℕ
-  pub buffer : List ℕ
-
-abbrev pub output : ℕ → List ℕ → Output
-output n out = record { count = n; buffer = out }
-
--- a text in it; a buffer that is too short gets 7 and stays untouched
-abbrev pub printed : List ℕ → List ℕ → Told Output
-printed text out =
-    cond (ltb (length out) (length text)) (tells 7 (output 0 out)) (tells 0 (output (length text) (text ++ drop (length text) out)))
-
 abbrev pub listed : List ℕ → List ℕ → Told Output
-listed s out = printed (listingOf s) out
+listed s out = written (listingOf s) out

@@ -1,23 +1,12 @@
--- What holds of every text in a lent buffer, and of every listing. Each is a statement; proofs/ has the proof under the same name in lower case.
+-- What holds of every listing; that no second answer fits, and that a refusal writes nothing, is said of any bytes in a lent buffer
+-- (paper/specs/Promises). Each is a statement; proofs/ has the proof under the same name in lower case.
 use Prim.Native.Nat.{ℕ, _≤_}
 use mathlib.Core.List.{List}
 use mathlib.Core.Path.{_≡_}
 use lib.ListN.{length}
-use Rattle.paper.specs.Told.{said}
-use Rattle.paper.specs.declared.Answer.{Answer}
 use Rattle.reader.specs.Reserved.{Looks-alike}
 use Rattle.words.specs.declared.Order.the-variants.{Little}
-use Rattle.listing.specs.Listing.{listingOf, output, printed, listed}
-
--- no second answer fits a text, no second number of bytes and no second buffer
-abbrev pub One-printing : Type 0
-One-printing =
-    (text out : List ℕ) (a b : Answer) (m n : ℕ) (x y : List ℕ)
-    → said a (output m x) ≡ printed text out → said b (output n y) ≡ printed text out → (a ≡ b) × (m ≡ n) × (x ≡ y)
-
--- a refusal writes nothing
-abbrev pub Refusal-writes-nothing : Type 0
-Refusal-writes-nothing = (text out : List ℕ) → (printed text out .number ≡ 0 → ⊥) → printed text out .state ≡ output 0 out
+use Rattle.listing.specs.Listing.{listingOf, listed}
 
 -- room for every listing
 abbrev pub Enough : Type 0

@@ -19,20 +19,10 @@ fn list(page: &[u8]) {
 }
 
 fn list_file(i: usize) {
-    let mut path = io::buffer();
-    let length = os::arg(i, &mut path);
-    io::write_all(STDOUT_FILENO, &path[..length]);
-    io::write_all(STDOUT_FILENO, b"\n");
-    let fd = os::open_read(&path[..length]);
-    if fd < 0 {
-        os::fail(&path[..length]);
-        return;
-    }
+    input::write_name(i, b"\n");
     let mut buf = page_room();
-    let page = input::read_whole(fd, &mut buf);
-    libc::close(fd);
+    let page = input::read_file(i, &mut buf);
     if page.failed {
-        os::fail(&path[..length]);
         return;
     }
     let n = page.count;

@@ -39,6 +39,12 @@ pub enum Answer {
     GradeRefused,
 }
 
+// What a call says that writes into a lent buffer, and how many bytes it wrote: none unless it says 0.
+pub struct Written {
+    pub answer: Answer,
+    pub count: usize,
+}
+
 pub struct Sense {
     pub key: u8,
     pub asc: u8,

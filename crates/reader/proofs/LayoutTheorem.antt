@@ -3,7 +3,7 @@ use Prim.Native.Nat.{ℕ, _+_, _-_, _*_, _≤_, _<_}
 use mathlib.Core.Bool.{Bool, true, false, not, _&&_, _||_, or-true, false≢true}
 use mathlib.Core.List.{List, _∷_, _++_}
 use mathlib.Core.Logic.{_⊎_, inl, inr, ⊎-elim}
-use mathlib.Core.Path.{_≡_, refl, ap, subst}
+use mathlib.Core.Path.{_≡_, refl, sym, ap, _∙_}
 use native.Mathlib.Omega.{arith}
 use lib.Dec.{eqb, leb, ltb}
 use lib.ListN.{length, getD}
@@ -25,7 +25,7 @@ use Rattle.reader.specs.Judgement.{Values, header, place, answerOf, read
 use Rattle.reader.specs.Layout.{Rule, rule, below, Asked, InFilter, descriptorRules, rulesAt, paddingRules, pageRules}
 use Rattle.reader.specs.Page.{paddingAt, pageOffence}
 use Rattle.reader.specs.Promises.{Takes-exactly, Refuses-exactly}
-use Rattle.reader.proofs.Rules.{Decides, one, join, next, all-below, clean-if, at-if}
+use Rattle.reader.proofs.Rules.{Decides, one, join, next, all-below, clean-0, at-9, takes, refuses}
 
 -- ## Each test and its rule
 
@@ -106,11 +106,11 @@ descriptor-decides q last base d =
     (next (takesType (reportTypeOf q) (d .kind)) (rule (base + 14) _) (type .0) (type .1) _ _
     (one (takesHealth (filterOf q) (d .health)) (rule (base + 15) _) (health .0) (health .1))))
 
-next-same : (a b p : ℕ) (c : Offence) (rs : List Rule) → Decides c rs → Decides (unless (eqb a b) p orElse c) (rule p (a ≡ b) ∷ rs)
+pub next-same : (a b p : ℕ) (c : Offence) (rs : List Rule) → Decides c rs → Decides (unless (eqb a b) p orElse c) (rule p (a ≡ b) ∷ rs)
 next-same a b p = next (eqb a b) (rule p (a ≡ b)) (eqb-true a b) (eq-eqb a b)
 
 module _ (o : Order) (s : List ℕ) (q : Request) where
-  list-decides : (n : ℕ) → Decides (firstBelow n (offenceAt o s q)) (below n (rulesAt o s q))
+  pub list-decides : (n : ℕ) → Decides (firstBelow n (offenceAt o s q)) (below n (rulesAt o s q))
   list-decides n = all-below n (offenceAt o s q) (rulesAt o s q) (λ k. descriptor-decides q (lastBefore o s k) (baseOf k) (descriptorAt o s k))
 
   padding-decides : (n from : ℕ) → Decides (firstBelow n (paddingAt s from)) (below n (paddingRules s from))
@@ -131,53 +131,47 @@ module _ (o : Order) (s : List ℕ) (q : Request) where
 
 -- ## The theorem
 
-taken : (a : Offence) (h : Header) → answerOf a h .number ≡ 0 → a ≡ Clean
-taken Clean h e = refl
-taken (At p) h e = absurd (let no : _≡_ {A = ℕ} 9 0 = e in omega arith)
-
 placed : Values → ℕ
 placed (header h) = 0
 placed (place p) = p
 
-refused-at : (a : Offence) (h : Header) (p : ℕ) → answerOf a h ≡ tells 9 (place p) → a ≡ At p
-unfolding placed
-refused-at Clean h p e = absurd (let no : _≡_ {A = ℕ} 0 9 = ap (λ (t : Told Values). t .number) e in omega arith)
-refused-at (At r) h p e = ap At (ap (λ (t : Told Values). placed (t .state)) e)
-
 module _ (o : Order) (s : List ℕ) (q : Request) where
-  decided : (a : Offence) → pageOffence o s q ≡ a → Decides a (pageRules o s q)
-  decided a e = subst (λ (x : Offence). Decides x (pageRules o s q)) e (page-decides o s q)
-
-  said : (a : Offence) → pageOffence o s q ≡ a → readOf o s q ≡ answerOf a (headerIn o s)
-  said a e = ap (λ (x : Offence). answerOf x (headerIn o s)) e
+  abbrev answered : Offence → Told Values
+  answered a = answerOf a (headerIn o s)
 
 pub takes-exactly : Takes-exactly
-takes-exactly o s q = (
-  λ e. decided o s q Clean (taken (pageOffence o s q) (headerIn o s) e),
-  λ each. said o s q Clean (clean-if (pageOffence o s q) (pageRules o s q) (page-decides o s q) each),
-)
+takes-exactly o s q = takes (answered o s q) place refl (λ p. refl) (pageOffence o s q) (pageRules o s q) (page-decides o s q)
 
 pub refuses-exactly : Refuses-exactly
-refuses-exactly o s q p = (
-  λ e. decided o s q (At p) (refused-at (pageOffence o s q) (headerIn o s) p e),
-  λ first. said o s q (At p) (at-if (pageOffence o s q) (pageRules o s q) p (page-decides o s q) first),
-)
+unfolding placed
+refuses-exactly o s q = refuses (answered o s q) place refl (λ p. refl) (pageOffence o s q) (pageRules o s q) (page-decides o s q) placed (λ p. refl)
 
--- ## A header that was given
-
-tag : Values → ℕ
-tag (header h) = 0
-tag (place p) = 1
+-- ## What was heard tells the offence
 
 given : Header → Values → Header
 given g (header h) = h
 given g (place p) = g
+
+module _ (o : Order) (s : List ℕ) (q : Request) where
+  -- a header goes with 0, and is the page's
+  pub heard-clean : (h : Header) → tells 0 (header h) ≡ readOf o s q → (pageOffence o s q ≡ Clean) × (h ≡ headerIn o s)
+  unfolding given
+  heard-clean h e =
+      let clean : pageOffence o s q ≡ Clean = clean-0 (answered o s q) place refl (λ p. refl) (pageOffence o s q) (ap (λ (t : Told Values). t .number) (sym e)) in
+      (clean, ap (λ (t : Told Values). given h (t .state)) (e ∙ ap (answered o s q) clean))
+
+  pub heard-at : (p : ℕ) → tells 9 (place p) ≡ readOf o s q → pageOffence o s q ≡ At p
+  unfolding placed
+  heard-at p e = at-9 (answered o s q) place refl (λ r. refl) placed (λ r. refl) (pageOffence o s q) p (sym e)
+
+tag : Values → ℕ
+tag (header h) = 0
+tag (place p) = 1
 
 header-of : (a : Offence) (g h : Header) → answerOf a g .state ≡ header h → (answerOf a g .number ≡ 0) × (g ≡ h)
 unfolding tag given
 header-of Clean g h e = (refl, ap (given g) e)
 header-of (At p) g h e = absurd (let no : _≡_ {A = ℕ} 1 0 = ap tag e in omega arith)
 
--- it goes with 0, and is the page's
 pub with-header : (o : Order) (s : List ℕ) (q : Request) (h : Header) → readOf o s q .state ≡ header h → (readOf o s q .number ≡ 0) × (headerIn o s ≡ h)
 with-header o s q h = header-of (pageOffence o s q) (headerIn o s) h

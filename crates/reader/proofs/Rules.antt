@@ -10,6 +10,7 @@ use borrow.Author.Tests.{eqb-true, eqb-false}
 use Rattle.offences.specs.First.{unless, _orElse_, firstBelow}
 use Rattle.offences.specs.declared.Offence.the-variants.{Clean, At}
 use Rattle.offences.specs.declared.Offence.{Offence}
+use Rattle.paper.specs.Told.{Told, tells}
 use Rattle.reader.specs.Layout.{Rule, Each, FirstBroken, below}
 
 abbrev pub Decides : Offence → List Rule → Type 0
@@ -85,10 +86,35 @@ one-first (x ∷ rs) p r (inl (n, at)) (inr (h, g)) = absurd (n h)
 one-first (x ∷ rs) p r (inr (h, f)) (inl (m, to)) = absurd (m h)
 one-first (x ∷ rs) p r (inr (h, f)) (inr (k, g)) = one-first rs p r f g
 
-pub clean-if : (a : Offence) (rs : List Rule) → Decides a rs → Each rs → a ≡ Clean
+clean-if : (a : Offence) (rs : List Rule) → Decides a rs → Each rs → a ≡ Clean
 clean-if Clean rs v e = refl
 clean-if (At p) rs v e = absurd (never-both rs p e v)
 
-pub at-if : (a : Offence) (rs : List Rule) (p : ℕ) → Decides a rs → FirstBroken rs p → a ≡ At p
+at-if : (a : Offence) (rs : List Rule) (p : ℕ) → Decides a rs → FirstBroken rs p → a ≡ At p
 at-if Clean rs p v f = absurd (never-both rs p v f)
 at-if (At r) rs p v f = ap At (one-first rs r p v f)
+
+-- ## An answer that goes by a check: 0 where it is clean, else 9 with the place
+
+module _ {X : Type 0} (t : Offence → Told X) (place : ℕ → X) (is-0 : t Clean .number ≡ 0) (is-9 : (p : ℕ) → t (At p) ≡ tells 9 (place p)) where
+  pub clean-0 : (a : Offence) → t a .number ≡ 0 → a ≡ Clean
+  clean-0 Clean e = refl
+  clean-0 (At p) e = absurd (let no : _≡_ {A = ℕ} 9 0 = sym (ap (λ (u : Told X). u .number) (is-9 p)) ∙ e in omega arith)
+
+  -- a place can be told from the answer
+  pub at-9 : (placed : X → ℕ) → ((p : ℕ) → placed (place p) ≡ p) → (a : Offence) (p : ℕ) → t a ≡ tells 9 (place p) → a ≡ At p
+  at-9 placed back Clean p e = absurd (let no : _≡_ {A = ℕ} 0 9 = sym is-0 ∙ ap (λ (u : Told X). u .number) e in omega arith)
+  at-9 placed back (At r) p e = ap At (sym (back r) ∙ ap (λ (u : Told X). placed (u .state)) (sym (is-9 r) ∙ e) ∙ back p)
+
+  module _ (a : Offence) (rs : List Rule) (v : Decides a rs) where
+    decided : (b : Offence) → a ≡ b → Decides b rs
+    decided b e = subst (λ (x : Offence). Decides x rs) e v
+
+    -- 0 exactly if each rule holds
+    pub takes : (t a .number ≡ 0 → Each rs) × (Each rs → t a ≡ t Clean)
+    takes = (λ e. decided Clean (clean-0 a e), λ each. ap t (clean-if a rs v each))
+
+    -- 9 with a place exactly if the first rule broken has it
+    pub refuses : (placed : X → ℕ) → ((p : ℕ) → placed (place p) ≡ p) → (p : ℕ)
+        → (t a ≡ tells 9 (place p) → FirstBroken rs p) × (FirstBroken rs p → t a ≡ tells 9 (place p))
+    refuses placed back p = (λ e. decided (At p) (at-9 placed back a p e), λ first. ap t (at-if a rs p v first) ∙ is-9 p)

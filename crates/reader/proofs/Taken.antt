@@ -29,10 +29,10 @@ pub record Listed (q : Request) (last : ℕ) (d : Descriptor) : Type 0 where
   pub filtered : filterOf q ≡ 1 → InFilter (d .health)
 
 module _ (q : Request) (last base : ℕ) (d : Descriptor) where
-  listed-each : Listed q last d → Each (descriptorRules q last base d)
+  pub listed-each : Listed q last d → Each (descriptorRules q last base d)
   listed-each l = ((l .some, l .started, l .rises), (l .earned, (l .typed, (l .filtered, tt))))
 
-  each-listed : Each (descriptorRules q last base d) → Listed q last d
+  pub each-listed : Each (descriptorRules q last base d) → Listed q last d
   each-listed ((some, started, rises), (earned, (typed, (filtered, _)))) =
       record { some = some; started = started; rises = rises; earned = earned; typed = typed; filtered = filtered }
 

@@ -1,11 +1,15 @@
 -- docs/BENCH.md: what the bench says to a line, as text.
 use Prim.Native.Nat.{ℕ}
+use mathlib.Core.Bool.{cond}
 use mathlib.Core.List.{List, [], _++_}
+use lib.Dec.{eqb}
 use lib.ListN.{take}
-use Rattle.acts.specs.Acts.{Saying, nothing, notACall, noDevice, outside, longNow, answered, commanded, cells, reads}
-use Rattle.contents.specs.Contents.{readingOf}
+use Rattle.acts.specs.Acts.{Saying, nothing, notACall, noDevice, outside, longNow, answered, commanded, cells, reads, readsScsi, docked}
+use Rattle.contents.specs.Contents.{refusedLine, readingOf}
+use Rattle.contents.specs.DockContents.{scsiReadingOf}
 use Rattle.device.specs.declared.Device.{Device}
-use Rattle.dump.specs.Dump.{pageText, touchedText}
+use Rattle.docking.specs.Dock.{Kind, scsi, toscsi, toata, Answered}
+use Rattle.dump.specs.Dump.{pageText, dataText, touchedText}
 use Rattle.inventory.specs.Inventory.{cellsOf}
 use Rattle.paper.specs.Answers.{senseOf}
 use Rattle.paper.specs.declared.Sense.{Sense}
@@ -33,6 +37,32 @@ answerLine n = decimalOf n ++ senseText (senseOf n) ++ ascii "\n"
 unfoldable pub lentText : ℕ → ℕ → ℕ → List ℕ → List ℕ
 lentText n room count lent = answerLine n ++ pageText (take count lent) ++ touchedText (take room lent) count
 
+-- ## The calls for a SCSI host
+
+-- "`9 at PLACE`, `7`, or `0` (bare numbers, as `read` answers)"
+abbrev pub bareLine : ℕ → ℕ → List ℕ
+bareLine n place = cond (eqb n 9) (refusedLine place) (decimalOf n ++ ascii "\n")
+
+-- "The answer line as of `command`", of `scsi` alone
+abbrev pub firstLine : Kind → ℕ → ℕ → List ℕ
+firstLine scsi n place = answerLine n
+firstLine toscsi n place = bareLine n place
+firstLine toata n place = bareLine n place
+
+-- "a line `bytes N` (decimal) and rows", or "the page's rows as 12h prints them"
+abbrev pub shownAs : Kind → List ℕ → List ℕ
+shownAs scsi bytes = dataText bytes
+shownAs toscsi bytes = dataText bytes
+shownAs toata bytes = pageText bytes
+
+-- after 0
+abbrev pub bytesText : Kind → ℕ → List ℕ → List ℕ
+bytesText k n bytes = cond (eqb n 0) (shownAs k bytes) []
+
+unfoldable pub dockText : Answered → List ℕ → List ℕ
+dockText a lent =
+    firstLine (a .kind) (a .number) (a .place) ++ bytesText (a .kind) (a .number) (take (a .count) lent) ++ touchedText (take (a .room) lent) (a .count)
+
 -- ## A reply
 
 -- of the device, the kept page and the lent buffer after the call
@@ -46,3 +76,5 @@ textOf (answered n) d page lent = answerLine n
 textOf (commanded n room count) d page lent = lentText n room count lent
 textOf cells d page lent = cellsOf d
 textOf (reads q) d page lent = readingOf page q
+textOf (readsScsi q) d page lent = scsiReadingOf page q
+textOf (docked a) d page lent = dockText a lent

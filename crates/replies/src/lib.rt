@@ -3,13 +3,17 @@ ghost use mathlib.Core.Path.{_≡_};
 ghost use Prim.Native.Nat.{_≤_};
 ghost use lib.ListN.{length};
 ghost use Rattle.acts.specs.Acts.{heard};
+ghost use Rattle.docking.specs.Dock as dock;
 ghost use Rattle.paper.specs.Answers.{numberOf};
 ghost use Rattle.writing.specs.Private as writing·private;
 ghost use Rattle.writing.specs.Writing.{storedIn, endedIn};
-ghost use Rattle.replies.specs.Replies.{codesText, senseText, answerLine, lentText, textOf};
+ghost use Rattle.replies.specs.Replies.{codesText, senseText, answerLine, lentText, bareLine, firstLine, shownAs, bytesText, dockText, textOf};
 use acts::Lent;
 use acts::Reply;
+use convert::Converted;
 use device::Device;
+use docking::Docked;
+use docking::Said;
 use paper::Answer;
 use paper::Sense;
 use paper::Sensed;
@@ -47,6 +51,65 @@ fn put_answer(out: &mut [u8], at: usize, answer: Answer) -> usize
     writing::word(out, b, b"\n")
 }
 
+// ---- The calls for a SCSI host
+
+fn put_bare(out: &mut [u8], c: Converted) -> usize
+    ensures { λ r. ⌜ writing·private.Puts (now (out .entry)) 0 (bareLine (dock.numbered c) (dock.placed c)) (now (out .exit)) r ⌝ }
+{
+    match c {
+        Converted::Done(_) => writing::word(out, 0, b"0\n"),
+        Converted::SmallBuffer => writing::word(out, 0, b"7\n"),
+        Converted::Refused(place) => writing::numbered(out, 0, b"9 at ", place as u64),
+    }
+}
+
+// The first line, of `scsi` with a sense.
+fn put_first(out: &mut [u8], said: Said) -> usize
+    ensures { λ r. ⌜ writing·private.Puts (now (out .entry)) 0 (firstLine (dock.kindSaid said) (dock.numberSaid said) (dock.placeSaid said)) (now (out .exit)) r ⌝ }
+{
+    match said {
+        Said::Sent(w) => {
+            let answer = w.answer;
+            put_answer(out, 0, answer)
+        }
+        Said::ToScsi(c) => put_bare(out, c),
+        Said::ToAta(c) => put_bare(out, c),
+    }
+}
+
+// The bytes that were written, as data or as a page.
+fn put_shown(out: &mut [u8], at: usize, said: Said, bytes: &[u8]) -> usize
+    ensures { λ r. ⌜ (now (out .exit) ≡ storedIn 134000 (now (out .entry)) at (shownAs (dock.kindSaid said) (now (bytes .entry)))) × (r ≡ endedIn 134000 (now (out .entry)) at (shownAs (dock.kindSaid said) (now (bytes .entry)))) ⌝ }
+{
+    match said {
+        Said::Sent(_) => dump::put_data(out, at, bytes),
+        Said::ToScsi(_) => dump::put_data(out, at, bytes),
+        Said::ToAta(_) => dump::put_page(out, at, bytes),
+    }
+}
+
+fn put_bytes(out: &mut [u8], at: usize, said: Said, bytes: &[u8]) -> usize
+    ensures { λ r. ⌜ (now (out .exit) ≡ storedIn 134000 (now (out .entry)) at (bytesText (dock.kindSaid said) (dock.numberSaid said) (now (bytes .entry)))) × (r ≡ endedIn 134000 (now (out .entry)) at (bytesText (dock.kindSaid said) (dock.numberSaid said) (now (bytes .entry)))) ⌝ }
+{
+    if said.number() != 0 {
+        return at;
+    }
+    put_shown(out, at, said, bytes)
+}
+
+// What was said, and what it left in the lent buffer.
+fn put_docked(out: &mut [u8], docked: Docked, lent: &[u8]) -> usize
+    requires { ⌜ 140000 ≤ length (now out) ⌝ }
+    ensures { λ r. ⌜ writing·private.Puts (now (out .entry)) 0 (dockText (dock.heard docked) (now (lent .entry))) (now (out .exit)) r ⌝ }
+{
+    let said = docked.said;
+    let whole = slices::head(lent, docked.room);
+    let count = said.count();
+    let a = put_first(out, said);
+    let b = put_bytes(out, a, said, slices::head(lent, count));
+    dump::put_touched(out, b, whole, count)
+}
+
 // ---- A reply
 
 // The answer of the front call, and what it left in the lent buffer.
@@ -75,6 +138,8 @@ fn put_text(out: &mut [u8], reply: Reply, d: Device, page: &[u8], lent: &[u8]) -
         Reply::Command(said) => put_lent(out, said, lent),
         Reply::Cells => inventory::put_cells(out, 0, d),
         Reply::Read(request) => contents::put_reading(out, 0, page, request),
+        Reply::ReadScsi(query) => contents::put_scsi_reading(out, 0, page, query),
+        Reply::Dock(docked) => put_docked(out, docked, lent),
     }
 }
 

@@ -47,7 +47,7 @@ module _ (h f r : ℕ) (is-f : f ≡ r) where
 
 -- ## For callers
 
-or-false-both : (a b : Bool) → (a || b) ≡ false → (a ≡ false) × (b ≡ false)
+pub or-false-both : (a b : Bool) → (a || b) ≡ false → (a ≡ false) × (b ≡ false)
 or-false-both true b e = absurd (true≢false e)
 or-false-both false b e = (refl, e)
 

@@ -26,10 +26,10 @@ module _ (b : Bench) (line : Gathered) (l : Line) (is-l : l ≡ meaningOf line) 
   pub obeyed-page : (x : List ℕ) → x ≡ pageOn b l page lent → x ≡ pageOn b (meaningOf line) page lent
   obeyed-page x is-x = is-x ∙ ap (λ (m : Line). pageOn b m page lent) is-l
 
-  pub obeyed-lent : (x : List ℕ) → x ≡ lentOn b l lent → x ≡ lentOn b (meaningOf line) lent
-  obeyed-lent x is-x = is-x ∙ ap (λ (m : Line). lentOn b m lent) is-l
+  pub obeyed-lent : (x : List ℕ) → x ≡ lentOn b l page lent → x ≡ lentOn b (meaningOf line) page lent
+  obeyed-lent x is-x = is-x ∙ ap (λ (m : Line). lentOn b m page lent) is-l
 
-  module _ (a : Acted) (p q part : List ℕ) (is-a : acted a ≡ actedOn b l page lent) (is-p : p ≡ pageOn b l page lent) (is-q : q ≡ lentOn b l lent)
+  module _ (a : Acted) (p q part : List ℕ) (is-a : acted a ≡ actedOn b l page lent) (is-p : p ≡ pageOn b l page lent) (is-q : q ≡ lentOn b l page lent)
       (is-part : part ≡ take (a .bench .kept) p) where
     act : acted a ≡ actedOn b (meaningOf line) page lent
     act = is-a ∙ ap (λ (m : Line). actedOn b m page lent) is-l
@@ -59,7 +59,7 @@ module _ (run : Run) (t : Taken) (page lent out : List ℕ) where
     unfolding pageGone
     kept-page = sym (rw e)
 
-    pub kept-lent : lent ≡ lentGone run t lent
+    pub kept-lent : lent ≡ lentGone run t page lent
     unfolding lentGone
     kept-lent = sym (rw e)
 
@@ -77,7 +77,7 @@ module _ (run : Run) (t : Taken) (page lent out : List ℕ) where
     unfolding pageGone
     whole-page x is-x = is-x ∙ sym (rw e)
 
-    pub whole-lent : (x : List ℕ) → x ≡ lentOn (run .bench) (meaningOf (t .line)) lent → x ≡ lentGone run t lent
+    pub whole-lent : (x : List ℕ) → x ≡ lentOn (run .bench) (meaningOf (t .line)) page lent → x ≡ lentGone run t page lent
     unfolding lentGone
     whole-lent x is-x = is-x ∙ sym (rw e)
 
@@ -93,8 +93,8 @@ module _ (run : Run) (t u : Taken) (e : t ≡ u) (page lent out : List ℕ) wher
   pub as-page : (x : List ℕ) → x ≡ pageGone run t page lent → x ≡ pageGone run u page lent
   as-page x is-x = is-x ∙ ap (λ (v : Taken). pageGone run v page lent) e
 
-  pub as-lent : (x : List ℕ) → x ≡ lentGone run t lent → x ≡ lentGone run u lent
-  as-lent x is-x = is-x ∙ ap (λ (v : Taken). lentGone run v lent) e
+  pub as-lent : (x : List ℕ) → x ≡ lentGone run t page lent → x ≡ lentGone run u page lent
+  as-lent x is-x = is-x ∙ ap (λ (v : Taken). lentGone run v page lent) e
 
   pub as-out : (x : List ℕ) → x ≡ outGone run t page lent out → x ≡ outGone run u page lent out
   as-out x is-x = is-x ∙ ap (λ (v : Taken). outGone run v page lent out) e

@@ -27,7 +27,7 @@ newRun = record { line = nothing; bench = empty }
 unfoldable pub textSaid : Bench → Line → List ℕ → List ℕ → List ℕ
 textSaid b l page lent =
     let a = actedOn b l page lent in
-    textOf (a .saying) (a .bench .device) (take (a .bench .kept) (pageOn b l page lent)) (lentOn b l lent)
+    textOf (a .saying) (a .bench .device) (take (a .bench .kept) (pageOn b l page lent)) (lentOn b l page lent)
 
 -- in the buffer, where there is room for every reply
 abbrev pub saidIn : Bench → Gathered → List ℕ → List ℕ → List ℕ → List ℕ
@@ -49,8 +49,8 @@ wentOn run t page lent out =
 unfoldable pub pageGone : Run → Taken → List ℕ → List ℕ → List ℕ
 pageGone run t page lent = cond (t .whole) (pageOn (run .bench) (meaningOf (t .line)) page lent) page
 
-unfoldable pub lentGone : Run → Taken → List ℕ → List ℕ
-lentGone run t lent = cond (t .whole) (lentOn (run .bench) (meaningOf (t .line)) lent) lent
+unfoldable pub lentGone : Run → Taken → List ℕ → List ℕ → List ℕ
+lentGone run t page lent = cond (t .whole) (lentOn (run .bench) (meaningOf (t .line)) page lent) lent
 
 unfoldable pub outGone : Run → Taken → List ℕ → List ℕ → List ℕ → List ℕ
 outGone run t page lent out = cond (t .whole) (saidIn (run .bench) (t .line) page lent out) out

@@ -41,7 +41,7 @@ pub fn new_run() -> Run
 fn obey(bench: Bench, line: Gathered, page: &mut [u8], lent: &mut [u8], out: &mut [u8]) -> Obeyed
     ensures { λ r. ⌜ r ≡ paper.obeyed bench line (now (page .entry)) (now (lent .entry)) (now (out .entry)) ⌝ }
     ensures { λ _. ⌜ now (page .exit) ≡ pageOn bench (meaningOf line) (now (page .entry)) (now (lent .entry)) ⌝ }
-    ensures { λ _. ⌜ now (lent .exit) ≡ lentOn bench (meaningOf line) (now (lent .entry)) ⌝ }
+    ensures { λ _. ⌜ now (lent .exit) ≡ lentOn bench (meaningOf line) (now (page .entry)) (now (lent .entry)) ⌝ }
     ensures { λ _. ⌜ now (out .exit) ≡ paper.saidIn bench line (now (page .entry)) (now (lent .entry)) (now (out .entry)) ⌝ }
 {
     let acted = acts::call(bench, script::meaning_of(line), page, lent);
@@ -55,7 +55,7 @@ fn obey(bench: Bench, line: Gathered, page: &mut [u8], lent: &mut [u8], out: &mu
 fn go_from(run: Run, taken: Taken, page: &mut [u8], lent: &mut [u8], out: &mut [u8]) -> Went
     ensures { λ r. ⌜ r ≡ paper.wentOn run taken (now (page .entry)) (now (lent .entry)) (now (out .entry)) ⌝ }
     ensures { λ _. ⌜ now (page .exit) ≡ paper.pageGone run taken (now (page .entry)) (now (lent .entry)) ⌝ }
-    ensures { λ _. ⌜ now (lent .exit) ≡ paper.lentGone run taken (now (lent .entry)) ⌝ }
+    ensures { λ _. ⌜ now (lent .exit) ≡ paper.lentGone run taken (now (page .entry)) (now (lent .entry)) ⌝ }
     ensures { λ _. ⌜ now (out .exit) ≡ paper.outGone run taken (now (page .entry)) (now (lent .entry)) (now (out .entry)) ⌝ }
 {
     let line = taken.line;
@@ -90,7 +90,7 @@ pub fn go_on(
 ) -> Went
     ensures { λ r. ⌜ r ≡ paper.wentOn run (takenFrom (run .line) (drop from (now (piece .entry))) from) (now (page .entry)) (now (lent .entry)) (now (out .entry)) ⌝ }
     ensures { λ _. ⌜ now (page .exit) ≡ paper.pageGone run (takenFrom (run .line) (drop from (now (piece .entry))) from) (now (page .entry)) (now (lent .entry)) ⌝ }
-    ensures { λ _. ⌜ now (lent .exit) ≡ paper.lentGone run (takenFrom (run .line) (drop from (now (piece .entry))) from) (now (lent .entry)) ⌝ }
+    ensures { λ _. ⌜ now (lent .exit) ≡ paper.lentGone run (takenFrom (run .line) (drop from (now (piece .entry))) from) (now (page .entry)) (now (lent .entry)) ⌝ }
     ensures { λ _. ⌜ now (out .exit) ≡ paper.outGone run (takenFrom (run .line) (drop from (now (piece .entry))) from) (now (page .entry)) (now (lent .entry)) (now (out .entry)) ⌝ }
 {
     let line = run.line;
@@ -101,7 +101,7 @@ pub fn go_on(
 pub fn end_run(run: Run, page: &mut [u8], lent: &mut [u8], out: &mut [u8]) -> usize
     ensures { λ r. ⌜ r ≡ paper.obeyed (run .bench) (run .line) (now (page .entry)) (now (lent .entry)) (now (out .entry)) .said ⌝ }
     ensures { λ _. ⌜ now (page .exit) ≡ pageOn (run .bench) (meaningOf (run .line)) (now (page .entry)) (now (lent .entry)) ⌝ }
-    ensures { λ _. ⌜ now (lent .exit) ≡ lentOn (run .bench) (meaningOf (run .line)) (now (lent .entry)) ⌝ }
+    ensures { λ _. ⌜ now (lent .exit) ≡ lentOn (run .bench) (meaningOf (run .line)) (now (page .entry)) (now (lent .entry)) ⌝ }
     ensures { λ _. ⌜ now (out .exit) ≡ paper.saidIn (run .bench) (run .line) (now (page .entry)) (now (lent .entry)) (now (out .entry)) ⌝ }
 {
     let last = run.line;

@@ -5,16 +5,18 @@ use mathlib.Core.List.{_++_}
 use mathlib.Core.Path.{_≡_, refl}
 use lib.ListN.{replicate}
 use Rattle.arguments.specs.Calls.{elementOf, makeOf, commandOf, gradeOf, lengthOf}
+use Rattle.arguments.specs.DockCalls.{queriedIn, scsiOf, scsireadOf, toscsiOf, toataOf}
 use Rattle.arguments.specs.declared.Bare.the-variants.{Step}
-use Rattle.arguments.specs.declared.Line.the-variants.{Passed, NotACall, Element, Make, Command, Bare, Grade, Page}
+use Rattle.arguments.specs.declared.DockCall.the-variants.{Send, ToScsi, ToAta}
+use Rattle.arguments.specs.declared.Line.the-variants.{Passed, NotACall, Element, Make, Command, Bare, Grade, Page, Dock}
 use Rattle.arguments.specs.declared.Line.{Line}
-use Rattle.arguments.specs.declared.PageCall.the-variants.{Length}
+use Rattle.arguments.specs.declared.PageCall.the-variants.{Length, ReadScsi}
 use Rattle.lines.specs.Numbers.{fieldOf, fieldAt}
 use Rattle.lines.specs.Parts.{wordAt, same, named}
 use Rattle.paper.specs.declared.Security.the-variants.{Unlocked}
 use Rattle.registers.specs.Registers.{stateOf, askedAt}
 use Rattle.text.specs.Text.{ascii}
-use Rattle.script.specs.Names.{pageCall, resetCall, eventCall, deviceCall, lineOf}
+use Rattle.script.specs.Names.{dockCall, pageCall, resetCall, eventCall, deviceCall, lineOf}
 
 abbrev Says : String → Line → Type 0
 Says line call = lineOf (ascii line) ≡ call
@@ -27,6 +29,14 @@ Examples =
     × (Says "grade aBcD CF" (Grade (record { id = record { 0 = 0xABCD }; health = 0xCF })))
     × (Says "length 0000000000010000" (Page (Length 0x1_0000)))
     × (Says "length 10001" NotACall)
+    × (Says "scsi 1 2 30004 ffffffff 10000"
+    (Dock (record { call = Send (record { query = record { filter = 1; report = 2; start = record { 0 = 0x3_0004 } }; allocation = 0xFFFF_FFFF }); length = 0x1_0000 })))
+    × (Says "scsiread ff 0 ffffffff" (Page (ReadScsi (record { filter = 0xFF; report = 0; start = record { 0 = 0xFFFF_FFFF } }))))
+    × (Says "toscsi 4100 2 3 80" (Dock (record { call = ToScsi (record { feature = 0x4100; count = record { 0 = 2 }; lba = record { 0 = 3 } }); length = 128 })))
+    × (Says "toata 1 0 5 ffff 200"
+    (Dock (record { call = ToAta (record { query = record { filter = 1; report = 0; start = record { 0 = 5 } }; pages = record { 0 = 0xFFFF } }); length = 512 })))
+    × (Says "scsiread 100 0 0" NotACall)
+    × (Says "scsi 0 0 0 20" NotACall)
     × (Says "length 00000000000010000" NotACall)
     × (Says "step 1" NotACall)
     × (Says "grade 3" NotACall)
@@ -36,5 +46,5 @@ Examples =
     × (lineOf (ascii "step" ++ replicate 197 32) ≡ NotACall)
 
 pub examples : Examples
-unfolding stateOf askedAt elementOf makeOf commandOf gradeOf lengthOf pageCall resetCall eventCall deviceCall lineOf fieldOf fieldAt wordAt same named
-examples = (refl, refl, refl, refl, refl, refl, refl, refl, refl, refl, refl, refl, refl)
+unfolding stateOf askedAt elementOf makeOf commandOf gradeOf lengthOf queriedIn scsiOf scsireadOf toscsiOf toataOf dockCall pageCall resetCall eventCall deviceCall lineOf fieldOf fieldAt wordAt same named
+examples = (refl, refl, refl, refl, refl, refl, refl, refl, refl, refl, refl, refl, refl, refl, refl, refl, refl, refl, refl)

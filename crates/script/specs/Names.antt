@@ -5,6 +5,7 @@ use mathlib.Core.List.{List}
 use lib.Dec.{ltb}
 use lib.ListN.{take}
 use Rattle.arguments.specs.Calls.{elementOf, makeOf, commandOf, gradeOf, lengthOf, pokeOf, readOf}
+use Rattle.arguments.specs.DockCalls.{scsiOf, scsireadOf, toscsiOf, toataOf}
 use Rattle.arguments.specs.declared.Bare.the-variants.{Step, Error, Cut, Comreset, Hardreset, Softreset}
 use Rattle.arguments.specs.declared.Line.the-variants.{Passed, NotACall, Bare, Cells}
 use Rattle.arguments.specs.declared.Line.{Line}
@@ -13,12 +14,20 @@ use Rattle.pieces.specs.Pieces.{isLong}
 use Rattle.pieces.specs.declared.Gathered.{Gathered}
 use Rattle.text.specs.Text.{ascii}
 
+unfoldable pub dockCall : List ℕ → Line
+dockCall l =
+    cond (named (ascii "scsi") 6 l) (scsiOf l)
+    (cond (named (ascii "scsiread") 4 l) (scsireadOf l)
+    (cond (named (ascii "toscsi") 5 l) (toscsiOf l)
+    (cond (named (ascii "toata") 6 l) (toataOf l)
+    NotACall)))
+
 unfoldable pub pageCall : List ℕ → Line
 pageCall l =
     cond (named (ascii "length") 2 l) (lengthOf l)
     (cond (named (ascii "poke") 3 l) (pokeOf l)
     (cond (named (ascii "read") 4 l) (readOf l)
-    NotACall))
+    (dockCall l)))
 
 unfoldable pub resetCall : List ℕ → Line
 resetCall l =

@@ -10,10 +10,32 @@ use arguments::length_call;
 use arguments::make_call;
 use arguments::poke_call;
 use arguments::read_call;
+use arguments::scsi_call;
+use arguments::scsiread_call;
+use arguments::toata_call;
+use arguments::toscsi_call;
 use lines::is_named;
 use lines::is_passed;
 use pieces::Gathered;
 use pieces::is_long;
+
+fn dock_call(line: &[u8]) -> Line
+    ensures { λ r. ⌜ r ≡ spec.dockCall (now (line .entry)) ⌝ }
+{
+    if is_named(line, b"scsi", 6) {
+        return scsi_call(line);
+    }
+    if is_named(line, b"scsiread", 4) {
+        return scsiread_call(line);
+    }
+    if is_named(line, b"toscsi", 5) {
+        return toscsi_call(line);
+    }
+    if is_named(line, b"toata", 6) {
+        return toata_call(line);
+    }
+    Line::NotACall
+}
 
 fn page_call(line: &[u8]) -> Line
     ensures { λ r. ⌜ r ≡ spec.pageCall (now (line .entry)) ⌝ }
@@ -27,7 +49,7 @@ fn page_call(line: &[u8]) -> Line
     if is_named(line, b"read", 4) {
         return read_call(line);
     }
-    Line::NotACall
+    dock_call(line)
 }
 
 fn reset_call(line: &[u8]) -> Line

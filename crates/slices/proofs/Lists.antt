@@ -7,8 +7,8 @@ use native.Mathlib.Nat.{zero-add, zero-min, min-zero, suc-min-suc, mul-zero, mul
 use native.Mathlib.Numerals.{add-one}
 use native.Mathlib.Omega.{arith}
 use lib.Dec.{leb}
-use lib.ListN.{length, getD, take, drop, set, length-append, length-take, length-drop, length-replicate, drop-of-length-le, take-append-drop, replicate, replicate-append-replicate}
-use lib.Seq.{take-suc, drop-cons, getD-take, drop-append-le, drop-append-add, drop-drop, take-at, length-take-le, paste, take-all, set-split, set-append-seam, append-snoc}
+use lib.ListN.{length, getD, take, drop, set, length-append, length-take, length-drop, length-replicate, drop-of-length-le, take-append-drop, replicate, replicate-append-replicate, List·getD-append}
+use lib.Seq.{getD-append-seam, take-append-le, take-append-add, take-suc, drop-cons, getD-take, drop-append-le, drop-append-add, drop-drop, take-at, length-take-le, paste, take-all, set-split, set-append-seam, append-snoc}
 use borrow.Author.Tests.{le-leb, lt-leb, leb-true, leb-false}
 use Rattle.slices.specs.Lists.{keep, upTo, Every, flat, fits, stored, ended, sum}
 
@@ -58,6 +58,16 @@ map-map {C = C} f g (x ∷ xs) = ap (λ (l : List C). g (f x) ∷ l) (map-map f 
 pub length-upTo : (n : ℕ) → length (upTo n) ≡ n
 length-upTo zero = refl
 length-upTo (suc n) = length-append (upTo n) (n ∷ []) ∙ omega (arith, length-upTo n)
+
+pub upTo-at : (n k : ℕ) → k < n → getD (upTo n) k 0 ≡ k
+upTo-at zero k h = absurd (not-suc-le-zero h)
+upTo-at (suc n) k h = by-test (leb (suc k) n) refl (upTo-at n k)
+  where
+    by-test : (t : Bool) → leb (suc k) n ≡ t → (k < n → getD (upTo n) k 0 ≡ k) → getD (upTo n ++ (n ∷ [])) k 0 ≡ k
+    by-test true e before = List·getD-append (upTo n) (n ∷ []) 0 k (omega (arith, leb-true (suc k) n e, length-upTo n)) ∙ before (leb-true (suc k) n e)
+    by-test false e before =
+        let last : k ≡ length (upTo n) = omega (arith, leb-false (suc k) n e, length-upTo n) in
+        rw last (getD-append-seam (upTo n) n [] 0 ∙ sym (length-upTo n))
 
 module _ {A : Type 0} where
   -- what stands at each of the first n places
@@ -135,6 +145,34 @@ module _ {A B : Type 0} (f : A → List B) where
   pub length-flat : (w : ℕ) → ((x : A) → length (f x) ≡ w) → (l : List A) → length (flat f l) ≡ w * length l
   length-flat w each [] = sym (mul-zero w)
   length-flat w each (x ∷ xs) = rw (length-append, each x, length-flat w each xs, mul-suc w (length xs)) (add-comm w (w * length xs))
+
+  module _ (w : ℕ) (each : (x : A) → length (f x) ≡ w) where
+    -- what follows place k
+    pub after : (l : List A) (k : ℕ) (r : List B) → List B
+    after [] k r = r
+    after (x ∷ xs) zero r = flat f xs ++ r
+    after (x ∷ xs) (suc k) r = after xs k r
+
+    pub flat-at : (l : List A) (k : ℕ) (z : A) (r : List B) → k < length l → drop (w * k) (flat f l ++ r) ≡ f (getD l k z) ++ after l k r
+    unfolding after
+    flat-at [] k z r h = absurd (not-suc-le-zero h)
+    flat-at (x ∷ xs) zero z r h = rw mul-zero (append-assoc (f x) (flat f xs) r)
+    flat-at (x ∷ xs) (suc k) z r h =
+        let skip : drop (w + w * k) (f x ++ flat f xs ++ r) ≡ drop (w * k) (flat f xs ++ r) =
+        subst (λ (n : ℕ). drop (n + w * k) (f x ++ flat f xs ++ r) ≡ drop (w * k) (flat f xs ++ r)) (each x)
+        (rw append-assoc (drop-append-add (f x) (flat f xs ++ r) (w * k))) in
+        rw (mul-suc w k, add-comm (w * k) w) skip ∙ flat-at xs k z r (le-of-suc-le-suc h)
+
+    -- its front, cut in place k
+    pub flat-cut : (l : List A) (k r : ℕ) (z : A) → k < length l → r ≤ w → take (w * k + r) (flat f l) ≡ flat f (take k l) ++ take r (f (getD l k z))
+    flat-cut [] k r z h less = absurd (not-suc-le-zero h)
+    flat-cut (x ∷ xs) zero r z h less = rw (mul-zero w, zero-add r) (take-append-le r (f x) (flat f xs) (rw (each x) less))
+    flat-cut (x ∷ xs) (suc k) r z h less =
+        let more : w * suc k + r ≡ length (f x) + (w * k + r) = rw (each x, mul-suc w k) (omega arith) in
+        ap (λ (n : ℕ). take n (f x ++ flat f xs)) more
+        ∙ take-append-add (f x) (flat f xs) (w * k + r)
+        ∙ ap (λ (l : List B). f x ++ l) (flat-cut xs k r z (le-of-suc-le-suc h) less)
+        ∙ sym (append-assoc (f x) (flat f (take k xs)) (take r (f (getD xs k z))))
 
 -- ## Stored at a place
 
@@ -256,6 +294,18 @@ zero-next d x at i low less long is-x =
     let one : set x i 0 ≡ stored x i (0 ∷ []) =
     set-split x i 0 (omega arith) ∙ rw (le-leb (i + 1) (length x) (omega arith), add-one i) (sym (append-assoc (take i x) (0 ∷ []) (drop (suc i) x))) in
     one ∙ (λ j. stored (is-x j) (place j) (0 ∷ [])) ∙ stored-more d at z (0 ∷ []) room ∙ ap (stored d at) more
+
+-- zeros that would go on past the end are not stored
+pub zero-past : (d : List ℕ) (at to : ℕ) → length d < to → d ≡ stored d at (replicate (to - at) 0)
+zero-past d at to past = by-test (leb at to) refl
+  where
+    by-test : (t : Bool) → leb at to ≡ t → d ≡ stored d at (replicate (to - at) 0)
+    by-test true e =
+        let far : length d < at + length (replicate {A = ℕ} (to - at) 0) = rw length-replicate (omega (arith, leb-true at to e)) in
+        sym (rw (lt-leb _ _ far))
+    by-test false e =
+        let none : to - at ≡ 0 = omega (arith, leb-false at to e) in
+        sym (rw none (stored-none d at))
 
 -- a loop that stores f of each element of es, of w each, side by side from a place on
 pub stored-each : {A B : Type 0} (f : A → List B) (w : ℕ) → ((x : A) → length (f x) ≡ w) → (es : List A) (d x y : List B) (at k : ℕ) (z : A)

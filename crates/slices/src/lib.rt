@@ -1,8 +1,8 @@
 // The parts of a slice, and bytes at a place. Any place will do: past the end a byte is 0, and bytes that do not fit are not stored. And the
 // smaller of two numbers, and a test's bit.
 ghost use mathlib.Core.Path.{_≡_};
-ghost use Prim.Native.Nat.{_+_, _≤_, min};
-ghost use lib.ListN.{length, getD, take, drop};
+ghost use Prim.Native.Nat.{_+_, _-_, _≤_, min};
+ghost use lib.ListN.{length, getD, take, drop, replicate};
 ghost use lib.Seq.{paste};
 ghost use Rattle.slices.specs.Lists.{fits, stored, one};
 
@@ -65,5 +65,19 @@ pub fn put(buf: &mut [u8], at: usize, b: &[u8])
 {
     if does_fit(b.len(), at, buf.len()) {
         copy(buf, at, b);
+    }
+}
+
+// Stores zeros from a place up to another, if the buffer goes as far.
+pub fn clear(buf: &mut [u8], from: usize, to: usize)
+    ensures { λ _. ⌜ now (buf .exit) ≡ stored (now (buf .entry)) from (replicate (to - from) 0) ⌝ }
+{
+    if buf.len() < to {
+        return;
+    }
+    let mut i = from;
+    while i < to {
+        buf[i] = 0;
+        i += 1;
     }
 }

@@ -1,5 +1,5 @@
 -- The list and the page: a law for each way out, and the page put together from what its parts store.
-use Prim.Native.Nat.{ℕ, _+_, _-_, _*_, _^_, _≤_, _<_, min}
+use Prim.Native.Nat.{ℕ, _+_, _-_, _*_, _≤_, _<_, min}
 use mathlib.Core.Bool.{Bool}
 use mathlib.Core.List.{List, _++_, map}
 use mathlib.Core.Path.{_≡_, refl, sym, ap, _∙_}
@@ -10,7 +10,8 @@ use borrow.Author.Tests.{eq-eqb, ne-eqb}
 use mir.Val.{boolByte}
 use Rattle.device.specs.Record.{removedNumber}
 use Rattle.device.specs.declared.Device.{Device}
-use Rattle.layout.specs.Bytes.{headerBytes, descriptorBytes, roomOf, returnedOf}
+use Rattle.layout.proofs.Bytes.{wide}
+use Rattle.layout.specs.Bytes.{headerBytes, descriptorBytes, laid, roomOf, returnedOf}
 use Rattle.layout.specs.declared.Descriptor.{Descriptor}
 use Rattle.layout.specs.declared.Header.{Header}
 use Rattle.paper.specs.Answers.{numberOf}
@@ -26,8 +27,9 @@ use Rattle.table.specs.Elements.{live, blankPart, identifiers, size, identifier
 use Rattle.table.specs.declared.Part.{Part}
 use Rattle.view.specs.Shown.{shownOf, asks, busyOf}
 use Rattle.words.specs.declared.Order.the-variants.{Little}
+use Rattle.words.specs.declared.Order.{Order}
 use Rattle.status.specs.Page.{shownAt, shownAll, listOf, headed, headerOf, pageOf, shown}
-use Rattle.status.specs.Private.{shownIn, shownThere}
+use Rattle.status.specs.Private.{shownIn, shownThere, Lists}
 use Rattle.status.specs.Promises.{Keeps-identifier}
 use Rattle.status.proofs.Places.{length-there, at-place, take-there, Listed, list-turn, all-listed}
 
@@ -43,41 +45,30 @@ shown-ids d =
     ∙ map-upTo (λ (i : ℕ). shownAt d i .id .0) (identifierAt (d .table)) (size (d .table)) (λ i _. keeps-identifier d i)
     ∙ map-places (identifiers (d .table)) 0 (size (d .table)) (omega arith) ∙ take-length (identifiers (d .table))
 
--- ## The bytes
-
-abbrev pub bytesOf : Descriptor → List ℕ
-bytesOf x = descriptorBytes Little x
-
-pub wide : (x : Descriptor) → length (bytesOf x) ≡ 32
-wide x = refl
-
 -- ## The header
 
-pub header-made : (d : Device) (n pages r g : ℕ) (x : ElementId) → r ≡ returnedOf n pages → x ≡ record { 0 = busyOf (d .cells .note) } → g ≡ removedNumber d
-    → record { number = n; returned = r; busy = x; limit = d .table .limit; removed = g } ≡ headed n pages (d .cells .note) (d .table .limit) (removedNumber d)
-header-made d n pages r g x is-r is-x is-g = λ i. record { number = n; returned = is-r i; busy = is-x i; limit = d .table .limit; removed = is-g i }
+pub header-made : (d : Device) (n r g : ℕ) (x : ElementId) → x ≡ record { 0 = busyOf (d .cells .note) } → g ≡ removedNumber d
+    → record { number = n; returned = r; busy = x; limit = d .table .limit; removed = g } ≡ headed n r (d .cells .note) (d .table .limit) (removedNumber d)
+header-made d n r g x is-x is-g = λ i. record { number = n; returned = r; busy = is-x i; limit = d .table .limit; removed = is-g i }
 
 -- ## The page, put together from what is stored
 
-module _ (d : Device) (q : Request) (h : Header) (l : List Descriptor) (is-h : h ≡ headerOf d q) (is-l : l ≡ take (h .returned) (listOf d q)) (some : 1 ≤ pagesOf q) where
-  is-r : h .returned ≡ returnedOf (length (listOf d q)) (pagesOf q)
-  is-r = ap (λ (x : Header). x .returned) is-h
-
+module _ (d : Device) (q : Request) (h : Header) (l : List Descriptor) (r : ℕ) (is-r : r ≡ returnedOf (length (listOf d q)) (pagesOf q))
+    (is-h : h ≡ headerOf d q) (is-l : l ≡ take r (listOf d q)) (some : 1 ≤ pagesOf q) where
   cut : take (roomOf (pagesOf q)) (listOf d q) ≡ l
   cut =
-      let less : h .returned ≡ min (roomOf (pagesOf q)) (length (listOf d q)) = omega (arith, is-r) in
+      let less : r ≡ min (roomOf (pagesOf q)) (length (listOf d q)) = omega (arith, is-r) in
       sym (take-min (roomOf (pagesOf q)) (listOf d q)) ∙ rw (← less, ← is-l)
 
-  together : (b b₁ b₂ b₃ : List ℕ) → 512 * pagesOf q ≤ length b → b₁ ≡ stored b 0 (headerBytes Little h) → b₂ ≡ stored b₁ 32 (flat bytesOf l)
-      → b₃ ≡ stored b₂ (32 + 32 * h .returned) (replicate (512 * pagesOf q - (32 + 32 * h .returned)) 0) → b₃ ≡ pageOf d q ++ drop (512 * pagesOf q) b
+  together : (b b₁ b₂ b₃ : List ℕ) → 512 * pagesOf q ≤ length b → b₁ ≡ stored b 0 (headerBytes Little h) → b₂ ≡ stored b₁ 32 (flat (descriptorBytes Little) l)
+      → b₃ ≡ stored b₂ (32 + 32 * r) (replicate (512 * pagesOf q - (32 + 32 * r)) 0) → b₃ ≡ pageOf d q ++ drop (512 * pagesOf q) b
   unfolding pageOf
   together b b₁ b₂ b₃ large is-b₁ is-b₂ is-b₃ =
-      let r : ℕ = h .returned in
-      let f : List ℕ = flat bytesOf l in
-      let g : List ℕ = headerBytes Little h ++ f in
+      let f : List ℕ = flat (descriptorBytes Little) l in
+      let g : List ℕ = laid Little h l in
       let z : List ℕ = replicate (512 * pagesOf q - (32 + 32 * r)) 0 in
       let few : length l ≡ r = ap length is-l ∙ length-take-le r (listOf d q) (omega (arith, is-r)) in
-      let wide-list : length f ≡ 32 * r = length-flat bytesOf 32 wide l ∙ rw few in
+      let wide-list : length f ≡ 32 * r = length-flat (descriptorBytes Little) 32 (wide Little) l ∙ rw few in
       let wide-both : length g ≡ 32 + 32 * r = length-append (headerBytes Little h) f ∙ rw wide-list in
       let wide-all : length (g ++ z) ≡ 512 * pagesOf q = rw (length-append g z, wide-both, length-replicate) (omega (arith, is-r)) in
       let first : _≡_ {A = ℕ} 32 (0 + length (headerBytes Little h)) = refl in
@@ -85,68 +76,71 @@ module _ (d : Device) (q : Request) (h : Header) (l : List Descriptor) (is-h : h
       let two : b₂ ≡ stored b 0 g = is-b₂ ∙ (λ i. stored (is-b₁ i) (first i) f) ∙ stored-more b 0 (headerBytes Little h) f (omega (arith, wide-both, is-r)) in
       let three : b₃ ≡ stored b 0 (g ++ z) = is-b₃ ∙ (λ i. stored (two i) (second i) z) ∙ stored-more b 0 g z (omega (arith, wide-all)) in
       let zeros : 512 * pagesOf q - (32 + 32 * r) ≡ 512 * pagesOf q - 32 * (headerOf d q .returned + 1) = rw is-r (omega arith) in
-      let whole : g ++ z ≡ pageOf d q = λ i. (headerBytes Little (is-h i) ++ flat bytesOf (sym cut i)) ++ replicate (zeros i) 0 in
+      let whole : g ++ z ≡ pageOf d q = λ i. laid Little (is-h i) (sym cut i) ++ replicate (zeros i) 0 in
       three ∙ stored-front b (g ++ z) (omega (arith, wide-all)) ∙ (λ i. whole i ++ drop (wide-all i) b)
 
--- ## What the loops come to
+-- ## What is collected, and filled in
 
--- the first loop after i turns of n
-abbrev pub Listing : Device → Request → ℕ → List ℕ → ℕ → ℕ → Type 0
-Listing d q n places number i =
-    (i ≤ n) × (n ≡ min (d .table .count) 128) × (length (d .table .parts) ≡ 128) × (length (d .cells .healths) ≡ 128)
-    × Listed (d .table .parts) (d .cells .healths) q places number i
+-- the loop after i turns of n
+abbrev pub Listing : List Part → List ℕ → Request → ℕ → List ℕ → ℕ → ℕ → Type 0
+Listing ps hs q n places number i = (i ≤ n) × (n ≤ 128) × (length ps ≡ 128) × (length hs ≡ 128) × Listed ps hs q places number i
 
-module _ (d : Device) (q : Request) (n : ℕ) (places : List ℕ) (number i : ℕ) (listing : Listing d q n places number i) where
-  pub listing-next : i < n → (b : Bool) → b ≡ asks q (shownOf (getD (d .table .parts) i blankPart) (getD (d .cells .healths) i 0))
-      → Listing d q n (set places number i) (number + boolByte b) (i + 1)
-  listing-next low b is-b =
-      (omega arith, listing .1, listing .2, listing .3, list-turn (d .table .parts) (d .cells .healths) q places number i (listing .4) (omega (arith, listing)) b is-b)
+pub listing-next : (ps : List Part) (hs : List ℕ) (q : Request) (n : ℕ) (places : List ℕ) (number i : ℕ) → Listing ps hs q n places number i
+    → i < n → (b : Bool) → b ≡ asks q (shownOf (getD ps i blankPart) (getD hs i 0)) → Listing ps hs q n (set places number i) (number + boolByte b) (i + 1)
+listing-next ps hs q n places number i listing low b is-b =
+    (omega arith, listing .1, listing .2, listing .3, list-turn ps hs q places number i (listing .4) (omega (arith, listing)) b is-b)
 
-  module _ (h : Header) (is-h : h ≡ headed number (pagesOf q) (d .cells .note) (d .table .limit) (removedNumber d)) (some : 1 ≤ pagesOf q) where
-    is-returned : h .returned ≡ returnedOf number (pagesOf q)
-    is-returned = ap (λ (x : Header). x .returned) is-h
+pub listing-all : (d : Device) (q : Request) (n : ℕ) (places : List ℕ) (number i : ℕ) → n ≡ min (d .table .count) 128
+    → Listing (d .table .parts) (d .cells .healths) q n places number i → n ≤ i → Lists d q places number
+listing-all d q n places number i is-n listing high =
+    let all : i ≡ min (d .table .count) 128 = omega (arith, listing) in
+    (listing .4 .0 ∙ all-listed d q i (listing .2) all, omega (arith, listing), listing .4 .2, listing .4 .3)
 
-    pub returned-word : h .returned < 2 ^ 64
-    returned-word = omega (arith, is-returned, listing)
+module _ (d : Device) (q : Request) (places : List ℕ) (number : ℕ) (lists : Lists d q places number) where
+  pub number-listed : number ≡ length (listOf d q)
+  number-listed = sym (length-there (d .table .parts) (d .cells .healths) places number (omega (arith, lists))) ∙ ap length (lists .0)
 
-    pub returned-few : h .returned ≤ 128
-    returned-few = omega (arith, is-returned, listing)
+  pub filled : 1 ≤ pagesOf q → (r : ℕ) → r ≡ returnedOf number (pagesOf q) → (h : Header) → h ≡ headed number r (d .cells .note) (d .table .limit) (removedNumber d)
+      → (b b₁ b₂ b₃ : List ℕ) → 512 * pagesOf q ≤ length b → b₁ ≡ stored b 0 (headerBytes Little h)
+      → b₂ ≡ stored b₁ 32 (flat (descriptorBytes Little) (shownThere (d .table .parts) (d .cells .healths) places r))
+      → b₃ ≡ stored b₂ (32 + 32 * r) (replicate (512 * pagesOf q - (32 + 32 * r)) 0) → b₃ ≡ pageOf d q ++ drop (512 * pagesOf q) b
+  filled some r is-r h is-h =
+      let right : r ≡ returnedOf (length (listOf d q)) (pagesOf q) = is-r ∙ ap (λ (m : ℕ). returnedOf m (pagesOf q)) number-listed in
+      let headed-so : h ≡ headerOf d q = is-h ∙ (λ j. headed (number-listed j) (right j) (d .cells .note) (d .table .limit) (removedNumber d)) in
+      let first : shownThere (d .table .parts) (d .cells .healths) places r ≡ take r (listOf d q) =
+      sym (take-there (d .table .parts) (d .cells .healths) places number r (omega (arith, is-r))) ∙ ap (take r) (lists .0) in
+      together d q h (shownThere (d .table .parts) (d .cells .healths) places r) r right headed-so first some
 
-    pub returned-fits : 32 + 32 * h .returned ≤ 512 * pagesOf q
-    returned-fits = omega (arith, is-returned)
+-- the returned ones fit the page, and the table
+module _ (number pages r : ℕ) (is-r : r ≡ returnedOf number pages) where
+  pub returned-less : r ≤ number
+  returned-less = omega (arith, is-r)
 
-    pub returned-room : (room there : ℕ) → 512 * pagesOf q ≤ room → there ≡ room → 32 + 32 * h .returned ≤ there
-    returned-room room there large same = omega (arith, is-returned)
+  pub returned-few : number ≤ 128 → r ≤ 128
+  returned-few few = omega (arith, is-r)
 
-    pub filled : n ≤ i → (b b₁ b₂ b₃ : List ℕ) → 512 * pagesOf q ≤ length b → b₁ ≡ stored b 0 (headerBytes Little h)
-        → b₂ ≡ stored b₁ 32 (flat bytesOf (shownThere (d .table .parts) (d .cells .healths) places (h .returned)))
-        → b₃ ≡ stored b₂ (32 + 32 * h .returned) (replicate (512 * pagesOf q - (32 + 32 * h .returned)) 0) → b₃ ≡ pageOf d q ++ drop (512 * pagesOf q) b
-    filled high =
-        let all : i ≡ min (d .table .count) 128 = omega (arith, listing) in
-        let so : shownThere (d .table .parts) (d .cells .healths) places number ≡ listOf d q = listing .4 .0 ∙ all-listed d q i (listing .2) all in
-        let long : number ≡ length (listOf d q) =
-        sym (length-there (d .table .parts) (d .cells .healths) places number (omega (arith, listing))) ∙ ap length so in
-        let headed-so : h ≡ headerOf d q = is-h ∙ ap (λ (m : ℕ). headed m (pagesOf q) (d .cells .note) (d .table .limit) (removedNumber d)) long in
-        let first : shownThere (d .table .parts) (d .cells .healths) places (h .returned) ≡ take (h .returned) (listOf d q) =
-        sym (take-there (d .table .parts) (d .cells .healths) places number (h .returned) (omega (arith, is-returned))) ∙ ap (take (h .returned)) so in
-        together d q h (shownThere (d .table .parts) (d .cells .healths) places (h .returned)) headed-so first some
+  pub returned-fits : 1 ≤ pages → 32 + 32 * r ≤ 512 * pages
+  returned-fits some = omega (arith, is-r)
+
+  pub returned-room : 1 ≤ pages → (room there : ℕ) → 512 * pages ≤ room → there ≡ room → 32 + 32 * r ≤ there
+  returned-room some room there large same = omega (arith, is-r)
 
 pub room-still : (size room there here : ℕ) → size ≤ room → there ≡ room → here ≡ there → size ≤ here
 room-still size room there here large is-there is-here = omega arith
 
-module _ (ps : List Part) (hs places : List ℕ) (r : ℕ) (b : List ℕ) (long : length places ≡ 128) (few : r ≤ 128) (room : 32 + 32 * r ≤ length b) where
-  pub put-next : (k : ℕ) (x y : List ℕ) → k < r → x ≡ stored b 32 (flat bytesOf (take k (shownThere ps hs places r)))
-      → y ≡ stored x (32 + 32 * k) (bytesOf (shownOf (getD ps (getD places k 0) blankPart) (getD hs (getD places k 0) 0)))
-      → y ≡ stored b 32 (flat bytesOf (take (k + 1) (shownThere ps hs places r)))
+module _ (o : Order) (ps : List Part) (hs places : List ℕ) (r : ℕ) (b : List ℕ) (long : length places ≡ 128) (few : r ≤ 128) (room : 32 + 32 * r ≤ length b) where
+  pub put-next : (k : ℕ) (x y : List ℕ) → k < r → x ≡ stored b 32 (flat (descriptorBytes o) (take k (shownThere ps hs places r)))
+      → y ≡ stored x (32 + 32 * k) (descriptorBytes o (shownOf (getD ps (getD places k 0) blankPart) (getD hs (getD places k 0) 0)))
+      → y ≡ stored b 32 (flat (descriptorBytes o) (take (k + 1) (shownThere ps hs places r)))
   unfolding shownIn
   put-next k x y less is-x is-y =
-      stored-each bytesOf 32 wide (shownThere ps hs places r) b x y 32 k (shownIn ps hs 0) (omega arith) (omega (arith, length-there ps hs places r (omega arith))) is-x
-      (is-y ∙ ap (λ (z : Descriptor). stored x (32 + 32 * k) (bytesOf z)) (at-place ps hs places r k less))
+      stored-each (descriptorBytes o) 32 (wide o) (shownThere ps hs places r) b x y 32 k (shownIn ps hs 0) (omega arith) (omega (arith, length-there ps hs places r (omega arith))) is-x
+      (is-y ∙ ap (λ (z : Descriptor). stored x (32 + 32 * k) (descriptorBytes o z)) (at-place ps hs places r k less))
 
-  pub put-all : (k : ℕ) (x : List ℕ) → k ≤ r → r ≤ k → x ≡ stored b 32 (flat bytesOf (take k (shownThere ps hs places r)))
-      → x ≡ stored b 32 (flat bytesOf (shownThere ps hs places r))
+  pub put-all : (k : ℕ) (x : List ℕ) → k ≤ r → r ≤ k → x ≡ stored b 32 (flat (descriptorBytes o) (take k (shownThere ps hs places r)))
+      → x ≡ stored b 32 (flat (descriptorBytes o) (shownThere ps hs places r))
   put-all k x low high is-x =
-      is-x ∙ ap (λ (l : List Descriptor). stored b 32 (flat bytesOf l)) (take-all k (shownThere ps hs places r) (omega (arith, length-there ps hs places r (omega arith))))
+      is-x ∙ ap (λ (l : List Descriptor). stored b 32 (flat (descriptorBytes o) l)) (take-all k (shownThere ps hs places r) (omega (arith, length-there ps hs places r (omega arith))))
 
 -- ## The answer, and the buffer
 

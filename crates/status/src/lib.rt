@@ -1,8 +1,10 @@
-// GET PHYSICAL ELEMENT STATUS: the list and the filled page. The device is only read.
+// GET PHYSICAL ELEMENT STATUS: the list, the filled page, and the data that is sent to a SCSI host. The device is only read.
+mod sent;
+
 ghost use mathlib.Core.Path.{_≡_};
 ghost use mathlib.Core.List.{_++_};
-ghost use Prim.Native.Nat.{_+_, _-_, _*_, _≤_};
-ghost use lib.ListN.{length, drop, replicate};
+ghost use Prim.Native.Nat.{_+_, _*_, _≤_};
+ghost use lib.ListN.{length, drop};
 ghost use Rattle.device.specs.Record.{removedNumber};
 ghost use Rattle.layout.specs.Bytes.{descriptorBytes};
 ghost use Rattle.paper.specs.Told.{said};
@@ -13,61 +15,21 @@ ghost use Rattle.status.specs.Private as private;
 use device::Device;
 use layout::Header;
 use paper::Answer;
-use paper::PageCount;
 use paper::Security;
 use request::Request;
+pub use sent::send;
 use table::Part;
 use words::Order;
 
-// The header of a list of this number. The number at FFh is of the whole table.
-fn header_of(d: Device, number: usize, count: PageCount) -> Header
-    requires { ⌜ (number ≤ 128) × (1 ≤ count .0) ⌝ }
-    ensures { λ r. ⌜ r ≡ headed number (count .0) (d .cells .note) (d .table .limit) (removedNumber d) ⌝ }
-{
-    let cells = d.cells;
-    let note = cells.note;
-    let hs = cells.healths;
-    let returned = slices::smaller(number, 16 * (count.0 as usize) - 1);
-    Header {
-        number: number as u32,
-        returned: returned as u32,
-        busy: view::busy(note),
-        limit: d.table.limit,
-        removed: table::removed(hs, d.table.count),
-    }
+// What a request asks for: the places of the elements in the table, and how many they are.
+struct Listed {
+    places: [u8; 128],
+    number: usize,
 }
 
-// Stores zeros behind the header and the descriptors.
-fn put_zeros(returned: usize, count: PageCount, buf: &mut [u8])
-    requires { ⌜ (returned ≤ 128) × (32 + 32 * returned ≤ 512 * count .0) × (512 * count .0 ≤ length (now buf)) ⌝ }
-    ensures { λ _. ⌜ now (buf .exit) ≡ stored (now (buf .entry)) (32 + 32 * returned) (replicate (512 * count .0 - (32 + 32 * returned)) 0) ⌝ }
-{
-    let mut i = 32 + 32 * returned;
-    let size = 512 * (count.0 as usize);
-    while i < size {
-        buf[i] = 0;
-        i += 1;
-    }
-}
-
-// Stores the descriptors of the elements at the first of the places.
-fn put_list(ps: [Part; 128], hs: [u8; 128], places: [u8; 128], returned: usize, buf: &mut [u8])
-    requires { ⌜ (returned ≤ 128) × (32 + 32 * returned ≤ length (now buf)) × private.Slots places ⌝ }
-    ensures { λ _. ⌜ now (buf .exit) ≡ stored (now (buf .entry)) 32 (flat (descriptorBytes Order.Little) (private.shownThere ps hs places returned)) ⌝ }
-{
-    let mut k: usize = 0;
-    while k < returned {
-        let j = places[k] as usize;
-        view::put_shown(ps[j], hs[j], 32 + 32 * k, buf);
-        k += 1;
-    }
-}
-
-// Fills the page, in ascending order, each byte once: the header, the descriptors, the zeros.
-// The places of what is asked for are put down first, so that each element is judged once.
-fn fill(d: Device, request: Request, buf: &mut [u8])
-    requires { ⌜ (1 ≤ pagesOf request) × (512 * pagesOf request ≤ length (now buf)) ⌝ }
-    ensures { λ _. ⌜ now (buf .exit) ≡ pageOf d request ++ drop (512 * pagesOf request) (now (buf .entry)) ⌝ }
+// Puts the places down, so that each element is judged once.
+fn collect(d: Device, request: Request) -> Listed
+    ensures { λ r. ⌜ private.Lists d request (r .places) (r .number) ⌝ }
 {
     let ps = d.table.parts;
     let hs = d.cells.healths;
@@ -80,11 +42,60 @@ fn fill(d: Device, request: Request, buf: &mut [u8])
         number += view::does_ask(request, ps[i], hs[i]) as usize;
         i += 1;
     }
-    let header = header_of(d, number, request.count);
-    view::put_header(header, buf);
-    let returned = header.returned as usize;
-    put_list(ps, hs, places, returned, buf);
-    put_zeros(returned, request.count, buf);
+    Listed { places, number }
+}
+
+// The header of a list of this number. The number at FFh is of the whole table.
+fn header_of(d: Device, number: usize, returned: usize) -> Header
+    requires { ⌜ (number ≤ 128) × (returned ≤ number) ⌝ }
+    ensures { λ r. ⌜ r ≡ headed number returned (d .cells .note) (d .table .limit) (removedNumber d) ⌝ }
+{
+    let cells = d.cells;
+    let note = cells.note;
+    let hs = cells.healths;
+    Header {
+        number: number as u32,
+        returned: returned as u32,
+        busy: view::busy(note),
+        limit: d.table.limit,
+        removed: table::removed(hs, d.table.count),
+    }
+}
+
+// Stores the descriptors of the elements at the first of the places.
+fn put_list(
+    ps: [Part; 128],
+    hs: [u8; 128],
+    places: [u8; 128],
+    count: usize,
+    o: Order,
+    buf: &mut [u8],
+)
+    requires { ⌜ (count ≤ 128) × (32 + 32 * count ≤ length (now buf)) × private.Slots places ⌝ }
+    ensures { λ _. ⌜ now (buf .exit) ≡ stored (now (buf .entry)) 32 (flat (descriptorBytes o) (private.shownThere ps hs places count)) ⌝ }
+{
+    let mut k: usize = 0;
+    while k < count {
+        let j = places[k] as usize;
+        view::put_shown(ps[j], hs[j], 32 + 32 * k, o, buf);
+        k += 1;
+    }
+}
+
+// Fills the page, in ascending order, each byte once: the header, the descriptors, the zeros.
+fn fill(d: Device, request: Request, buf: &mut [u8])
+    requires { ⌜ (1 ≤ pagesOf request) × (512 * pagesOf request ≤ length (now buf)) ⌝ }
+    ensures { λ _. ⌜ now (buf .exit) ≡ pageOf d request ++ drop (512 * pagesOf request) (now (buf .entry)) ⌝ }
+{
+    let listed = collect(d, request);
+    let returned = slices::smaller(listed.number, 16 * (request.count.0 as usize) - 1);
+    let header = header_of(d, listed.number, returned);
+    view::put_header(header, Order::Little, buf);
+    let ps = d.table.parts;
+    let hs = d.cells.healths;
+    let places = listed.places;
+    put_list(ps, hs, places, returned, Order::Little, buf);
+    slices::clear(buf, 32 + 32 * returned, 512 * (request.count.0 as usize));
 }
 
 // The answer, and the page if it is 0.

@@ -13,7 +13,7 @@ use Rattle.request.specs.Requests.{filterOf, reportTypeOf, takesId, takesType, 
 use Rattle.request.specs.declared.Request.{Request}
 use Rattle.slices.specs.Lists.{stored}
 use Rattle.table.specs.declared.Part.{Part}
-use Rattle.words.specs.declared.Order.the-variants.{Little}
+use Rattle.words.specs.declared.Order.{Order}
 use Rattle.view.specs.Shown.{capacityOf, shownOf, asks, busyOf}
 
 -- ## An element
@@ -52,5 +52,5 @@ busy-noted n w e = ap element (sym e)
 pub put-there : (d out b e : List ℕ) (at : ℕ) → out ≡ stored d at b → b ≡ e → out ≡ stored d at e
 put-there d out b e at is-out is-b = is-out ∙ ap (stored d at) is-b
 
-pub put-shown : (d out b : List ℕ) (at : ℕ) (x y : Descriptor) → out ≡ stored d at b → b ≡ descriptorBytes Little x → x ≡ y → out ≡ stored d at (descriptorBytes Little y)
-put-shown d out b at x y is-out is-b is-x = is-out ∙ ap (stored d at) (is-b ∙ ap (descriptorBytes Little) is-x)
+pub put-shown : (o : Order) (d out b : List ℕ) (at : ℕ) (x y : Descriptor) → out ≡ stored d at b → b ≡ descriptorBytes o x → x ≡ y → out ≡ stored d at (descriptorBytes o y)
+put-shown o d out b at x y is-out is-b is-x = is-out ∙ ap (stored d at) (is-b ∙ ap (descriptorBytes o) is-x)

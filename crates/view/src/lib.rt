@@ -2,7 +2,6 @@
 ghost use mathlib.Core.Path.{_≡_};
 ghost use Rattle.layout.specs.Bytes.{headerBytes, descriptorBytes};
 ghost use Rattle.slices.specs.Lists.{stored};
-ghost use Rattle.words.specs.declared.Order.the-variants.{Little};
 ghost use Rattle.view.specs.Shown.{capacityOf, shownOf, asks, busyOf};
 use cells::Note;
 use layout::Descriptor;
@@ -59,21 +58,21 @@ pub fn busy(note: Note) -> ElementId
     }
 }
 
-// ---- In the lent buffer
+// ---- In the lent buffer, in either byte order
 
 // Stores the header, if it fits.
-pub fn put_header(header: Header, buf: &mut [u8])
-    ensures { λ _. ⌜ now (buf .exit) ≡ stored (now (buf .entry)) 0 (headerBytes Little header) ⌝ }
+pub fn put_header(header: Header, o: Order, buf: &mut [u8])
+    ensures { λ _. ⌜ now (buf .exit) ≡ stored (now (buf .entry)) 0 (headerBytes o header) ⌝ }
 {
-    let bytes = header.bytes(Order::Little);
+    let bytes = header.bytes(o);
     slices::put(buf, 0, &bytes);
 }
 
 // Stores the descriptor of the element of this part and health from a place on, if it fits there.
-pub fn put_shown(p: Part, health: u8, at: usize, buf: &mut [u8])
-    ensures { λ _. ⌜ now (buf .exit) ≡ stored (now (buf .entry)) at (descriptorBytes Little (shownOf p health)) ⌝ }
+pub fn put_shown(p: Part, health: u8, at: usize, o: Order, buf: &mut [u8])
+    ensures { λ _. ⌜ now (buf .exit) ≡ stored (now (buf .entry)) at (descriptorBytes o (shownOf p health)) ⌝ }
 {
     let x = shown_of(p, health);
-    let bytes = x.bytes(Order::Little);
+    let bytes = x.bytes(o);
     slices::put(buf, at, &bytes);
 }

@@ -1,3 +1,2 @@
 -- Numbers as bytes, in either order.
 pub mod Bytes
-pub mod Private

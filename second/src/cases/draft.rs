@@ -1,8 +1,9 @@
-//! A page under construction, and a named case for the committed vectors.
+//! A page or SCSI data under construction, and a named case for the committed
+//! vectors.
 
-use crate::rules::layout::{self, descriptor, put, ROW};
+use crate::rules::layout::{self, descriptor, Order, ROW};
 
-/// A named input: a page or a script.
+/// A named input: a page, SCSI data or a script.
 pub struct Case {
     pub name: String,
     pub data: Vec<u8>,
@@ -17,9 +18,10 @@ impl Case {
     }
 }
 
-/// A page being laid out; each method changes one field.
+/// Bytes being laid out; each method changes one field.
 #[derive(Clone)]
 pub struct Draft {
+    order: Order,
     bytes: Vec<u8>,
 }
 
@@ -32,6 +34,7 @@ impl Draft {
     /// All zeros: a good page with an empty list.
     pub fn blank(pages: usize) -> Draft {
         Draft {
+            order: Order::Little,
             bytes: vec![0; 512 * pages],
         }
     }
@@ -44,6 +47,29 @@ impl Draft {
             draft = draft.usual(k);
         }
         draft
+    }
+
+    /// Good SCSI data for a list of `number` elements, whole.
+    pub fn dock(number: usize) -> Draft {
+        let blank = Draft {
+            order: Order::Big,
+            bytes: vec![0; descriptor(number)],
+        };
+        let mut draft = blank.both(number as u32);
+        for k in 0..number {
+            draft = draft.usual(k);
+        }
+        draft
+    }
+
+    /// N and returned alike: "both count the whole list".
+    pub fn both(self, value: u32) -> Draft {
+        self.number(value).returned(value)
+    }
+
+    /// What is written from here on is in that order.
+    pub fn in_order(self, order: Order) -> Draft {
+        Draft { order, ..self }
     }
 
     /// Descriptor `k` with values that offend in no way; never health FFh.
@@ -97,17 +123,19 @@ impl Draft {
         self.field(descriptor(k) + layout::CAPACITY, &value.to_le_bytes())
     }
 
-    /// Descriptor `k` whole.
-    pub fn row(self, k: usize, row: &[u8; ROW]) -> Draft {
-        self.field(descriptor(k), row)
+    /// Descriptor `k` whole, as it stands in the page.
+    pub fn row(mut self, k: usize, row: &[u8; ROW]) -> Draft {
+        self.bytes[descriptor(k)..descriptor(k + 1)].copy_from_slice(row);
+        self
     }
 
     pub fn byte(self, place: usize, value: u8) -> Draft {
         self.field(place, &[value])
     }
 
+    /// A field's bytes, lowest first.
     fn field(mut self, place: usize, value: &[u8]) -> Draft {
-        put(&mut self.bytes, place, value);
+        self.order.put(&mut self.bytes, place, value);
         self
     }
 

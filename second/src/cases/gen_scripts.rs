@@ -2,8 +2,10 @@
 
 use super::draft::Case;
 use super::random_script::random_script;
-use super::{scripts_command, scripts_disturbed, scripts_example, scripts_grade};
-use super::{scripts_kept, scripts_lines, scripts_reader, scripts_removal};
+use super::random_scsi::random_scsi_script;
+use super::{scripts_command, scripts_convert, scripts_disturbed, scripts_example};
+use super::{scripts_grade, scripts_kept, scripts_lines, scripts_reader};
+use super::{scripts_removal, scripts_scsi, scripts_scsi_read, scripts_scsi_write};
 use super::{scripts_status, scripts_table, scripts_unload, scripts_words};
 
 /// All scripts, in the order in which they are run.
@@ -21,6 +23,11 @@ pub fn script_cases() -> Vec<Case> {
     cases.extend(scripts_lines::cases());
     cases.extend(scripts_kept::cases());
     cases.extend(seeded());
+    cases.extend(scripts_scsi::cases());
+    cases.extend(scripts_scsi_write::cases());
+    cases.extend(scripts_scsi_read::cases());
+    cases.extend(scripts_convert::cases());
+    cases.extend(seeded_scsi());
     cases
 }
 
@@ -32,6 +39,16 @@ fn seeded() -> Vec<Case> {
             name: format!("seed-{:02}", seed),
             data: random_script(seed, 300),
         });
+    }
+    cases
+}
+
+/// Scripts from fixed seeds with the calls of request 2026-03.
+fn seeded_scsi() -> Vec<Case> {
+    let mut cases = Vec::new();
+    for seed in 1..=3 {
+        let data = random_scsi_script(seed, 150);
+        cases.push(Case::new(&format!("scsi-seed-{:02}", seed), data));
     }
     cases
 }

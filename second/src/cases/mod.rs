@@ -1,6 +1,11 @@
-//! Pages, scripts and pairs of pages: those of the committed vectors, and those from seeds.
+//! Pages, SCSI data, scripts and pairs of pages: those of the committed vectors,
+//! and those from seeds.
 
+mod docks_accepted;
+pub mod docks_size;
+mod docks_wrong;
 pub mod draft;
+pub mod gen_docks;
 pub mod gen_pages;
 pub mod gen_pairs;
 pub mod gen_scripts;
@@ -15,13 +20,16 @@ mod pairs_refused;
 mod pairs_session;
 mod pairs_size;
 pub mod placements;
+pub mod random_dock;
 pub mod random_page;
 pub mod random_pair;
 pub mod random_script;
+pub mod random_scsi;
 mod random_table;
 pub mod rng;
 pub mod script_text;
 mod scripts_command;
+mod scripts_convert;
 mod scripts_disturbed;
 mod scripts_example;
 mod scripts_grade;
@@ -29,6 +37,9 @@ mod scripts_kept;
 mod scripts_lines;
 mod scripts_reader;
 mod scripts_removal;
+mod scripts_scsi;
+mod scripts_scsi_read;
+mod scripts_scsi_write;
 mod scripts_status;
 mod scripts_table;
 mod scripts_unload;

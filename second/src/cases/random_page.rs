@@ -32,13 +32,18 @@ fn random_number(rng: &mut Rng, room: u32) -> u32 {
     }
 }
 
-/// A good page with random values in every field, reserved ones included.
+/// A good page with random values.
 pub fn random_list(rng: &mut Rng, pages: usize, number: u32) -> Draft {
-    let mut draft = Draft::list(pages, number)
+    let returned = number.min(16 * pages as u32 - 1) as usize;
+    random_values(rng, Draft::list(pages, number), returned)
+}
+
+/// Random values in every field of a good list, reserved ones included.
+pub fn random_values(rng: &mut Rng, good: Draft, returned: usize) -> Draft {
+    let mut draft = good
         .busy(rng.next() as u32)
         .limit(rng.next() as u16)
         .removed(rng.next() as u16);
-    let returned = number.min(16 * pages as u32 - 1) as usize;
     let stride = u64::from(u32::MAX) / (returned as u64 + 1);
     let mut identifier = 0;
     for k in 0..returned {

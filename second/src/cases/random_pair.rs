@@ -7,7 +7,7 @@ use super::draft::Draft;
 use super::random_page::{change, random_health, random_list};
 use super::random_script::Walk;
 use super::rng::Rng;
-use crate::rules::layout::{self, put, ROW};
+use crate::rules::layout::{self, Order, ROW};
 use crate::rules::request::REMOVED;
 
 /// The descriptors of a whole list, by their identifiers.
@@ -72,7 +72,7 @@ fn some_list(rng: &mut Rng, pages: usize) -> List {
         if rng.once_in(3) {
             row[layout::HEALTH] = REMOVED;
         }
-        list.insert(layout::get32(&row, layout::IDENTIFIER), row);
+        list.insert(Order::Little.get32(&row, layout::IDENTIFIER), row);
     }
     list
 }
@@ -105,7 +105,7 @@ fn add(rng: &mut Rng, list: &mut List, near: u32) {
         _ => near.wrapping_add(1),
     };
     let mut row = list.get(&near).copied().unwrap_or([0; ROW]);
-    put(&mut row, layout::IDENTIFIER, &identifier.to_le_bytes());
+    Order::Little.put(&mut row, layout::IDENTIFIER, &identifier.to_le_bytes());
     if identifier > 0 {
         list.entry(identifier).or_insert(row);
     }
@@ -122,7 +122,7 @@ fn alter_row(rng: &mut Rng, row: &mut [u8; ROW]) {
             row[layout::FLAGS] ^= 1;
         }
         3 => row[layout::CAPACITY + rng.place(8)] ^= bit,
-        4 => put(row, layout::CAPACITY, &layout::UNREPORTED.to_le_bytes()),
+        4 => Order::Little.put(row, layout::CAPACITY, &layout::UNREPORTED.to_le_bytes()),
         _ => row[rng.pick(&[0, 3, 8, 12, 24, 31])] ^= bit,
     }
 }

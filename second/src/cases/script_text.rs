@@ -8,6 +8,12 @@ pub struct Text {
     bytes: Vec<u8>,
 }
 
+/// Filter, report type and start of a SCSI request.
+pub type ScsiWords = (u8, u8, u32);
+
+/// The request for the whole list.
+pub const ALL: ScsiWords = (0, 0, 0);
+
 /// A storage element that reports its capacity.
 pub fn storage(identifier: u32, health: u8, blocks: u64) -> Element {
     Element {
@@ -135,12 +141,43 @@ impl Text {
         }
     }
 
+    /// Pokes what makes `after` of `before`, both of one length.
+    pub fn turn(&mut self, before: &Draft, after: &Draft) {
+        let before = before.clone().bytes();
+        let after = after.clone().bytes();
+        for (place, (&old, &new)) in before.iter().zip(&after).enumerate() {
+            if old != new {
+                self.poke(place, new);
+            }
+        }
+    }
+
     pub fn poke(&mut self, place: usize, byte: u8) {
         self.line(&format!("poke {:x} {:x}", place, byte));
     }
 
     pub fn read(&mut self, feature: u16, count: u16, lba: u64) {
         self.line(&format!("read {:x} {:x} {:x}", feature, count, lba));
+    }
+
+    /// SCSI data for filter, report type and start, cut at an allocation length.
+    pub fn scsi(&mut self, request: ScsiWords, allocation: u32, length: usize) {
+        let words = scsi_words(request);
+        self.line(&format!("scsi {} {:x} {:x}", words, allocation, length));
+    }
+
+    pub fn scsiread(&mut self, request: ScsiWords) {
+        self.line(&format!("scsiread {}", scsi_words(request)));
+    }
+
+    pub fn toscsi(&mut self, feature: u16, count: u16, lba: u64, length: usize) {
+        let words = format!("{:x} {:x} {:x} {:x}", feature, count, lba, length);
+        self.line(&format!("toscsi {}", words));
+    }
+
+    pub fn toata(&mut self, request: ScsiWords, pages: u16, length: usize) {
+        let words = scsi_words(request);
+        self.line(&format!("toata {} {:x} {:x}", words, pages, length));
     }
 
     pub fn bytes(self) -> Vec<u8> {
@@ -161,6 +198,10 @@ pub fn element_line(one: &Element) -> String {
         one.blocks,
         u8::from(one.unreported)
     )
+}
+
+fn scsi_words((filter, report_type, start): ScsiWords) -> String {
+    format!("{:x} {:x} {:x}", filter, report_type, start)
 }
 
 pub fn command_line(

@@ -36,17 +36,6 @@ fn base() -> Draft {
         .removed(1)
 }
 
-/// Pokes what makes `after` of `before`, both of one length.
-fn turn(text: &mut Text, before: &Draft, after: &Draft) {
-    let before = before.clone().bytes();
-    let after = after.clone().bytes();
-    for (place, (&old, &new)) in before.iter().zip(&after).enumerate() {
-        if old != new {
-            text.poke(place, new);
-        }
-    }
-}
-
 /// Reads under each filter and report type, from start 0, from the first
 /// identifier, and from one above it.
 fn read_all(text: &mut Text) {
@@ -64,9 +53,9 @@ fn script_of(name: &str, changed: &[Draft]) -> Case {
     text.page(&base);
     read_all(&mut text);
     for draft in changed {
-        turn(&mut text, &base, draft);
+        text.turn(&base, draft);
         read_all(&mut text);
-        turn(&mut text, draft, &base);
+        text.turn(draft, &base);
     }
     text.named(name)
 }
@@ -167,9 +156,9 @@ fn long_list() -> Case {
             good.clone().health(k, 0x64),
             good.clone().health(k, 0xD0),
         ] {
-            turn(&mut text, &good, &changed);
+            text.turn(&good, &changed);
             text.read(0x4100, 2, 0x100);
-            turn(&mut text, &changed, &good);
+            text.turn(&changed, &good);
         }
     }
     text.read(0x4100, 2, 0x101);

@@ -12,7 +12,7 @@ use super::script::{meaning, Call, Command, Line};
 use super::table::{Element, MOST_ELEMENTS};
 
 /// What a lent buffer holds before the call.
-const FILLING: u8 = 0xA5;
+pub const FILLING: u8 = 0xA5;
 
 /// The bench between two lines.
 pub struct Bench {
@@ -63,6 +63,9 @@ impl Bench {
             Call::Length(length) => self.set_length(length),
             Call::Poke { place, byte } => self.poke(place, byte),
             Call::Read(registers) => self.read(&registers),
+            Call::ScsiRead(request) => self.scsiread(&request),
+            Call::ToScsi(call) => self.toscsi(&call),
+            Call::ToAta(call) => self.toata(&call),
             _ => match self.device.take() {
                 None => self.say("no device"),
                 Some(mut device) => {
@@ -81,16 +84,17 @@ impl Bench {
             Call::Cut => self.answer(device.power_cut()),
             Call::Reset => self.answer(device.reset()),
             Call::Grade { identifier, health } => self.answer(device.grade(identifier, health)),
+            Call::Scsi(call) => self.scsi(device, &call),
             _ => self.cells(device),
         }
     }
 
-    fn say(&mut self, line: &str) {
+    pub fn say(&mut self, line: &str) {
         self.text.push_str(line);
         self.text.push('\n');
     }
 
-    fn answer(&mut self, answer: Answer) {
+    pub fn answer(&mut self, answer: Answer) {
         self.say(&answer.to_string());
     }
 
@@ -129,6 +133,11 @@ impl Bench {
             self.page = buffer[..written].to_vec();
             self.show_page();
         }
+        self.say_touched(&buffer, written);
+    }
+
+    /// The first byte that is left alone and not as it was, if there is one.
+    pub fn say_touched(&mut self, buffer: &[u8], written: usize) {
         let touched = buffer[written..].iter().position(|&byte| byte != FILLING);
         if let Some(offset) = touched {
             self.say(&format!("touched {}", written + offset));
@@ -136,17 +145,12 @@ impl Bench {
     }
 
     /// Rows of 32 bytes; "the run of all-zero rows at its end is one line".
-    fn show_page(&mut self) {
+    pub fn show_page(&mut self) {
         let rows = self.page.len() / ROW;
         let zero = |row: &[u8]| row.iter().all(|&byte| byte == 0);
         let zeros = self.page.rchunks(ROW).take_while(|row| zero(row)).count();
-        for row in self.page.chunks(ROW).take(rows - zeros) {
-            for byte in row {
-                // Writing to a string cannot fail.
-                let _ = write!(self.text, "{:02X}", byte);
-            }
-            self.text.push('\n');
-        }
+        let shown = rows_text(&self.page[..ROW * (rows - zeros)]);
+        self.text.push_str(&shown);
         if zeros > 0 {
             self.say(&format!("zeros {}", zeros));
         }
@@ -200,7 +204,7 @@ impl Bench {
         }
     }
 
-    fn show_reading(&mut self, reading: &Reading) {
+    pub fn show_reading(&mut self, reading: &Reading) {
         self.say("0");
         self.text.push_str(&header_line(&reading.header));
         for one in &reading.descriptors {
@@ -214,4 +218,17 @@ impl Bench {
             ));
         }
     }
+}
+
+/// Upper hex digits, a line for each 32 bytes; the last may be shorter.
+pub fn rows_text(bytes: &[u8]) -> String {
+    let mut text = String::new();
+    for row in bytes.chunks(ROW) {
+        for byte in row {
+            // Writing to a string cannot fail.
+            let _ = write!(text, "{:02X}", byte);
+        }
+        text.push('\n');
+    }
+    text
 }

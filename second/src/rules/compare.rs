@@ -5,8 +5,9 @@
 
 use std::collections::{BTreeMap, BTreeSet};
 
+use super::layout::Descriptor;
 use super::listing::{descriptor_text, values_text, MOST};
-use super::reader::{read, Descriptor, Reading};
+use super::reader::{read, Reading};
 use super::request::Registers;
 
 /// The text, and the program's exit status: 0 no difference, 1 a difference,

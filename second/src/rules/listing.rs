@@ -1,10 +1,12 @@
 //! The listing program: a page on standard input, "one header and a line for
-//! each descriptor .. or `refused 9 at ` and the place".
+//! each descriptor .. or `refused 9 at ` and the place"; and SCSI data likewise
+//! (request 2026-03).
 
 use super::answer::Answer;
-use super::layout::UNREPORTED;
-use super::reader::{read, Descriptor, Header, Reading};
+use super::layout::{Descriptor, Header, UNREPORTED};
+use super::reader::{read, Reading};
 use super::request::Registers;
+use super::scsi::{self, ScsiRequest};
 
 /// "at most 65,536 bytes".
 pub const MOST: usize = 65_536;
@@ -16,11 +18,19 @@ pub struct Listing {
 }
 
 pub fn list(input: &[u8]) -> Listing {
-    match judge(input) {
-        Ok(reading) => Listing {
-            text: text_of(&reading),
-            status: 0,
-        },
+    let reading = ata_request(input).and_then(|request| read(input, &request));
+    listing(reading.map(|reading| text_of(&reading)))
+}
+
+/// The same lines, then whether the list was cut.
+pub fn list_scsi(input: &[u8]) -> Listing {
+    let found = scsi_request(input).and_then(|request| scsi::read(input, &request));
+    listing(found.map(|found| text_of(&found.reading) + &found.end_line()))
+}
+
+fn listing(text: Result<String, usize>) -> Listing {
+    match text {
+        Ok(text) => Listing { text, status: 0 },
         Err(place) => Listing {
             text: format!("refused {}\n", Answer::PageRefused { place }),
             status: 1,
@@ -29,14 +39,29 @@ pub fn list(input: &[u8]) -> Listing {
 }
 
 /// "as an answer to filter 0, report type 0, start 0, and as many pages as the
-/// input has (an empty or broken length is refused at 0); longer input is
-/// refused at 65536".
-fn judge(input: &[u8]) -> Result<Reading, usize> {
+/// input has (an empty or broken length is refused at 0)".
+pub fn ata_request(input: &[u8]) -> Result<Registers, usize> {
+    check_most(input)?;
+    let pages = (input.len() / 512) as u16;
+    Ok(Registers::new(0, pages, 0))
+}
+
+/// The same request of SCSI, whose data has any length.
+pub fn scsi_request(input: &[u8]) -> Result<ScsiRequest, usize> {
+    check_most(input)?;
+    Ok(ScsiRequest {
+        filter: 0,
+        report_type: 0,
+        start: 0,
+    })
+}
+
+/// "longer input is refused at 65536".
+fn check_most(input: &[u8]) -> Result<(), usize> {
     if input.len() > MOST {
         return Err(MOST);
     }
-    let pages = (input.len() / 512) as u16;
-    read(input, &Registers::new(0, pages, 0))
+    Ok(())
 }
 
 fn text_of(reading: &Reading) -> String {

@@ -1,10 +1,12 @@
-//! The rules of document 01 and of requests 2026-01 and 2026-02, and the bench
+//! The rules of document 01 and of requests 2026-01 to 2026-03, and the bench
 //! language over them.
 
 pub mod answer;
 pub mod bench;
+mod bench_scsi;
 pub mod commands;
 pub mod compare;
+pub mod convert;
 pub mod device;
 pub mod layout;
 pub mod listing;
@@ -13,4 +15,5 @@ pub mod reader;
 pub mod removal;
 pub mod request;
 pub mod script;
+pub mod scsi;
 pub mod table;

@@ -2,8 +2,8 @@
 
 use super::answer::Answer;
 use super::device::Device;
-use super::layout::{self, descriptor, put, UNREPORTED};
-use super::request::{Registers, Request};
+use super::layout::{lay_out, Descriptor, Header, Order, UNREPORTED};
+use super::request::{Registers, Request, Wanted};
 use super::table::Element;
 
 impl Device {
@@ -17,53 +17,56 @@ impl Device {
             return Answer::SmallBuffer;
         }
         // "Exactly 512p bytes are written."
-        self.write_page(&request, &mut buffer[..request.bytes()]);
+        buffer[..request.bytes()].copy_from_slice(&self.page(&request));
         Answer::Done
     }
 
-    fn write_page(&self, request: &Request, page: &mut [u8]) {
-        page.fill(0);
-        let list: Vec<&Element> = self
-            .elements
-            .iter()
-            .filter(|one| listed(one, request))
-            .collect();
+    fn page(&self, request: &Request) -> Vec<u8> {
+        let mut list = self.list(&request.wanted);
         let number = list.len() as u32;
         let returned = number.min(request.room());
-        put(page, layout::NUMBER, &number.to_le_bytes());
-        put(page, layout::RETURNED, &returned.to_le_bytes());
-        self.write_state(page);
-        for (k, element) in list.iter().take(returned as usize).enumerate() {
-            write_descriptor(element, &mut page[descriptor(k)..descriptor(k + 1)]);
-        }
+        list.truncate(returned as usize);
+        let mut page = lay_out(Order::Little, &self.header(number, returned), &list);
+        // "Then zeros."
+        page.resize(request.bytes(), 0);
+        page
     }
 
     /// "8..11 noted element or 0; 12..13 limit; 14..15 number at FFh".
-    fn write_state(&self, page: &mut [u8]) {
-        let busy = self.note.map_or(0, |note| note.identifier);
-        put(page, layout::BUSY, &busy.to_le_bytes());
-        put(page, layout::LIMIT, &self.limit.to_le_bytes());
-        let removed = self.removed_count();
-        put(page, layout::REMOVED_COUNT, &removed.to_le_bytes());
+    pub fn header(&self, number: u32, returned: u32) -> Header {
+        Header {
+            number,
+            returned,
+            busy: self.note.map_or(0, |note| note.identifier),
+            limit: self.limit,
+            removed: self.removed_count(),
+        }
+    }
+
+    /// "The list": start, report type and filter.
+    pub fn list(&self, wanted: &Wanted) -> Vec<Descriptor> {
+        self.elements
+            .iter()
+            .filter(|one| wanted.takes_identifier(one.identifier))
+            .filter(|one| wanted.takes_type(one.element_type))
+            .filter(|one| wanted.takes_health(one.health))
+            .map(shown)
+            .collect()
     }
 }
 
-/// "The list": start, report type and filter.
-fn listed(element: &Element, request: &Request) -> bool {
-    request.takes_identifier(element.identifier)
-        && request.takes_type(element.element_type)
-        && request.takes_health(element.health)
-}
-
-/// "13 bit 0 restoration allowed, here 0; .. the rest zero".
-fn write_descriptor(element: &Element, row: &mut [u8]) {
+/// "restoration allowed, here 0; .. block count, or all ones if unreported".
+fn shown(element: &Element) -> Descriptor {
     let capacity = if element.unreported {
         UNREPORTED
     } else {
         element.blocks
     };
-    put(row, layout::IDENTIFIER, &element.identifier.to_le_bytes());
-    put(row, layout::TYPE, &[element.element_type]);
-    put(row, layout::HEALTH, &[element.health]);
-    put(row, layout::CAPACITY, &capacity.to_le_bytes());
+    Descriptor {
+        identifier: element.identifier,
+        restoration: false,
+        element_type: element.element_type,
+        health: element.health,
+        capacity,
+    }
 }

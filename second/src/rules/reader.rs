@@ -1,29 +1,9 @@
 //! "The reader. Given a page and the request it answers."
 
-use super::layout::{self, descriptor, get16, get32, get64};
-use super::request::{Registers, Request, REMOVED};
+use super::layout::{self, descriptor, Descriptor, Header, Order};
+use super::request::{Registers, Request, Wanted, REMOVED};
 
-/// The header's numbers.
-#[derive(Clone, Copy, Debug, PartialEq, Eq)]
-pub struct Header {
-    pub number: u32,
-    pub returned: u32,
-    pub busy: u32,
-    pub limit: u16,
-    pub removed: u16,
-}
-
-/// One descriptor's values.
-#[derive(Clone, Copy, Debug, PartialEq, Eq)]
-pub struct Descriptor {
-    pub identifier: u32,
-    pub restoration: bool,
-    pub element_type: u8,
-    pub health: u8,
-    pub capacity: u64,
-}
-
-/// What an accepted page says.
+/// What accepted bytes say.
 #[derive(Clone, Debug, PartialEq, Eq)]
 pub struct Reading {
     pub header: Header,
@@ -35,9 +15,10 @@ pub fn read(page: &[u8], registers: &Registers) -> Result<Reading, usize> {
     // "A request that would get 4 gets 9 at place 0."
     let request = Request::of(registers).ok_or(0usize)?;
     check_length(page, &request)?;
-    let header = header_of(page);
+    let header = Header::read(Order::Little, page);
     check_returned(&header, &request)?;
-    let descriptors = read_descriptors(page, &header, &request)?;
+    let returned = header.returned as usize;
+    let descriptors = read_descriptors(Order::Little, page, returned, &request.wanted)?;
     check_padding(page, &header)?;
     Ok(Reading {
         header,
@@ -61,17 +42,18 @@ fn check_returned(header: &Header, request: &Request) -> Result<(), usize> {
     Ok(())
 }
 
-/// "first offence reported, descriptor by descriptor".
-fn read_descriptors(
-    page: &[u8],
-    header: &Header,
-    request: &Request,
+/// So many descriptors: "first offence reported, descriptor by descriptor".
+pub fn read_descriptors(
+    order: Order,
+    bytes: &[u8],
+    number: usize,
+    wanted: &Wanted,
 ) -> Result<Vec<Descriptor>, usize> {
     let mut descriptors = Vec::new();
     let mut before = 0;
-    for k in 0..header.returned as usize {
-        let found = descriptor_of(page, k);
-        check_descriptor(&found, before, request).map_err(|byte| descriptor(k) + byte)?;
+    for k in 0..number {
+        let found = Descriptor::read(order, &bytes[descriptor(k)..]);
+        check_descriptor(&found, before, wanted).map_err(|byte| descriptor(k) + byte)?;
         before = found.identifier;
         descriptors.push(found);
     }
@@ -80,20 +62,20 @@ fn read_descriptors(
 
 /// The first offence within one descriptor. `before` is the identifier of the
 /// one before, or 0: "identifier 0, .. or not above the one before".
-fn check_descriptor(found: &Descriptor, before: u32, request: &Request) -> Result<(), usize> {
+fn check_descriptor(found: &Descriptor, before: u32, wanted: &Wanted) -> Result<(), usize> {
     if found.identifier <= before {
         return Err(layout::IDENTIFIER);
     }
-    if !request.takes_identifier(found.identifier) {
+    if !wanted.takes_identifier(found.identifier) {
         return Err(layout::IDENTIFIER);
     }
     if found.restoration && found.health != REMOVED {
         return Err(layout::FLAGS);
     }
-    if !request.takes_type(found.element_type) {
+    if !wanted.takes_type(found.element_type) {
         return Err(layout::TYPE);
     }
-    if !request.takes_health(found.health) {
+    if !wanted.takes_health(found.health) {
         return Err(layout::HEALTH);
     }
     Ok(())
@@ -105,27 +87,5 @@ fn check_padding(page: &[u8], header: &Header) -> Result<(), usize> {
     match page[start..].iter().position(|&byte| byte != 0) {
         Some(offset) => Err(start + offset),
         None => Ok(()),
-    }
-}
-
-fn header_of(page: &[u8]) -> Header {
-    Header {
-        number: get32(page, layout::NUMBER),
-        returned: get32(page, layout::RETURNED),
-        busy: get32(page, layout::BUSY),
-        limit: get16(page, layout::LIMIT),
-        removed: get16(page, layout::REMOVED_COUNT),
-    }
-}
-
-/// "Reserved bytes are not looked at", bits 7:1 of byte 13 among them.
-fn descriptor_of(page: &[u8], k: usize) -> Descriptor {
-    let row = &page[descriptor(k)..descriptor(k + 1)];
-    Descriptor {
-        identifier: get32(row, layout::IDENTIFIER),
-        restoration: row[layout::FLAGS] & 1 == 1,
-        element_type: row[layout::TYPE],
-        health: row[layout::HEALTH],
-        capacity: get64(row, layout::CAPACITY),
     }
 }

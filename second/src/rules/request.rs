@@ -39,48 +39,31 @@ impl Registers {
     }
 }
 
-/// A request for status pages that does not get 4.
+/// Which elements a request for status asks for.
 #[derive(Clone, Copy, Debug, PartialEq, Eq)]
-pub struct Request {
+pub struct Wanted {
     filtered: bool,
     storage_only: bool,
-    pages: u16,
     start: u64,
 }
 
-impl Request {
-    /// "filter 10b or 11b, report type above 1, p = 0: all 4": `None`.
-    pub fn of(registers: &Registers) -> Option<Request> {
-        let filter = registers.feature >> 14;
-        let report_type = (registers.feature >> 8) & 0xF;
+impl Wanted {
+    /// "filter 10b or 11b, report type above 1, ..: all 4": `None`.
+    pub fn of(filter: u16, report_type: u16, start: u64) -> Option<Wanted> {
         if filter > 1 {
             return None;
         }
         if report_type > 1 {
             return None;
         }
-        if registers.count == 0 {
-            return None;
-        }
-        Some(Request {
+        Some(Wanted {
             filtered: filter == 1,
             storage_only: report_type == 1,
-            pages: registers.count,
-            start: registers.lba(),
+            start,
         })
     }
 
-    /// The page's length, 512p.
-    pub fn bytes(&self) -> usize {
-        512 * usize::from(self.pages)
-    }
-
-    /// Descriptors that fit: 16p - 1, the header taking the first place.
-    pub fn room(&self) -> u32 {
-        16 * u32::from(self.pages) - 1
-    }
-
-    /// "identifier at or above the start", all 48 bits compared.
+    /// "identifier at or above the start", of ATA "all 48 bits compared".
     pub fn takes_identifier(&self, identifier: u32) -> bool {
         u64::from(identifier) >= self.start
     }
@@ -93,5 +76,38 @@ impl Request {
     /// "with filter 01b only health 65h to CFh, or FFh".
     pub fn takes_health(&self, health: u8) -> bool {
         !self.filtered || (0x65..=0xCF).contains(&health) || health == REMOVED
+    }
+}
+
+/// A request for status pages that does not get 4.
+#[derive(Clone, Copy, Debug, PartialEq, Eq)]
+pub struct Request {
+    pub wanted: Wanted,
+    pages: u16,
+}
+
+impl Request {
+    /// "filter 10b or 11b, report type above 1, p = 0: all 4": `None`.
+    pub fn of(registers: &Registers) -> Option<Request> {
+        let filter = registers.feature >> 14;
+        let report_type = (registers.feature >> 8) & 0xF;
+        let wanted = Wanted::of(filter, report_type, registers.lba())?;
+        if registers.count == 0 {
+            return None;
+        }
+        Some(Request {
+            wanted,
+            pages: registers.count,
+        })
+    }
+
+    /// The page's length, 512p.
+    pub fn bytes(&self) -> usize {
+        512 * usize::from(self.pages)
+    }
+
+    /// Descriptors that fit: 16p - 1, the header taking the first place.
+    pub fn room(&self) -> u32 {
+        16 * u32::from(self.pages) - 1
     }
 }

@@ -2,6 +2,7 @@
 
 use super::removal::Security;
 use super::request::Registers;
+use super::scsi::ScsiRequest;
 use super::table::Element;
 
 /// A longer line is no call, whatever it holds.
@@ -14,6 +15,29 @@ pub struct Command {
     pub security: Security,
     pub code: u8,
     pub registers: Registers,
+    pub length: usize,
+}
+
+/// SCSI data asked of the device.
+#[derive(Clone, Copy, Debug, PartialEq, Eq)]
+pub struct Scsi {
+    pub request: ScsiRequest,
+    pub allocation: u32,
+    pub length: usize,
+}
+
+/// The kept page as SCSI data.
+#[derive(Clone, Copy, Debug, PartialEq, Eq)]
+pub struct ToScsi {
+    pub registers: Registers,
+    pub length: usize,
+}
+
+/// The kept SCSI data as a page.
+#[derive(Clone, Copy, Debug, PartialEq, Eq)]
+pub struct ToAta {
+    pub request: ScsiRequest,
+    pub pages: u16,
     pub length: usize,
 }
 
@@ -31,6 +55,10 @@ pub enum Call {
     Length(usize),
     Poke { place: usize, byte: u8 },
     Read(Registers),
+    Scsi(Scsi),
+    ScsiRead(ScsiRequest),
+    ToScsi(ToScsi),
+    ToAta(ToAta),
 }
 
 /// What a line is.
@@ -69,7 +97,7 @@ fn call_of(name: &[u8], words: &[&[u8]]) -> Option<Call> {
         (b"command", [state, code, feature, count, lba, length]) => Some(Call::Command(Command {
             security: security_of(state)?,
             code: number8(code)?,
-            registers: Registers::new(number16(feature)?, number16(count)?, number64(lba)?),
+            registers: registers_of(feature, count, lba)?,
             length: length_of(length)?,
         })),
         (b"step", []) => Some(Call::Step),
@@ -88,13 +116,51 @@ fn call_of(name: &[u8], words: &[&[u8]]) -> Option<Call> {
             place: length_of(place)?,
             byte: number8(byte)?,
         }),
-        (b"read", [feature, count, lba]) => Some(Call::Read(Registers::new(
-            number16(feature)?,
-            number16(count)?,
-            number64(lba)?,
-        ))),
+        (b"read", [feature, count, lba]) => Some(Call::Read(registers_of(feature, count, lba)?)),
+        _ => scsi_call_of(name, words),
+    }
+}
+
+/// The calls of request 2026-03.
+fn scsi_call_of(name: &[u8], words: &[&[u8]]) -> Option<Call> {
+    match (name, words) {
+        (b"scsi", [filter, report_type, start, allocation, length]) => Some(Call::Scsi(Scsi {
+            request: scsi_request_of(filter, report_type, start)?,
+            allocation: number32(allocation)?,
+            length: length_of(length)?,
+        })),
+        (b"scsiread", [filter, report_type, start]) => {
+            Some(Call::ScsiRead(scsi_request_of(filter, report_type, start)?))
+        }
+        (b"toscsi", [feature, count, lba, length]) => Some(Call::ToScsi(ToScsi {
+            registers: registers_of(feature, count, lba)?,
+            length: length_of(length)?,
+        })),
+        (b"toata", [filter, report_type, start, pages, length]) => Some(Call::ToAta(ToAta {
+            request: scsi_request_of(filter, report_type, start)?,
+            pages: number16(pages)?,
+            length: length_of(length)?,
+        })),
         _ => None,
     }
+}
+
+/// `FEATURE COUNT LBA`.
+fn registers_of(feature: &[u8], count: &[u8], lba: &[u8]) -> Option<Registers> {
+    Some(Registers::new(
+        number16(feature)?,
+        number16(count)?,
+        number64(lba)?,
+    ))
+}
+
+/// `FILTER TYPE START`.
+fn scsi_request_of(filter: &[u8], report_type: &[u8], start: &[u8]) -> Option<ScsiRequest> {
+    Some(ScsiRequest {
+        filter: number8(filter)?,
+        report_type: number8(report_type)?,
+        start: number32(start)?,
+    })
 }
 
 /// `element ID TYPE HEALTH BLOCKS FLAG`.

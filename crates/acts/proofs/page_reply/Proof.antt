@@ -12,6 +12,8 @@ page-reply-spec =
     (λ c. search needs)
     (λ c κs. search needs)
     (λ c. search needs)
+    (λ c. search needs)
+    (λ c. search (at-call))
     (λ c. search (at-call))
     (λ c. search (at-call))
     (λ c. search (at-call)))

@@ -7,15 +7,16 @@ use borrow.Author.Needs.{needs}
 use Rattle.writing.proofs.Puts.{puts-none}
 use Rattle.writing.specs.Private.{Puts}
 use Rattle.contents.specs.Contents.{slotsBelow}
+use Rattle.contents.specs.Private.{slotAt}
 use Rattle.contents.proofs.Contents.{slots-next}
 use Rattle.contents.proofs.put_slots.Statement.{statement}
 use Rattle.contents.proofs.put_slots.Tie as tie
 
 abbrev Inv-loop : tie.InvT-loop
-Inv-loop out₀ from page count at₀ k₀ out at k = Puts out₀ from (slotsBelow page k) out at × (k ≤ count) × (length out ≡ length out₀)
+Inv-loop out₀ from bytes count o at₀ k₀ out at k = Puts out₀ from (slotsBelow (slotAt o bytes) k) out at × (k ≤ count) × (length out ≡ length out₀)
 
 abbrev μ-loop : tie.MeasureT-loop
-μ-loop out₀ from page count at₀ k₀ out at k = count - k
+μ-loop out₀ from bytes count o at₀ k₀ out at k = count - k
 
 pub put-slots-spec : {M : Type 1} → statement M
 put-slots-spec =

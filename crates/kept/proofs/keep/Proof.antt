@@ -1,6 +1,6 @@
 -- `kept::keep`.
 use borrow.Author.Needs.{needs}
-use Rattle.kept.proofs.Left.{none-kept, long-kept, some-kept}
+use Rattle.kept.proofs.Left.{none-kept, some-kept}
 use Rattle.kept.proofs.keep.Statement.{statement}
 use Rattle.kept.proofs.keep.Tie as tie
 
@@ -11,7 +11,5 @@ keep-spec =
     (λ c κs. search needs)
     (λ c. search needs)
     (λ c. (search (none-kept), search needs))
-    (λ c. search needs)
-    (λ c. (search (long-kept), search needs))
     (λ c. search needs)
     (λ c. (search (some-kept), search needs)))

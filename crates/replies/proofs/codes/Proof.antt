@@ -1,6 +1,6 @@
 -- `replies::codes`.
 use borrow.Author.Needs.{needs}
-use Rattle.replies.proofs.Replies.{codes-laid}
+use Rattle.replies.proofs.Answers.{codes-laid}
 use Rattle.replies.proofs.codes.Statement.{statement}
 use Rattle.replies.proofs.codes.Tie as tie
 

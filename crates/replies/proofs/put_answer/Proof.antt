@@ -1,6 +1,6 @@
 -- `replies::put_answer`.
 use borrow.Author.Needs.{needs}
-use Rattle.replies.proofs.Replies.{answer-puts}
+use Rattle.replies.proofs.Answers.{answer-puts}
 use Rattle.replies.proofs.put_answer.Statement.{statement}
 use Rattle.replies.proofs.put_answer.Tie as tie
 

@@ -1,6 +1,6 @@
 -- `replies::put_lent`.
 use borrow.Author.Needs.{needs}
-use Rattle.replies.proofs.Replies.{lent-puts}
+use Rattle.replies.proofs.Answers.{lent-puts}
 use Rattle.replies.proofs.put_lent.Statement.{statement}
 use Rattle.replies.proofs.put_lent.Tie as tie
 

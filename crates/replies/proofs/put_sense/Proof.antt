@@ -1,6 +1,6 @@
 -- `replies::put_sense`.
 use borrow.Author.Needs.{needs}
-use Rattle.replies.proofs.Replies.{sense-none, sense-puts}
+use Rattle.replies.proofs.Answers.{sense-none, sense-puts}
 use Rattle.replies.proofs.put_sense.Statement.{statement}
 use Rattle.replies.proofs.put_sense.Tie as tie
 

@@ -22,4 +22,5 @@ page-call-spec =
     (λ c κs. search needs)
     (λ c κs. search needs)
     (λ c. search (this-call, other-call))
+    (λ c κs. search needs)
     (λ c. search (this-call, other-call)))

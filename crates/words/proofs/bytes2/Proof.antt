@@ -1,6 +1,6 @@
--- `words::bytes2`: in each arm the order is told, and the bytes compute.
+-- `words::bytes2`: of the number turned.
 use borrow.Author.Needs.{needs}
-use Rattle.words.proofs.Bytes.{in-order}
+use Rattle.words.proofs.Bytes.{bytes-turned}
 use Rattle.words.proofs.bytes2.Statement.{statement}
 use Rattle.words.proofs.bytes2.Tie as tie
 
@@ -8,9 +8,7 @@ pub bytes2-spec : {M : Type 1} → statement M
 bytes2-spec =
     tie.close
     (tie.spec
+    (λ c κs. search needs)
     (λ c. search needs)
     (λ c. search needs)
-    (λ c. search needs)
-    (λ c. search needs)
-    (λ c. in-order 2 (c .before .before .args .x) (c .enum-told .given .1))
-    (λ c. in-order 2 (c .before .before .args .x) (c .enum-told2 .given .1)))
+    (λ c. search (bytes-turned)))

@@ -1,6 +1,6 @@
--- `words::bytes8`: in each arm the order is told, and the bytes compute.
+-- `words::bytes8`: of the number turned.
 use borrow.Author.Needs.{needs}
-use Rattle.words.proofs.Bytes.{in-order}
+use Rattle.words.proofs.Bytes.{bytes-turned}
 use Rattle.words.proofs.bytes8.Statement.{statement}
 use Rattle.words.proofs.bytes8.Tie as tie
 
@@ -8,6 +8,7 @@ pub bytes8-spec : {M : Type 1} → statement M
 bytes8-spec =
     tie.close
     (tie.spec
+    (λ c κs. search needs)
     (λ c. search needs)
     (λ c. search needs)
     (λ c. search needs)
@@ -16,7 +17,4 @@ bytes8-spec =
     (λ c. search needs)
     (λ c. search needs)
     (λ c. search needs)
-    (λ c. search needs)
-    (λ c. search needs)
-    (λ c. in-order 8 (c .before .before .args .x) (c .enum-told .given .1))
-    (λ c. in-order 8 (c .before .before .args .x) (c .enum-told2 .given .1)))
+    (λ c. search (bytes-turned)))

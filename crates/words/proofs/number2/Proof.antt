@@ -1,6 +1,6 @@
--- `words::number2`: two bytes joined.
+-- `words::number2`: of its bytes.
 use borrow.Author.Needs.{needs}
-use Rattle.words.proofs.Bytes.{number-bytes}
+use Rattle.words.proofs.Bytes.{number-tail}
 use Rattle.words.proofs.number2.Statement.{statement}
 use Rattle.words.proofs.number2.Tie as tie
 
@@ -12,4 +12,4 @@ number2-spec =
     (λ c κs. search needs)
     (λ c κs. search needs)
     (λ c κs. search needs)
-    (λ c. search (number-bytes)))
+    (λ c. search (number-tail)))

@@ -1,6 +1,6 @@
--- `words::number4`: two halves of two bytes.
+-- `words::number4`: of its bytes.
 use borrow.Author.Needs.{needs}
-use Rattle.words.proofs.Bytes.{number-halves}
+use Rattle.words.proofs.Bytes.{number-tail}
 use Rattle.words.proofs.number4.Statement.{statement}
 use Rattle.words.proofs.number4.Tie as tie
 
@@ -12,4 +12,6 @@ number4-spec =
     (λ c κs. search needs)
     (λ c κs. search needs)
     (λ c κs. search needs)
-    (λ c. search (number-halves 2)))
+    (λ c κs. search needs)
+    (λ c κs. search needs)
+    (λ c. search (number-tail)))

@@ -1,6 +1,6 @@
--- `words::number8`: two halves of four bytes.
+-- `words::number8`: of its bytes.
 use borrow.Author.Needs.{needs}
-use Rattle.words.proofs.Bytes.{number-halves}
+use Rattle.words.proofs.Bytes.{eight-tail}
 use Rattle.words.proofs.number8.Statement.{statement}
 use Rattle.words.proofs.number8.Tie as tie
 
@@ -12,4 +12,10 @@ number8-spec =
     (λ c κs. search needs)
     (λ c κs. search needs)
     (λ c κs. search needs)
-    (λ c. search (number-halves 4)))
+    (λ c κs. search needs)
+    (λ c κs. search needs)
+    (λ c κs. search needs)
+    (λ c κs. search needs)
+    (λ c κs. search needs)
+    (λ c κs. search needs)
+    (λ c. search (eight-tail)))

@@ -1,6 +1,6 @@
--- `words::of2`: in each arm the order is told.
+-- `words::of2`: turned.
 use borrow.Author.Needs.{needs}
-use Rattle.words.proofs.Bytes.{two-little, two-big, in-turn}
+use Rattle.words.proofs.Bytes.{two-given}
 use Rattle.words.proofs.of2.Statement.{statement}
 use Rattle.words.proofs.of2.Tie as tie
 
@@ -10,9 +10,5 @@ of2-spec =
     (tie.spec
     (λ c. search needs)
     (λ c. search needs)
-    (λ c. search needs)
-    (λ c. search needs)
-    (λ c. search needs)
-    (λ c. search needs)
-    (λ c. search (in-turn, two-little))
-    (λ c. search (in-turn, two-big)))
+    (λ c κs. search needs)
+    (λ c. search (two-given)))

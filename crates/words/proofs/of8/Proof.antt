@@ -1,4 +1,4 @@
--- `words::of8`: two halves.
+-- `words::of8`: turned.
 use borrow.Author.Needs.{needs}
 use Rattle.words.proofs.Bytes.{eight-given}
 use Rattle.words.proofs.of8.Statement.{statement}
@@ -10,5 +10,9 @@ of8-spec =
     (tie.spec
     (λ c κs. search needs)
     (λ c κs. search needs)
+    (λ c. search needs)
+    (λ c. search needs)
+    (λ c. search needs)
+    (λ c. search needs)
     (λ c κs. search needs)
     (λ c. search (eight-given)))

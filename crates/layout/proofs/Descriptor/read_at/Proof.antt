@@ -1,4 +1,4 @@
--- `layout::Descriptor::read_at`: of 32 bytes in the little order, or of any.
+-- `layout::Descriptor::read_at`: of 32 bytes, or of fewer.
 use borrow.Author.Needs.{needs}
 use borrow.Author.Tests.{not-false}
 use Rattle.layout.proofs.Bytes.{place-inside, place-there, descriptor-part, descriptor-from}
@@ -13,13 +13,8 @@ read-at-spec =
     (λ c κs. search needs)
     (λ c κs. search needs)
     (λ c. search (descriptor-part))
-    (λ c. search needs)
     (λ c. search (place-inside, not-false))
     (λ c. search (place-inside, not-false))
     (λ c. search needs)
     (λ c κs. search (place-there, not-false))
-    (λ c. search needs)
-    (λ c κs. search needs)
-    (λ c κs. search needs)
-    (λ c. search (descriptor-from))
-    (λ c. search (descriptor-part)))
+    (λ c. search (descriptor-from)))

@@ -1,6 +1,5 @@
--- `layout::Header::read`: of 32 bytes in the little order, or of any.
+-- `layout::Header::read`: of 32 bytes, or of fewer.
 use borrow.Author.Needs.{needs}
-use Rattle.layout.proofs.Bytes.{header-little}
 use Rattle.layout.proofs.Header.read.Statement.{statement}
 use Rattle.layout.proofs.Header.read.Tie as tie
 
@@ -10,9 +9,5 @@ read-spec =
     (tie.spec
     (λ c κs. search needs)
     (λ c. search needs)
-    (λ c. search needs)
     (λ c κs. search needs)
-    (λ c. search needs)
-    (λ c κs. search needs)
-    (λ c. search (header-little))
     (λ c. search needs))

@@ -1,0 +1,3 @@
+-- What is proved of conversions.
+pub mod Outcomes
+pub mod Turned

@@ -1,0 +1,53 @@
+// An ATA page as SCSI data, and back, between lent buffers: the same elements and header numbers in the other byte order.
+mod from_data;
+mod from_page;
+
+ghost use mathlib.Core.Path.{_≡_};
+ghost use Prim.Native.Nat.{_+_, _*_, _≤_};
+ghost use lib.ListN.{length};
+ghost use Rattle.layout.specs.Bytes.{headerIn, laid};
+ghost use Rattle.offences.specs.First as first;
+ghost use Rattle.slices.specs.Lists.{stored};
+ghost use Rattle.convert.specs.Convert.{listIn};
+pub use from_data::to_ata;
+pub use from_page::to_scsi;
+use layout::Descriptor;
+use layout::Header;
+use offences::Offence;
+use words::Order;
+
+// How many bytes were written; that the buffer is too short; or the place of the first offence.
+pub enum Converted {
+    Done(usize),
+    SmallBuffer,
+    Refused(usize),
+}
+
+// An offence at N's neighbour, the returned number, unless a list can be converted.
+fn unless(convertible: bool) -> Offence
+    ensures { λ r. ⌜ r ≡ first.unless convertible 4 ⌝ }
+{
+    if convertible {
+        Offence::Clean
+    } else {
+        Offence::At(4)
+    }
+}
+
+// Stores the header and the first `count` descriptors of one order in the other, reserved bytes as zeros.
+fn put_turned(bytes: &[u8], count: u32, from: Order, to: Order, buf: &mut [u8])
+    requires { ⌜ 32 + 32 * count ≤ length (now buf) ⌝ }
+    ensures { λ _. ⌜ now (buf .exit) ≡ stored (now (buf .entry)) 0 (laid to (headerIn from (now (bytes .entry))) (listIn from (now (bytes .entry)) count)) ⌝ }
+{
+    let h = Header::read(bytes, from);
+    let header = h.bytes(to);
+    slices::put(buf, 0, &header);
+    let end = 32 + 32 * (count as usize);
+    let mut at: usize = 32;
+    while at < end {
+        let d = Descriptor::read_at(bytes, at, from);
+        let turned = d.bytes(to);
+        slices::put(buf, at, &turned);
+        at += 32;
+    }
+}

@@ -1,0 +1,3 @@
+-- What is proved of the calls for a SCSI host.
+pub mod Calls
+pub mod Once

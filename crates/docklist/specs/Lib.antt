@@ -1,0 +1,4 @@
+-- The listing of SCSI's data.
+
+pub mod Docklist
+pub mod Promises

@@ -1,0 +1,35 @@
+-- `dump::digits_of`. The invariant: the digits of the first k bytes stand at the front.
+use Prim.Native.Nat.{_-_, _≤_}
+use mathlib.Core.Path.{_≡_, refl, sym}
+use native.Mathlib.Omega.{arith}
+use lib.ListN.{length, replicate}
+use borrow.Author.Needs.{needs}
+use Rattle.slices.proofs.Lists.{stored-none}
+use Rattle.dump.specs.Private.{begun}
+use Rattle.dump.proofs.Data.{digits-next, digits-all}
+use Rattle.dump.proofs.digits_of.Statement.{statement}
+use Rattle.dump.proofs.digits_of.Tie as tie
+
+abbrev Inv-loop : tie.InvT-loop
+Inv-loop bytes line₀ k₀ line k = (line ≡ begun bytes k) × (k ≤ length bytes) × (length line ≡ 65)
+
+abbrev μ-loop : tie.MeasureT-loop
+μ-loop bytes line₀ k₀ line k = length bytes - k
+
+pub digits-of-spec : {M : Type 1} → statement M
+digits-of-spec =
+    tie.close
+    (tie.spec
+    Inv-loop
+    μ-loop
+    (λ c. (sym (stored-none (replicate 65 10) 0), omega arith, refl))
+    (λ c. search needs)
+    (λ c κs. search needs)
+    (λ c. search needs)
+    (λ c. search needs)
+    (λ c. search needs)
+    (λ c κs. search needs)
+    (λ c. search needs)
+    (λ c. search needs)
+    (λ c. (search (digits-next), omega arith, search needs))
+    (λ c. search (digits-all)))

@@ -1,0 +1,3 @@
+-- The lines of a list's descriptors.
+
+pub mod Entries

@@ -1,0 +1,4 @@
+-- What is proved of pages and SCSI data turned into each other.
+pub mod Device
+pub mod Exchange
+pub mod Kept

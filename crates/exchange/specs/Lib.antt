@@ -1,0 +1,2 @@
+-- Pages and SCSI data, turned into each other, and read.
+pub mod Exchange

@@ -1,0 +1,1 @@
+// Pages and SCSI data turned into each other: what holds of it; no function.

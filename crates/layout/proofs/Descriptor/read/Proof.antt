@@ -1,0 +1,13 @@
+-- `layout::Descriptor::read`: of 32 bytes, or of fewer.
+use borrow.Author.Needs.{needs}
+use Rattle.layout.proofs.Descriptor.read.Statement.{statement}
+use Rattle.layout.proofs.Descriptor.read.Tie as tie
+
+pub read-spec : {M : Type 1} → statement M
+read-spec =
+    tie.close
+    (tie.spec
+    (λ c κs. search needs)
+    (λ c. search needs)
+    (λ c κs. search needs)
+    (λ c. search needs))

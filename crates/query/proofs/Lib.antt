@@ -1,0 +1,2 @@
+-- What is proved of a SCSI host's request.
+pub mod Queries

@@ -1,0 +1,3 @@
+-- A SCSI host's request.
+pub mod Promises
+pub mod Queries

@@ -1,0 +1,19 @@
+-- What holds of every request. It is a statement; proofs/ has the proof under the same name in lower case.
+use Prim.Native.Nat.{ℕ, _^_, _<_}
+use mathlib.Core.Bool.{false}
+use mathlib.Core.Path.{_≡_}
+use Rattle.request.specs.Requests.{filterOf, reportTypeOf, pagesOf, startOf}
+use Rattle.request.specs.declared.Request.{Request}
+use Rattle.query.specs.Queries.{dueFour, askedFor}
+use Rattle.query.specs.declared.Query.{Query}
+
+-- an ATA request with a SCSI request's fields, for some pages
+pub record Same-asked (p : ℕ) (q : Query) (r : Request) : Type 0 where
+  pub filter : filterOf r ≡ q .filter
+  pub report : reportTypeOf r ≡ q .report
+  pub start : startOf r ≡ q .start .0
+  pub pages : pagesOf r ≡ p
+
+-- one that is not due 4 has its fields in the ATA request
+abbrev pub Asks-the-same : Type 0
+Asks-the-same = (p : ℕ) (q : Query) → q .start .0 < 2 ^ 32 → dueFour q ≡ false → Same-asked p q (askedFor p q)

@@ -1,0 +1,6 @@
+-- What is proved of the reader of SCSI's data.
+pub mod Data
+pub mod Examples
+pub mod LayoutTheorem
+pub mod Once
+pub mod Taken

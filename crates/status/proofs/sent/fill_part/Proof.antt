@@ -1,0 +1,17 @@
+-- `status::sent::fill_part`: the header, which may be cut, and what follows it.
+use borrow.Author.Needs.{needs}
+use Rattle.status.proofs.Sending.{part-cut, part-whole}
+use Rattle.status.proofs.sent.fill_part.Statement.{statement}
+use Rattle.status.proofs.sent.fill_part.Tie as tie
+
+pub fill-part-spec : {M : Type 1} → statement M
+fill-part-spec =
+    tie.close
+    (tie.spec
+    (λ c κs. search needs)
+    (λ c κs. search needs)
+    (λ c. search needs)
+    (λ c. search (part-cut))
+    (λ c κs. search needs)
+    (λ c. search needs)
+    (λ c. search (part-whole)))

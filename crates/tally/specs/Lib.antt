@@ -1,0 +1,3 @@
+-- The line that ends the text of SCSI data that is not whole.
+
+pub mod Tally

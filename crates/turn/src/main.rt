@@ -1,0 +1,89 @@
+// Converts what is on standard input: a page to SCSI data, or with an argument, a decimal number, SCSI data to so many pages. A refusal is words
+// on standard error, and then nothing is written.
+use convert::Converted;
+use libc::STDERR_FILENO;
+use libc::STDIN_FILENO;
+use libc::STDOUT_FILENO;
+use paper::PageCount;
+
+// A byte more than may be converted, so that a longer input is seen.
+fn input_room() -> [u8; 65537] {
+    [0u8; 65537]
+}
+
+// Room for everything that is converted.
+fn room() -> [u8; 65536] {
+    [0u8; 65536]
+}
+
+fn refuse(place: usize) {
+    let mut words = io::buffer();
+    let size = heading::put_refused(&mut words, 0, place);
+    io::write_all(STDERR_FILENO, slices::head(&words, size));
+}
+
+fn answer(outcome: Converted, out: &[u8]) {
+    match outcome {
+        Converted::Done(size) => {
+            if !io::write_all(STDOUT_FILENO, slices::head(out, size)) {
+                os::fail(b"turn: standard output");
+            }
+        }
+        Converted::SmallBuffer => os::fail(b"turn: more than there is room for"),
+        Converted::Refused(place) => refuse(place),
+    }
+}
+
+// A page as the answer to the listing's request.
+fn to_scsi(page: &[u8]) {
+    let pages = PageCount((page.len() / 512 % 65536) as u16);
+    let mut out = room();
+    let outcome = convert::to_scsi(page, request::request_for(pages), &mut out);
+    answer(outcome, &out);
+}
+
+fn to_ata(bytes: &[u8], pages: PageCount) {
+    let mut out = room();
+    let outcome = convert::to_ata(bytes, query::plain(), pages, &mut out);
+    answer(outcome, &out);
+}
+
+fn digit(word: &[u8], place: usize) -> u16 {
+    (slices::byte_at(word, place) % 16) as u16
+}
+
+// The number of up to three digits.
+fn number(word: &[u8]) -> u16 {
+    if word.len() < 2 {
+        return digit(word, 0) % 10;
+    }
+    if word.len() < 3 {
+        return digit(word, 0) % 10 * 10 + digit(word, 1) % 10;
+    }
+    digit(word, 0) % 10 * 100 + digit(word, 1) % 10 * 10 + digit(word, 2) % 10
+}
+
+fn turn(bytes: &[u8]) {
+    if os::arg_count() < 2 {
+        to_scsi(bytes);
+        return;
+    }
+    let mut word = io::buffer();
+    let length = os::arg(1, &mut word);
+    to_ata(bytes, PageCount(number(&word[..length])));
+}
+
+fn main() {
+    let mut buf = input_room();
+    let read = input::read_whole(STDIN_FILENO, &mut buf);
+    if read.failed {
+        os::fail(b"turn: standard input");
+        return;
+    }
+    let n = read.count;
+    if 65536 < n {
+        refuse(65536);
+        return;
+    }
+    turn(&buf[..n]);
+}
