@@ -1,7 +1,7 @@
 -- What is refused, and what is answered: a law for each way out.
 use Prim.Native.Nat.{ℕ, _+_, _-_, _*_, _≤_, _<_}
 use mathlib.Core.Bool.{Bool, true, false, cond}
-use mathlib.Core.List.{List, _++_}
+use mathlib.Core.List.{List, [], _++_}
 use mathlib.Core.Path.{_≡_, refl, sym, ap, _∙_}
 use native.Mathlib.Omega.{arith}
 use lib.Dec.{eqb, leb, ltb}
@@ -37,7 +37,7 @@ use Rattle.slices.specs.Lists.{stored}
 use Rattle.words.specs.declared.Order.the-variants.{Little, Big}
 use Rattle.words.specs.declared.Order.{Order}
 use Rattle.convert.specs.Convert.{listIn, turned, paged, scsiOffence, fitsPages, ataOffence, Outcome, put, place, bufferOf, heard, outcome, toScsi, toAta}
-use Rattle.convert.specs.Promises.{One-outcome, Refusal-leaves-bytes}
+use Rattle.convert.specs.Promises.{One-outcome, Refusal-leaves-bytes, Data-bytes, Page-bytes}
 use Rattle.convert.specs.declared.Converted.the-variants.{Done, SmallBuffer, Refused}
 use Rattle.convert.specs.declared.Converted.{Converted}
 use Rattle.convert.proofs.Turned.{length-list}
@@ -210,3 +210,9 @@ one-outcome t a b x y is-a is-b = (
   sym (back-heard a x .0) ∙ ap back (is-a ∙ sym is-b) ∙ back-heard b y .0,
   sym (back-heard a x .1) ∙ ap (λ (u : Told Outcome). bufferOf (u .state)) (is-a ∙ sym is-b) ∙ back-heard b y .1,
 )
+
+pub data-bytes : Data-bytes
+data-bytes = length-turned
+
+pub page-bytes : Page-bytes
+page-bytes s q p clean = sym (page-size s q p [] (ataOffence s q p) refl clean)

@@ -42,7 +42,7 @@ paged p s = turned Big Little s ++ replicate (512 * p - baseOf (headerIn Big s .
 abbrev pub scsiOffence : List ℕ → Request → Offence
 scsiOffence s q = pageOffence Little s q orElse unless (eqb (headerIn Little s .returned) (headerIn Little s .number)) 4
 
--- "9 at 4 for a cut list or one above 16p - 1 for the pages asked": none is at or below that of p = 0
+-- "9 at 4 for a cut list or one above 16p - 1 for the pages asked": for p = 0 that is -1, so that every N is above it
 abbrev pub fitsPages : ℕ → ℕ → ℕ → Bool
 fitsPages whole n p = eqb whole n && leb (n + 1) (16 * p)
 

@@ -1,10 +1,15 @@
 -- What holds of every conversion. Each is a statement; proofs/ has the proof under the same name in lower case.
-use Prim.Native.Nat.{ℕ}
+use Prim.Native.Nat.{ℕ, _+_, _*_}
 use mathlib.Core.List.{List}
 use mathlib.Core.Path.{_≡_}
+use lib.ListN.{length}
+use Rattle.layout.specs.Bytes.{headerIn}
+use Rattle.offences.specs.declared.Offence.the-variants.{Clean}
 use Rattle.offences.specs.declared.Offence.{Offence}
 use Rattle.paper.specs.Told.{Told}
-use Rattle.convert.specs.Convert.{Outcome, heard, outcome, bufferOf}
+use Rattle.query.specs.declared.Query.{Query}
+use Rattle.words.specs.declared.Order.{Order}
+use Rattle.convert.specs.Convert.{turned, paged, ataOffence, Outcome, heard, outcome, bufferOf}
 use Rattle.convert.specs.declared.Converted.{Converted}
 
 -- no second answer fits, and no second buffer
@@ -14,3 +19,10 @@ One-outcome = (t : Told Outcome) (a b : Converted) (x y : List ℕ) → heard a 
 -- "Every number but 0 leaves .. every lent buffer untouched."
 abbrev pub Refusal-leaves-bytes : Type 0
 Refusal-leaves-bytes = (f : Offence) (bytes buf : List ℕ) → (outcome f bytes buf .number ≡ 0 → ⊥) → bufferOf (outcome f bytes buf .state) ≡ buf
+
+-- "exactly the bytes (32 + 32N, or 512p)"
+abbrev pub Data-bytes : Type 0
+Data-bytes = (from to : Order) (s : List ℕ) → length (turned from to s) ≡ 32 + 32 * headerIn from s .number
+
+abbrev pub Page-bytes : Type 0
+Page-bytes = (s : List ℕ) (q : Query) (p : ℕ) → ataOffence s q p ≡ Clean → length (paged p s) ≡ 512 * p

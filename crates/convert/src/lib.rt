@@ -23,7 +23,7 @@ pub enum Converted {
     Refused(usize),
 }
 
-// An offence at N's neighbour, the returned number, unless a list can be converted.
+// An offence at 4, where the returned number stands, unless a list can be converted.
 fn unless(convertible: bool) -> Offence
     ensures { λ r. ⌜ r ≡ first.unless convertible 4 ⌝ }
 {
