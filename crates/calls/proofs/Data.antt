@@ -21,6 +21,10 @@ use Rattle.paper.proofs.Lba as Lba
 use Rattle.paper.proofs.Lba.Laws as Lba′
 use Rattle.paper.proofs.Security as Security
 use Rattle.paper.proofs.Security.Laws as Security′
+use Rattle.paper.proofs.Written as Written
+use Rattle.paper.proofs.Written.Laws as Written′
+use Rattle.query.proofs.Query as Query
+use Rattle.query.proofs.Query.Laws as Query′
 use Rattle.request.proofs.Request as Request
 use Rattle.request.proofs.Request.Laws as Request′
 
@@ -36,6 +40,9 @@ security = enum Security.the-type Security′.the-laws Security′.the-plain Sec
 abbrev pub request : Datum
 request = struct Request.the-type Request′.the-laws Request′.the-plain Request′.the-copy
 
+abbrev pub query : Datum
+query = struct Query.the-type Query′.the-laws Query′.the-plain Query′.the-copy
+
 abbrev pub element : Datum
 element = struct Element.the-type Element′.the-laws Element′.the-plain Element′.the-copy
 
@@ -44,6 +51,9 @@ device = struct Device.the-type Device′.the-laws Device′.the-plain Device′
 
 abbrev pub answer : Datum
 answer = enum Answer.the-type Answer′.the-laws Answer′.the-plain Answer′.the-copy tt
+
+abbrev pub written : Datum
+written = struct Written.the-type Written′.the-laws Written′.the-plain Written′.the-copy
 
 abbrev pub checked : Datum
 checked = enum Checked.the-type Checked′.the-laws Checked′.the-plain Checked′.the-copy tt

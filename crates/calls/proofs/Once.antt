@@ -5,6 +5,7 @@ use Rattle.conduct.proofs.EveryCall.{one-answer}
 use Rattle.device.specs.Machine.{command, told}
 use Rattle.offer.proofs.Check.{verdict-injective}
 use Rattle.paper.proofs.Once.{told-once}
+use Rattle.paper.proofs.Output.{one-output}
 use Rattle.status.proofs.EveryPage.{one-page}
 use Rattle.calls.specs.Offered.{madeFrom}
 use Rattle.calls.specs.Promises.{One-command, One-fits}
@@ -20,6 +21,7 @@ one-fits =
       changing = one-answer;
       command = one-command;
       showing = one-page;
+      sending = one-output;
       checking = λ es limit a b p q. verdict-injective a b (p ∙ sym q);
       finding = λ es id a b p q. p ∙ sym q;
       making = λ d es limit. told-once (madeFrom d es limit);

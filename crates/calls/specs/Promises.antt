@@ -14,6 +14,7 @@ use Rattle.offer.specs.declared.Checked.{Checked}
 use Rattle.offer.specs.declared.Element.{Element}
 use Rattle.offer.specs.declared.Found.the-variants.{Missing, One}
 use Rattle.offer.specs.declared.Found.{Found}
+use Rattle.paper.specs.Promises.{One-output}
 use Rattle.paper.specs.Registers.{Registers}
 use Rattle.paper.specs.Told.{tells, said}
 use Rattle.paper.specs.declared.Answer.{Answer}
@@ -47,6 +48,7 @@ pub record One-fits : Type 0 where
   pub changing : One-answer
   pub command : One-command
   pub showing : One-page
+  pub sending : One-output
   pub checking : One-check
   pub finding : One-find
   pub making : One-making

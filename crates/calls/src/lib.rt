@@ -11,9 +11,11 @@ ghost use Rattle.making.specs.Making.{madeOf};
 ghost use Rattle.offer.specs.Check.{checkOf, verdict};
 ghost use Rattle.offer.specs.Elements.{blank};
 ghost use Rattle.offer.specs.Search as search;
+ghost use Rattle.paper.specs.Output.{output};
 ghost use Rattle.paper.specs.Told.{said};
 ghost use Rattle.status.specs.Lent.{lent};
 ghost use Rattle.status.specs.Page.{shown};
+ghost use Rattle.status.specs.Sent.{sent};
 ghost use Rattle.calls.specs.Offered.{arrayOf, checkList, findList, madeFrom};
 use device::Device;
 use device::Stepped;
@@ -25,6 +27,8 @@ use paper::Answer;
 use paper::ElementId;
 use paper::Lba;
 use paper::Security;
+use paper::Written;
+use query::Query;
 use request::Request;
 
 // ---- The device, changed in place
@@ -123,6 +127,13 @@ pub fn show(d: &Device, security: Security, request: Request, buf: &mut [u8]) ->
     ensures { λ r. ⌜ said r (now (buf .exit)) ≡ shown (now (d .entry)) security request (now (buf .entry)) ⌝ }
 {
     status::show(*d, security, request, buf)
+}
+
+// The data for a SCSI host.
+pub fn send(d: &Device, query: Query, allocation: u32, buf: &mut [u8]) -> Written
+    ensures { λ r. ⌜ said (r .answer) (output (r .count) (now (buf .exit))) ≡ sent (now (d .entry)) query allocation (now (buf .entry)) ⌝ }
+{
+    status::send(*d, query, allocation, buf)
 }
 
 // ---- The caller's own list of records

@@ -27,7 +27,6 @@ use Rattle.table.specs.Elements.{live, blankPart, identifiers, size, identifier
 use Rattle.table.specs.declared.Part.{Part}
 use Rattle.view.specs.Shown.{shownOf, asks, busyOf}
 use Rattle.words.specs.declared.Order.the-variants.{Little}
-use Rattle.words.specs.declared.Order.{Order}
 use Rattle.status.specs.Page.{shownAt, shownAll, listOf, headed, headerOf, pageOf, shown}
 use Rattle.status.specs.Private.{shownIn, shownThere, Lists}
 use Rattle.status.specs.Promises.{Keeps-identifier}
@@ -111,36 +110,19 @@ module _ (d : Device) (q : Request) (places : List ℕ) (number : ℕ) (lists : 
       sym (take-there (d .table .parts) (d .cells .healths) places number r (omega (arith, is-r))) ∙ ap (take r) (lists .0) in
       together d q h (shownThere (d .table .parts) (d .cells .healths) places r) r right headed-so first some
 
--- the returned ones fit the page, and the table
-module _ (number pages r : ℕ) (is-r : r ≡ returnedOf number pages) where
-  pub returned-less : r ≤ number
-  returned-less = omega (arith, is-r)
-
-  pub returned-few : number ≤ 128 → r ≤ 128
-  returned-few few = omega (arith, is-r)
-
-  pub returned-fits : 1 ≤ pages → 32 + 32 * r ≤ 512 * pages
-  returned-fits some = omega (arith, is-r)
-
-  pub returned-room : 1 ≤ pages → (room there : ℕ) → 512 * pages ≤ room → there ≡ room → 32 + 32 * r ≤ there
-  returned-room some room there large same = omega (arith, is-r)
-
-pub room-still : (size room there here : ℕ) → size ≤ room → there ≡ room → here ≡ there → size ≤ here
-room-still size room there here large is-there is-here = omega arith
-
-module _ (o : Order) (ps : List Part) (hs places : List ℕ) (r : ℕ) (b : List ℕ) (long : length places ≡ 128) (few : r ≤ 128) (room : 32 + 32 * r ≤ length b) where
-  pub put-next : (k : ℕ) (x y : List ℕ) → k < r → x ≡ stored b 32 (flat (descriptorBytes o) (take k (shownThere ps hs places r)))
-      → y ≡ stored x (32 + 32 * k) (descriptorBytes o (shownOf (getD ps (getD places k 0) blankPart) (getD hs (getD places k 0) 0)))
-      → y ≡ stored b 32 (flat (descriptorBytes o) (take (k + 1) (shownThere ps hs places r)))
+module _ (ps : List Part) (hs places : List ℕ) (r : ℕ) (b : List ℕ) (long : length places ≡ 128) (few : r ≤ 128) (room : 32 + 32 * r ≤ length b) where
+  pub put-next : (k : ℕ) (x y : List ℕ) → k < r → x ≡ stored b 32 (flat (descriptorBytes Little) (take k (shownThere ps hs places r)))
+      → y ≡ stored x (32 + 32 * k) (descriptorBytes Little (shownOf (getD ps (getD places k 0) blankPart) (getD hs (getD places k 0) 0)))
+      → y ≡ stored b 32 (flat (descriptorBytes Little) (take (k + 1) (shownThere ps hs places r)))
   unfolding shownIn
   put-next k x y less is-x is-y =
-      stored-each (descriptorBytes o) 32 (wide o) (shownThere ps hs places r) b x y 32 k (shownIn ps hs 0) (omega arith) (omega (arith, length-there ps hs places r (omega arith))) is-x
-      (is-y ∙ ap (λ (z : Descriptor). stored x (32 + 32 * k) (descriptorBytes o z)) (at-place ps hs places r k less))
+      stored-each (descriptorBytes Little) 32 (wide Little) (shownThere ps hs places r) b x y 32 k (shownIn ps hs 0) (omega arith) (omega (arith, length-there ps hs places r (omega arith))) is-x
+      (is-y ∙ ap (λ (z : Descriptor). stored x (32 + 32 * k) (descriptorBytes Little z)) (at-place ps hs places r k less))
 
-  pub put-all : (k : ℕ) (x : List ℕ) → k ≤ r → r ≤ k → x ≡ stored b 32 (flat (descriptorBytes o) (take k (shownThere ps hs places r)))
-      → x ≡ stored b 32 (flat (descriptorBytes o) (shownThere ps hs places r))
+  pub put-all : (k : ℕ) (x : List ℕ) → k ≤ r → r ≤ k → x ≡ stored b 32 (flat (descriptorBytes Little) (take k (shownThere ps hs places r)))
+      → x ≡ stored b 32 (flat (descriptorBytes Little) (shownThere ps hs places r))
   put-all k x low high is-x =
-      is-x ∙ ap (λ (l : List Descriptor). stored b 32 (flat (descriptorBytes o) l)) (take-all k (shownThere ps hs places r) (omega (arith, length-there ps hs places r (omega arith))))
+      is-x ∙ ap (λ (l : List Descriptor). stored b 32 (flat (descriptorBytes Little) l)) (take-all k (shownThere ps hs places r) (omega (arith, length-there ps hs places r (omega arith))))
 
 -- ## The answer, and the buffer
 

@@ -1,19 +1,19 @@
 -- The list, put down as places of the table: what each turn of the loop adds, and what it comes to.
-use Prim.Native.Nat.{ℕ, zero, suc, _+_, _*_, _^_, _≤_, _<_, min}
+use Prim.Native.Nat.{ℕ, zero, suc, _+_, _-_, _*_, _^_, _≤_, _<_, min}
 use mathlib.Core.Bool.{Bool, true, false, cond}
-use mathlib.Core.List.{List, [], _∷_, _++_, map, append-nil}
+use mathlib.Core.List.{List, [], _∷_, _++_, map, append-nil, append-assoc}
 use mathlib.Core.Path.{_≡_, refl, sym, ap, _∙_}
 use native.Mathlib.Nat.{add-zero}
 use native.Mathlib.Numerals.{add-one}
 use native.Mathlib.Omega.{arith}
-use lib.ListN.{length, take, getD, set, replicate, length-map, length-set, List·getD-map}
-use lib.Seq.{length-take-le, take-take, take-set-le, take-suc-set, getD-take}
+use lib.ListN.{length, take, getD, set, replicate, length-append, length-map, length-set, List·getD-map}
+use lib.Seq.{length-take-le, getD-append-seam, take-take, take-set-le, take-suc-set, getD-take}
 use mir.Val.{boolByte}
 use Rattle.device.specs.Record.{healthAt}
 use Rattle.device.specs.declared.Device.{Device}
 use Rattle.layout.specs.declared.Descriptor.{Descriptor}
 use Rattle.request.specs.declared.Request.{Request}
-use Rattle.slices.proofs.Lists.{keep-append, map-append, map-upTo, every-same, every-set}
+use Rattle.slices.proofs.Lists.{keep-append, length-keep, map-append, map-upTo, length-upTo, every-same, every-set}
 use Rattle.slices.specs.Lists.{keep, upTo}
 use Rattle.table.proofs.Arrays.{length-taken}
 use Rattle.table.specs.Elements.{live, blankPart, size}
@@ -42,29 +42,29 @@ module _ (ps : List Part) (hs : List ℕ) where
 
   module _ (q : Request) where
     -- what is asked for of the first i
-    unfoldable pub asked : ℕ → List Descriptor
-    asked i = keep (asks q) (map (shownIn ps hs) (upTo i))
+    unfoldable pub wanted : ℕ → List Descriptor
+    wanted i = keep (asks q) (map (shownIn ps hs) (upTo i))
 
-    asked-more : (i : ℕ) → asked (i + 1) ≡ asked i ++ cond (asks q (shownIn ps hs i)) (shownIn ps hs i ∷ []) []
-    unfolding asked
-    asked-more i =
+    wanted-more : (i : ℕ) → wanted (i + 1) ≡ wanted i ++ cond (asks q (shownIn ps hs i)) (shownIn ps hs i ∷ []) []
+    unfolding wanted
+    wanted-more i =
         rw (add-one i, map-append (shownIn ps hs) (upTo i) (i ∷ [])) (keep-append (asks q) (map (shownIn ps hs) (upTo i)) (shownIn ps hs i ∷ []))
 
     -- the places put down are those of what is asked for of the first i
     abbrev pub Listed : List ℕ → ℕ → ℕ → Type 0
-    Listed places number i = (shownThere ps hs places number ≡ asked i) × (number ≤ i) × (length places ≡ 128) × Slots places
+    Listed places number i = (shownThere ps hs places number ≡ wanted i) × (number ≤ i) × (length places ≡ 128) × Slots places
 
     pub list-none : Listed (replicate 128 0) 0 0
-    unfolding shownThere asked
+    unfolding shownThere wanted
     list-none = (refl, omega arith, refl, every-same (λ (j : ℕ). j < 128) 128 0 (omega arith))
 
     -- a turn of the loop: the place is put down, and counts if its element is asked for
     module _ (places : List ℕ) (n i : ℕ) (listed : Listed places n i) (low : i < 128) where
-      counts : (b : Bool) → asks q (shownIn ps hs i) ≡ b → shownThere ps hs (set places n i) (n + boolByte b) ≡ asked (i + 1)
+      counts : (b : Bool) → asks q (shownIn ps hs i) ≡ b → shownThere ps hs (set places n i) (n + boolByte b) ≡ wanted (i + 1)
       unfolding shownThere
       counts true y =
-          rw (add-one n, take-suc-set places n i (omega (arith, listed)), map-append (shownIn ps hs) (take n places) (i ∷ []), asked-more i, y, listed .0)
-      counts false z = rw (add-zero n, take-set-le n places n i (omega arith), asked-more i, z, append-nil) (listed .0)
+          rw (add-one n, take-suc-set places n i (omega (arith, listed)), map-append (shownIn ps hs) (take n places) (i ∷ []), wanted-more i, y, listed .0)
+      counts false z = rw (add-zero n, take-set-le n places n i (omega arith), wanted-more i, z, append-nil) (listed .0)
 
       pub list-turn : (b : Bool) → b ≡ asks q (shownOf (getD ps i blankPart) (getD hs i 0)) → Listed (set places n i) (n + boolByte b) (i + 1)
       unfolding shownIn
@@ -74,6 +74,50 @@ module _ (ps : List Part) (hs : List ℕ) where
           less : (b : Bool) → n + boolByte b ≤ i + 1
           less true = omega (arith, listed)
           less false = omega (arith, listed)
+
+    -- how many are asked for of the first i
+    abbrev pub count : ℕ → ℕ
+    count i = length (wanted i)
+
+    pub count-low : (i : ℕ) → count i ≤ i
+    unfolding wanted
+    count-low i =
+        omega (arith, length-keep (asks q) (map (shownIn ps hs) (upTo i)), length-map (upTo i) (shownIn ps hs), length-upTo i)
+
+    wanted-on : (i k : ℕ) → (rest : List Descriptor) × (wanted (i + k) ≡ wanted i ++ rest)
+    wanted-on i zero = ([], ap wanted (add-zero i) ∙ sym (append-nil (wanted i)))
+    wanted-on i (suc k) =
+        let before : (rest : List Descriptor) × (wanted (i + k) ≡ wanted i ++ rest) = wanted-on i k in
+        let more : List Descriptor = cond (asks q (shownIn ps hs (i + k))) (shownIn ps hs (i + k) ∷ []) [] in
+        let turn : i + suc k ≡ i + k + 1 = omega arith in
+        (before .0 ++ more, ap wanted turn ∙ wanted-more (i + k) ∙ ap (λ (l : List Descriptor). l ++ more) (before .1) ∙ append-assoc (wanted i) (before .0) more)
+
+    -- a turn of the walk over the first n: an element counts if it is asked for, and then it is the next of all
+    module _ (i : ℕ) (b : Bool) (is-b : b ≡ asks q (shownOf (getD ps i blankPart) (getD hs i 0))) where
+      pub count-turn : count (i + 1) ≡ count i + boolByte b
+      unfolding shownIn
+      count-turn = ap length (wanted-more i) ∙ length-append (wanted i) (cond (asks q (shownIn ps hs i)) (shownIn ps hs i ∷ []) []) ∙ by-test b (sym is-b)
+        where
+          by-test : (b : Bool) → asks q (shownIn ps hs i) ≡ b → count i + length (cond (asks q (shownIn ps hs i)) (shownIn ps hs i ∷ []) []) ≡ count i + boolByte b
+          by-test true y = rw y
+          by-test false z = rw z
+
+      module _ (yes : b ≡ true) (n : ℕ) (low : i < n) where
+        rest : (rest : List Descriptor) × (wanted n ≡ wanted i ++ (shownIn ps hs i ∷ rest))
+        unfolding shownIn
+        rest =
+            let on : (rest : List Descriptor) × (wanted (i + 1 + (n - (i + 1))) ≡ wanted (i + 1) ++ rest) = wanted-on (i + 1) (n - (i + 1)) in
+            let all : n ≡ i + 1 + (n - (i + 1)) = omega arith in
+            let here : wanted (i + 1) ≡ wanted i ++ (shownIn ps hs i ∷ []) = wanted-more i ∙ rw (sym is-b ∙ yes) in
+            (on .0, ap wanted all ∙ on .1 ∙ ap (λ (l : List Descriptor). l ++ on .0) here ∙ append-assoc (wanted i) (shownIn ps hs i ∷ []) (on .0))
+
+        pub next-less : count i < count n
+        next-less =
+            let long : count n ≡ count i + suc (length (rest .0)) = ap length (rest .1) ∙ length-append (wanted i) (shownIn ps hs i ∷ rest .0) in
+            omega arith
+
+        pub next-here : (z : Descriptor) → shownIn ps hs i ≡ getD (wanted n) (count i) z
+        next-here z = sym (ap (λ (l : List Descriptor). getD l (count i) z) (rest .1) ∙ getD-append-seam (wanted i) (shownIn ps hs i) (rest .0) z)
 
 module _ (places : List ℕ) (slots : Slots places) (k : ℕ) where
   pub slot-below : getD places k 0 < 128
@@ -95,8 +139,8 @@ count-fits n true low = omega arith
 count-fits n false low = omega arith
 
 -- all of them put down
-pub all-listed : (d : Device) (q : Request) (n : ℕ) → length (d .table .parts) ≡ 128 → n ≡ min (d .table .count) 128 → asked (d .table .parts) (d .cells .healths) q n ≡ listOf d q
-unfolding shownIn asked listOf
+pub all-listed : (d : Device) (q : Request) (n : ℕ) → length (d .table .parts) ≡ 128 → n ≡ min (d .table .count) 128 → wanted (d .table .parts) (d .cells .healths) q n ≡ listOf d q
+unfolding shownIn wanted listOf
 all-listed d q n full is-n =
     let long : size (d .table) ≡ n = length-map (live (d .table)) (λ (p : Part). p .id .0) ∙ length-taken (d .table .parts) (d .table .count) n full is-n in
     let same : (i : ℕ) → i < n → shownIn (d .table .parts) (d .cells .healths) i ≡ shownAt d i =

@@ -1,16 +1,19 @@
--- The data for a SCSI host, cut in a part of the lent buffer: a law for each way out, over the byte order.
-use Prim.Native.Nat.{ℕ, _+_, _-_, _*_, _/_, _^_, _≤_, _<_, min}
+-- The data for a SCSI host, cut in a part of the lent buffer: a law for each way out.
+use Prim.Native.Nat.{ℕ, _+_, _-_, _*_, _≤_, _<_, min}
 use mathlib.Core.Bool.{Bool, true, false, cond}
-use mathlib.Core.List.{List, [], _++_, append-nil}
+use mathlib.Core.List.{List, _++_, append-nil}
 use mathlib.Core.Path.{_≡_, refl, sym, ap, _∙_}
-use native.Mathlib.Nat.{zero-add}
+use native.Mathlib.Nat.{add-zero, sub-zero}
 use native.Mathlib.Omega.{arith}
+use lib.Dec.{leb}
 use lib.ListN.{length, take, drop, getD, length-append, length-take, drop-of-length-le}
-use lib.Seq.{take-all, take-append-le, take-append-add, length-take-le}
+use lib.Seq.{take-all, take-take, take-length, take-append-le, take-append-add, length-take-le}
+use borrow.Author.Tests.{leb-true, leb-false}
+use mir.Val.{boolByte}
 use Rattle.device.specs.Record.{removedNumber}
 use Rattle.device.specs.declared.Device.{Device}
 use Rattle.layout.proofs.Bytes.{header-wide, wide}
-use Rattle.layout.specs.Bytes.{headerBytes, descriptorBytes, laid}
+use Rattle.layout.specs.Bytes.{headerBytes, descriptorBytes}
 use Rattle.layout.specs.declared.Descriptor.{Descriptor}
 use Rattle.layout.specs.declared.Header.{Header}
 use Rattle.paper.proofs.Output.{written-small, written-done, refusal-writes-nothing}
@@ -20,131 +23,185 @@ use Rattle.paper.specs.declared.Answer.the-variants.{Done, InvalidField, SmallB
 use Rattle.query.specs.Queries.{dueFour, asked}
 use Rattle.query.specs.declared.Query.{Query}
 use Rattle.request.specs.declared.Request.{Request}
-use Rattle.slices.proofs.Lists.{take-min, stored-front, stored-more, length-stored, length-flat, flat-cut}
+use Rattle.slices.proofs.Lists.{take-min, stored-none, stored-front, stored-more, stored-each, length-stored, length-flat, flat-cut}
 use Rattle.slices.specs.Lists.{flat, stored}
 use Rattle.table.specs.Elements.{blankPart}
 use Rattle.table.specs.declared.Part.{Part}
-use Rattle.view.specs.Shown.{shownOf}
+use Rattle.view.specs.Shown.{shownOf, asks}
 use Rattle.words.specs.declared.Order.the-variants.{Big}
-use Rattle.words.specs.declared.Order.{Order}
 use Rattle.status.specs.Page.{listOf, headed}
-use Rattle.status.specs.Private.{shownIn, shownThere, Lists, dataThere}
+use Rattle.status.specs.Private.{shownIn, dataFor}
 use Rattle.status.specs.Promises.{Unsent-leaves-bytes, Sends-the-smaller}
 use Rattle.status.specs.Sent.{sentHeader, dataOf, sent}
-use Rattle.status.proofs.Page.{number-listed}
-use Rattle.status.proofs.Places.{length-there, at-place, take-there}
+use Rattle.status.proofs.Places.{wanted, count, count-low, count-turn, next-less, next-here, all-listed}
 
 -- ## What there is room for
 
-pub put-cut : (d out b c : List ℕ) (at n : ℕ) → c ≡ take n b → out ≡ stored d at c → (e : List ℕ) → b ≡ e → out ≡ stored d at (take n e)
-put-cut d out b c at n is-c is-out e is-b = is-out ∙ ap (stored d at) (is-c ∙ ap (take n) is-b)
+pub some-stored : (d out b c : List ℕ) (at : ℕ) → c ≡ take (length d - at) b → out ≡ stored d at c → out ≡ stored d at (take (length d - at) b)
+some-stored d out b c at is-c is-out = is-out ∙ ap (stored d at) is-c
 
-pub put-rest : (o : Order) (d out b c : List ℕ) (at n : ℕ) → c ≡ take n b → out ≡ stored d at c → (x y : Descriptor) → b ≡ descriptorBytes o x → x ≡ y
-    → out ≡ stored d at (take n (descriptorBytes o y))
-put-rest o d out b c at n is-c is-out x y is-b is-x = put-cut d out b c at n is-c is-out (descriptorBytes o y) (is-b ∙ ap (descriptorBytes o) is-x)
+some-put : (d out b : List ℕ) (at : ℕ) → out ≡ stored d at (take (length d - at) b) → (c : List ℕ) → b ≡ c → out ≡ stored d at (take (length d - at) c)
+some-put d out b at is-out c is-b = is-out ∙ ap (λ (l : List ℕ). stored d at (take (length d - at) l)) is-b
 
--- the whole descriptors that a part has room for behind the header, and the rest
-module _ (o : Order) (ps : List Part) (hs places : List ℕ) (n w : ℕ) (b b₁ : List ℕ) (long : length places ≡ 128) (few : n ≤ 128)
-    (least : 32 ≤ length b) (most : length b ≤ 32 + 32 * n) (is-w : w ≡ (length b - 32) / 32)
-    (is-b₁ : b₁ ≡ stored b 32 (flat (descriptorBytes o) (shownThere ps hs places w))) where
+pub none-stored : (d b : List ℕ) (at : ℕ) → length d ≤ at → d ≡ stored d at (take (length d - at) b)
+none-stored d b at past =
+    let none : length d - at ≡ 0 = omega arith in
+    sym (rw none (stored-none d at))
+
+-- one after another, each with as much as there is room for
+pub cut-more : (d : List ℕ) (at : ℕ) (a b x y : List ℕ) → x ≡ stored d at (take (length d - at) a)
+    → y ≡ stored x (at + length a) (take (length x - (at + length a)) b) → y ≡ stored d at (take (length d - at) (a ++ b))
+cut-more d at a b x y is-x is-y = by-test (leb (at + length a) (length d)) refl
+  where
+    same : length x ≡ length d
+    same = ap length is-x ∙ length-stored d (take (length d - at) a) at
+
+    by-test : (t : Bool) → leb (at + length a) (length d) ≡ t → y ≡ stored d at (take (length d - at) (a ++ b))
+    by-test true e =
+        let room : at + length a ≤ length d = leb-true _ _ e in
+        let r : ℕ = length d - (at + length a) in
+        let whole : x ≡ stored d at a = is-x ∙ ap (stored d at) (take-all (length d - at) a (omega arith)) in
+        let more : length d - at ≡ length a + r = omega arith in
+        let cut : take (length d - at) (a ++ b) ≡ a ++ take r b = ap (λ (n : ℕ). take n (a ++ b)) more ∙ take-append-add a b r in
+        let fits : at + length (a ++ take r b) ≤ length d = rw (length-append a (take r b), length-take r b) (omega arith) in
+        is-y ∙ (λ i. stored (whole i) (at + length a) (take (same i - (at + length a)) b)) ∙ stored-more d at a (take r b) fits ∙ ap (stored d at) (sym cut)
+    by-test false e =
+        let past : length d < at + length a = leb-false _ _ e in
+        let none : length x - (at + length a) ≡ 0 = omega (arith, same) in
+        is-y ∙ rw none (stored-none x (at + length a)) ∙ is-x ∙ ap (stored d at) (sym (take-append-le (length d - at) a b (omega arith)))
+
+-- how many are asked for, of n elements
+abbrev pub Counted : List Part → List ℕ → Request → ℕ → ℕ → ℕ → Type 0
+Counted ps hs q n number i = (i ≤ n) × (n ≤ 128) × (length ps ≡ 128) × (length hs ≡ 128) × (number ≡ count ps hs q i)
+
+pub counted-none : (ps : List Part) (hs : List ℕ) (q : Request) (n : ℕ) → n ≤ 128 → length ps ≡ 128 → length hs ≡ 128 → Counted ps hs q n 0 0
+unfolding wanted
+counted-none ps hs q n few long long-too = (omega arith, few, long, long-too, refl)
+
+module _ (ps : List Part) (hs : List ℕ) (q : Request) (n number i : ℕ) (counted : Counted ps hs q n number i) where
+  pub counted-low : number ≤ 128
+  counted-low = omega (arith, counted, count-low ps hs q i)
+
+  pub counted-less : i < n → number < 128
+  counted-less low = omega (arith, counted, count-low ps hs q i)
+
+  pub counted-next : i < n → (b : Bool) → b ≡ asks q (shownOf (getD ps i blankPart) (getD hs i 0)) → Counted ps hs q n (number + boolByte b) (i + 1)
+  counted-next low b is-b =
+      (omega arith, counted .1, counted .2, counted .3, ap (λ (m : ℕ). m + boolByte b) (counted .4) ∙ sym (count-turn ps hs q i b is-b))
+
+pub counted-all : (d : Device) (q : Request) (n number i : ℕ) → n ≡ min (d .table .count) 128 → Counted (d .table .parts) (d .cells .healths) q n number i → n ≤ i
+    → number ≡ length (listOf d q)
+counted-all d q n number i is-n counted high =
+    let end : i ≡ n = omega (arith, counted) in
+    counted .4 ∙ ap (count (d .table .parts) (d .cells .healths) q) end ∙ ap length (all-listed d q n (counted .2) is-n)
+
+-- the descriptors of what is asked for, one after another behind the header
+module _ (ps : List Part) (hs : List ℕ) (q : Request) (n : ℕ) (b : List ℕ) where
   abbrev f : Descriptor → List ℕ
-  f = descriptorBytes o
+  f = descriptorBytes Big
 
   abbrev all : List Descriptor
-  all = shownThere ps hs places n
+  all = wanted ps hs q n
 
-  pub whole-few : w ≤ 128
-  whole-few = omega (arith, is-w)
+  -- the loop after i turns
+  abbrev pub Walked : ℕ → ℕ → List ℕ → Type 0
+  Walked at i x =
+      (i ≤ n) × (n ≤ 128) × (length ps ≡ 128) × (length hs ≡ 128) × (at ≡ 32 + 32 * count ps hs q i) × (32 * count ps hs q i ≤ length b - 32) × (length x ≡ length b)
+      × (x ≡ stored b 32 (flat f (take (count ps hs q i) all)))
 
-  pub whole-fits : 32 + 32 * w ≤ length b
-  whole-fits = omega (arith, is-w)
+  pub walk-none : n ≤ 128 → length ps ≡ 128 → length hs ≡ 128 → Walked 32 0 b
+  unfolding wanted
+  walk-none few long long-too = (omega arith, few, long, long-too, refl, omega arith, refl, sym (stored-none b 32))
 
-  firsts : shownThere ps hs places w ≡ take w all
-  firsts = sym (take-there ps hs places n w (omega (arith, is-w)))
+  module _ (at i : ℕ) (x : List ℕ) (walked : Walked at i x) (low : i < n) (t : Bool) (is-t : t ≡ asks q (shownOf (getD ps i blankPart) (getD hs i 0))) where
+    pub walk-past : t ≡ false → Walked at (i + 1) x
+    walk-past skipped =
+        let same : count ps hs q (i + 1) ≡ count ps hs q i = count-turn ps hs q i t is-t ∙ rw skipped (add-zero (count ps hs q i)) in
+        (omega arith, walked .1, walked .2, walked .3, walked .4 ∙ rw same, omega (arith, walked), walked .6, walked .7 ∙ rw same)
 
-  long-whole : length (flat f (take w all)) ≡ 32 * w
-  long-whole = length-flat f 32 (wide o) (take w all) ∙ rw (length-take-le w all (omega (arith, is-w, length-there ps hs places n (omega arith))))
+    module _ (yes : t ≡ true) where
+      pub walk-next : at + 32 ≤ length x → (y : List ℕ) → length y ≡ length x → y ≡ stored x at (f (shownOf (getD ps i blankPart) (getD hs i 0))) → Walked (at + 32) (i + 1) y
+      unfolding shownIn
+      walk-next room y same is-y =
+          let k : ℕ = count ps hs q i in
+          let more : count ps hs q (i + 1) ≡ k + 1 = count-turn ps hs q i t is-t ∙ rw yes in
+          let less : k < length all = next-less ps hs q i t is-t yes n low in
+          let there : y ≡ stored x (32 + 32 * k) (f (getD all k (shownIn ps hs 0))) =
+          is-y ∙ (λ j. stored x (walked .4 j) (f (next-here ps hs q i t is-t yes n low (shownIn ps hs 0) j))) in
+          let put : y ≡ stored b 32 (flat f (take (k + 1) all)) =
+          stored-each f 32 (wide Big) all b x y 32 k (shownIn ps hs 0) (omega (arith, walked)) less (walked .7) there in
+          (omega arith, walked .1, walked .2, walked .3, omega (arith, walked, more), omega (arith, walked, more), same ∙ walked .6, put ∙ rw more)
 
-  pub rest-put : w < n → (b₂ : List ℕ) → b₂ ≡ stored b₁ (32 + 32 * w) (take (length b₁ - (32 + 32 * w)) (f (shownOf (getD ps (getD places w 0) blankPart) (getD hs (getD places w 0) 0))))
-      → b₂ ≡ stored b 32 (take (length b - 32) (flat f all))
-  unfolding shownIn
-  rest-put less b₂ is-b₂ =
-      let r : ℕ = length b - (32 + 32 * w) in
-      let A : List ℕ = flat f (take w all) in
-      let B : List ℕ = take r (f (getD all w (shownIn ps hs 0))) in
-      let same : length b₁ ≡ length b = ap length is-b₁ ∙ length-stored b (flat f (shownThere ps hs places w)) 32 in
-      let place : 32 + 32 * w ≡ 32 + length A = omega (arith, long-whole) in
-      let more : length b - 32 ≡ 32 * w + r = omega (arith, is-w) in
-      let cut : take (length b - 32) (flat f all) ≡ A ++ B =
-      ap (λ (m : ℕ). take m (flat f all)) more
-      ∙ flat-cut f 32 (wide o) all w r (shownIn ps hs 0) (omega (arith, length-there ps hs places n (omega arith))) (omega (arith, is-w)) in
-      let room : 32 + length (A ++ B) ≤ length b = rw (← cut) (simp length-take (omega arith)) in
-      is-b₂
-      ∙ (λ i. stored (is-b₁ i) (32 + 32 * w) (take (same i - (32 + 32 * w)) (f (at-place ps hs places n w less i))))
-      ∙ (λ i. stored (stored b 32 (flat f (firsts i))) (place i) B)
-      ∙ stored-more b 32 A B room
-      ∙ ap (stored b 32) (sym cut)
+      walk-cut : length x < at + 32 → (y : List ℕ) → y ≡ stored x at (take (length x - at) (f (shownOf (getD ps i blankPart) (getD hs i 0))))
+          → y ≡ stored b 32 (take (length b - 32) (flat f all))
+      unfolding shownIn
+      walk-cut short y is-y =
+          let k : ℕ = count ps hs q i in
+          let F : List ℕ = flat f all in
+          let A : List ℕ = flat f (take k all) in
+          let x' : List ℕ = f (getD all k (shownIn ps hs 0)) in
+          let less : k < length all = next-less ps hs q i t is-t yes n low in
+          let long : length A ≡ 32 * k = length-flat f 32 (wide Big) (take k all) ∙ rw (length-take-le k all (omega arith)) in
+          let place : at ≡ 32 + length A = omega (arith, walked, long) in
+          let whole : x ≡ stored b 32 (take (length b - 32) A) = walked .7 ∙ ap (stored b 32) (sym (take-all (length b - 32) A (omega (arith, walked, long)))) in
+          let rest : y ≡ stored x (32 + length A) (take (length x - (32 + length A)) x') =
+          is-y ∙ (λ j. stored x (place j) (take (length x - place j) (f (next-here ps hs q i t is-t yes n low (shownIn ps hs 0) j)))) in
+          let joined : take (32 * k + 32) F ≡ A ++ x' =
+          flat-cut f 32 (wide Big) all k 32 (shownIn ps hs 0) less (omega arith) ∙ ap (λ (l : List ℕ). A ++ l) (take-all 32 x' (omega (arith, wide Big (getD all k (shownIn ps hs 0))))) in
+          cut-more b 32 A x' x y whole rest
+          ∙ ap (λ (l : List ℕ). stored b 32 (take (length b - 32) l)) (sym joined)
+          ∙ ap (stored b 32) (take-take (length b - 32) (32 * k + 32) F (omega (arith, walked, long)))
 
-  pub rest-none : n ≤ w → b₁ ≡ stored b 32 (take (length b - 32) (flat f all))
-  rest-none past =
-      let equal : w ≡ n = omega (arith, is-w) in
-      let whole : take (length b - 32) (flat f all) ≡ flat f all =
-      take-all (length b - 32) (flat f all) (rw (length-flat f 32 (wide o) all, length-there ps hs places n (omega arith)) (omega (arith, is-w))) in
-      is-b₁ ∙ ap (λ (m : ℕ). stored b 32 (flat f (shownThere ps hs places m))) equal ∙ ap (stored b 32) (sym whole)
+  walk-all : (at i : ℕ) (x : List ℕ) → Walked at i x → n ≤ i → length b ≤ 32 + 32 * length all → x ≡ stored b 32 (take (length b - 32) (flat f all))
+  walk-all at i x walked high most =
+      let end : i ≡ n = omega (arith, walked) in
+      let last : count ps hs q i ≡ length all = ap (count ps hs q) end in
+      let enough : take (length b - 32) (flat f all) ≡ flat f all =
+      take-all (length b - 32) (flat f all) (omega (arith, walked, last, length-flat f 32 (wide Big) all)) in
+      walked .7 ∙ ap (λ (m : ℕ). stored b 32 (flat f (take m all))) last ∙ ap (λ (l : List Descriptor). stored b 32 (flat f l)) (take-length all) ∙ ap (stored b 32) (sym enough)
 
--- the header first, which may itself be cut
-module _ (o : Order) (g h : Header) (is-g : g ≡ h) (F b b₁ : List ℕ) (is-b₁ : b₁ ≡ stored b 0 (take (length b) (headerBytes o g))) where
-  abbrev H : List ℕ
-  H = headerBytes o h
+-- and at its end what is asked for is the list
+module _ (d : Device) (q : Request) (n : ℕ) (is-n : n ≡ min (d .table .count) 128) (b : List ℕ) (at i : ℕ) (x : List ℕ)
+    (walked : Walked (d .table .parts) (d .cells .healths) q n b at i x) where
+  listed : wanted (d .table .parts) (d .cells .healths) q n ≡ listOf d q
+  listed = all-listed d q n (walked .2) is-n
 
-  same : length b₁ ≡ length b
-  same = ap length is-b₁ ∙ length-stored b (take (length b) (headerBytes o g)) 0
+  pub asked-cut : i < n → (t : Bool) → t ≡ asks q (shownOf (getD (d .table .parts) i blankPart) (getD (d .cells .healths) i 0)) → t ≡ true → length x < at + 32
+      → (s : Descriptor) → s ≡ shownOf (getD (d .table .parts) i blankPart) (getD (d .cells .healths) i 0) → (c : List ℕ) → c ≡ descriptorBytes Big s
+      → (y : List ℕ) → y ≡ stored x at (take (length x - at) c) → y ≡ stored b 32 (take (length b - 32) (flat (descriptorBytes Big) (listOf d q)))
+  asked-cut low t is-t taken short s is-s c is-c y is-y =
+      walk-cut (d .table .parts) (d .cells .healths) q n b at i x walked low t is-t taken short y
+      (some-put x y c at is-y _ (is-c ∙ ap (descriptorBytes Big) is-s))
+      ∙ ap (λ (l : List Descriptor). stored b 32 (take (length b - 32) (flat (descriptorBytes Big) l))) listed
 
-  fronted : b₁ ≡ stored b 0 (take (length b) H)
-  fronted = is-b₁ ∙ ap (λ (x : Header). stored b 0 (take (length b) (headerBytes o x))) is-g
+  pub asked-all : n ≤ i → length b ≤ 32 + 32 * length (listOf d q) → x ≡ stored b 32 (take (length b - 32) (flat (descriptorBytes Big) (listOf d q)))
+  asked-all high most =
+      walk-all (d .table .parts) (d .cells .healths) q n b at i x walked high (rw listed most)
+      ∙ ap (λ (l : List Descriptor). stored b 32 (take (length b - 32) (flat (descriptorBytes Big) l))) listed
 
-  over-all : (t : List ℕ) → length t ≡ length b → stored b 0 t ≡ t
-  over-all t e =
-      let past : length b ≤ length t = omega arith in
-      stored-front b t (omega arith) ∙ ap (λ (l : List ℕ). t ++ l) (drop-of-length-le b past) ∙ append-nil t
+-- behind the header, which may itself be cut
+pub still-most : (n m there here : ℕ) → n ≡ m → there ≤ 32 + 32 * n → here ≡ there → here ≤ 32 + 32 * m
+still-most n m there here is-m most same = omega arith
 
-  pub front-cut : length b₁ < 32 → b₁ ≡ take (length b) (H ++ F)
-  front-cut short =
-      fronted
-      ∙ over-all (take (length b) H) (length-take-le (length b) H (omega (arith, same, header-wide o h)))
-      ∙ sym (take-append-le (length b) H F (omega (arith, same, header-wide o h)))
-
-  pub front-whole : length b ≤ 32 + length F → 32 ≤ length b₁ → (b₂ : List ℕ) → b₂ ≡ stored b₁ 32 (take (length b₁ - 32) F) → b₂ ≡ take (length b) (H ++ F)
-  front-whole most least b₂ is-b₂ =
-      let rest : List ℕ = take (length b - 32) F in
-      let all : take (length b) H ≡ H = take-all (length b) H (omega (arith, same, header-wide o h)) in
-      let wide-rest : length rest ≡ length b - 32 = length-take-le (length b - 32) F (omega arith) in
-      let wide-both : length (H ++ rest) ≡ length b = length-append H rest ∙ omega (arith, same, header-wide o h) in
-      let place : 32 ≡ 0 + length H = omega (arith, header-wide o h) in
-      let more : length b ≡ length H + (length b - 32) = omega (arith, same, header-wide o h) in
-      is-b₂
-      ∙ (λ i. stored (fronted i) 32 (take (same i - 32) F))
-      ∙ (λ i. stored (stored b 0 (all i)) (place i) rest)
-      ∙ stored-more b 0 H rest (omega (arith, wide-both))
-      ∙ over-all (H ++ rest) wide-both
-      ∙ sym (ap (λ (m : ℕ). take m (H ++ F)) more ∙ take-append-add H F (length b - 32))
-
--- in numbers that the code has
-module _ (d : Device) (places : List ℕ) (n : ℕ) (few : n ≤ 128) (long : length places ≡ 128) (g : Header)
-    (is-g : g ≡ headed n n (d .cells .note) (d .table .limit) (removedNumber d)) (b b₁ : List ℕ) (is-b₁ : b₁ ≡ stored b 0 (take (length b) (headerBytes Big g))) where
-  abbrev list : List ℕ
-  list = flat (descriptorBytes Big) (shownThere (d .table .parts) (d .cells .healths) places n)
-
-  pub part-cut : length b₁ < 32 → b₁ ≡ take (length b) (dataThere d places n)
-  part-cut = front-cut Big g (headed n n (d .cells .note) (d .table .limit) (removedNumber d)) is-g list b b₁ is-b₁
-
-  pub part-whole : length b ≤ 32 + 32 * n → 32 ≤ length b₁ → (b₂ : List ℕ) → b₂ ≡ stored b₁ 32 (take (length b₁ - 32) list)
-      → b₂ ≡ take (length b) (dataThere d places n)
-  part-whole most =
-      let wide-list : length list ≡ 32 * n =
-      length-flat (descriptorBytes Big) 32 (wide Big) (shownThere (d .table .parts) (d .cells .healths) places n)
-      ∙ rw (length-there (d .table .parts) (d .cells .healths) places n (omega arith)) in
-      front-whole Big g (headed n n (d .cells .note) (d .table .limit) (removedNumber d)) is-g list b b₁ is-b₁ (omega (arith, wide-list))
+pub part-filled : (d : Device) (q : Request) (n : ℕ) (g : Header) → n ≡ length (listOf d q) → g ≡ headed n n (d .cells .note) (d .table .limit) (removedNumber d)
+    → (b b₁ b₂ c : List ℕ) → length b ≤ 32 + 32 * n → c ≡ headerBytes Big g → b₁ ≡ stored b 0 (take (length b - 0) c)
+    → b₂ ≡ stored b₁ 32 (take (length b₁ - 32) (flat (descriptorBytes Big) (listOf d q))) → b₂ ≡ take (length b) (dataFor d q)
+part-filled d q n g is-n is-g b b₁ b₂ c most is-c is-b₁ is-b₂ =
+    let h : Header = headed (length (listOf d q)) (length (listOf d q)) (d .cells .note) (d .table .limit) (removedNumber d) in
+    let H : List ℕ = headerBytes Big h in
+    let F : List ℕ = flat (descriptorBytes Big) (listOf d q) in
+    let head : c ≡ H = is-c ∙ ap (headerBytes Big) (is-g ∙ (λ i. headed (is-n i) (is-n i) (d .cells .note) (d .table .limit) (removedNumber d))) in
+    let front : b₁ ≡ stored b 0 (take (length b - 0) H) = some-put b b₁ c 0 is-b₁ H head in
+    let place : 32 ≡ 0 + length H = omega (arith, header-wide Big h) in
+    let behind : b₂ ≡ stored b₁ (0 + length H) (take (length b₁ - (0 + length H)) F) = is-b₂ ∙ (λ i. stored b₁ (place i) (take (length b₁ - place i) F)) in
+    let wide-all : length (take (length b) (H ++ F)) ≡ length b =
+    length-take-le (length b) (H ++ F) (omega (arith, length-append H F, header-wide Big h, length-flat (descriptorBytes Big) 32 (wide Big) (listOf d q))) in
+    let past : length b ≤ length (take (length b) (H ++ F)) = omega arith in
+    cut-more b 0 H F b₁ b₂ front behind
+    ∙ ap (λ (m : ℕ). stored b 0 (take m (H ++ F))) (sub-zero (length b))
+    ∙ stored-front b (take (length b) (H ++ F)) (omega arith)
+    ∙ ap (λ (l : List ℕ). take (length b) (H ++ F) ++ l) (drop-of-length-le b past)
+    ∙ append-nil (take (length b) (H ++ F))
 
 -- ## The answer, and the buffer
 
@@ -152,44 +209,38 @@ module _ (d : Device) (q : Query) (a : ℕ) (buf : List ℕ) (b : Bool) (is-b : 
   pub sent-due : b ≡ true → said InvalidField (output 0 buf) ≡ sent d q a buf
   sent-due y = sym (rw (sym is-b ∙ y))
 
-  module _ (no : b ≡ false) (r : Request) (is-r : r ≡ asked q) (places : List ℕ) (number : ℕ)
-      (lists : Lists d r places number) (size : ℕ) (is-size : size ≡ min a (32 + 32 * number)) where
-    lists-asked : Lists d (asked q) places number
-    lists-asked = (lists .0 ∙ ap (listOf d) is-r, lists .1, lists .2, lists .3)
-
-    same-data : dataThere d places number ≡ dataOf Big d q
+  module _ (no : b ≡ false) (r : Request) (is-r : r ≡ asked q) (number : ℕ) (is-number : number ≡ length (listOf d r)) (size : ℕ) (is-size : size ≡ min a (32 + 32 * number)) where
+    same-data : dataFor d r ≡ dataOf Big d q
     unfolding dataOf
-    same-data = λ i.
-        laid Big (headed (number-listed d (asked q) places number lists-asked i) (number-listed d (asked q) places number lists-asked i) (d .cells .note) (d .table .limit) (removedNumber d))
-        (lists-asked .0 i)
+    same-data = ap (dataFor d) is-r
 
-    long-data : length (dataThere d places number) ≡ 32 + 32 * number
+    long-data : length (dataFor d r) ≡ 32 + 32 * number
     long-data =
-        let listed : List Descriptor = shownThere (d .table .parts) (d .cells .healths) places number in
-        length-append (headerBytes Big (headed number number (d .cells .note) (d .table .limit) (removedNumber d))) (flat (descriptorBytes Big) listed)
-        ∙ rw (length-flat (descriptorBytes Big) 32 (wide Big) listed, length-there (d .table .parts) (d .cells .healths) places number (omega (arith, lists)))
+        let F : List ℕ = flat (descriptorBytes Big) (listOf d r) in
+        length-append (headerBytes Big (headed (length (listOf d r)) (length (listOf d r)) (d .cells .note) (d .table .limit) (removedNumber d))) F
+        ∙ rw (length-flat (descriptorBytes Big) 32 (wide Big) (listOf d r), is-number)
 
     pub part-most : (room : ℕ) → size ≤ room → (n : ℕ) → n ≡ size → n ≤ 32 + 32 * number
     part-most room h n e = omega (arith, is-size)
 
-    cut : take size (dataThere d places number) ≡ take a (dataOf Big d q)
+    cut : take size (dataFor d r) ≡ take a (dataOf Big d q)
     cut =
-        let less : size ≡ min a (length (dataThere d places number)) = omega (arith, is-size, long-data) in
-        rw less (take-min a (dataThere d places number)) ∙ ap (take a) same-data
+        let less : size ≡ min a (length (dataFor d r)) = omega (arith, is-size, long-data) in
+        rw less (take-min a (dataFor d r)) ∙ ap (take a) same-data
 
     long-cut : size ≡ length (take a (dataOf Big d q))
-    long-cut = sym (ap length (sym cut) ∙ length-take-le size (dataThere d places number) (omega (arith, is-size, long-data)))
+    long-cut = sym (ap length (sym cut) ∙ length-take-le size (dataFor d r) (omega (arith, is-size, long-data)))
 
     pub sent-small : length buf < size → said SmallBuffer (output 0 buf) ≡ sent d q a buf
     sent-small short = written-small (take a (dataOf Big d q)) buf size long-cut short ∙ sym (rw (sym is-b ∙ no))
 
-    pub sent-done : size ≤ length buf → (y : List ℕ) → y ≡ take (length (take (size - 0) buf)) (dataThere d places number)
+    pub sent-done : size ≤ length buf → (y : List ℕ) → y ≡ take (length (take (size - 0) buf)) (dataFor d r)
         → said Done (output size (y ++ drop (size - 0) buf)) ≡ sent d q a buf
     sent-done room y is-y =
         let whole : size - 0 ≡ size = omega arith in
         let part : length (take (size - 0) buf) ≡ size = rw whole (length-take-le size buf room) in
         let filled : y ++ drop (size - 0) buf ≡ take a (dataOf Big d q) ++ drop (length (take a (dataOf Big d q))) buf =
-        λ i. (is-y ∙ ap (λ (m : ℕ). take m (dataThere d places number)) part ∙ cut) i ++ drop ((whole ∙ long-cut) i) buf in
+        λ i. (is-y ∙ ap (λ (m : ℕ). take m (dataFor d r)) part ∙ cut) i ++ drop ((whole ∙ long-cut) i) buf in
         written-done (take a (dataOf Big d q)) buf size long-cut room (y ++ drop (size - 0) buf) filled ∙ sym (rw (sym is-b ∙ no))
 
 -- ## What holds of all that is sent (specs/Promises)

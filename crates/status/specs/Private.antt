@@ -31,7 +31,8 @@ abbrev pub Lists : Device → Request → List ℕ → ℕ → Type 0
 Lists d q places number =
     (shownThere (d .table .parts) (d .cells .healths) places number ≡ listOf d q) × (number ≤ 128) × (length places ≡ 128) × Slots places
 
--- the data of what they show, for a SCSI host
-abbrev pub dataThere : Device → List ℕ → ℕ → List ℕ
-dataThere d places number =
-    laid Big (headed number number (d .cells .note) (d .table .limit) (removedNumber d)) (shownThere (d .table .parts) (d .cells .healths) places number)
+-- the data of what is asked for, for a SCSI host
+abbrev pub dataFor : Device → Request → List ℕ
+dataFor d q =
+    let n = length (listOf d q) in
+    laid Big (headed n n (d .cells .note) (d .table .limit) (removedNumber d)) (listOf d q)

@@ -21,30 +21,6 @@ pub use sent::send;
 use table::Part;
 use words::Order;
 
-// What a request asks for: the places of the elements in the table, and how many they are.
-struct Listed {
-    places: [u8; 128],
-    number: usize,
-}
-
-// Puts the places down, so that each element is judged once.
-fn collect(d: Device, request: Request) -> Listed
-    ensures { λ r. ⌜ private.Lists d request (r .places) (r .number) ⌝ }
-{
-    let ps = d.table.parts;
-    let hs = d.cells.healths;
-    let n = table::bounded(d.table.count);
-    let mut places: [u8; 128] = [0; 128];
-    let mut number: usize = 0;
-    let mut i: usize = 0;
-    while i < n {
-        places[number] = i as u8;
-        number += view::does_ask(request, ps[i], hs[i]) as usize;
-        i += 1;
-    }
-    Listed { places, number }
-}
-
 // The header of a list of this number. The number at FFh is of the whole table.
 fn header_of(d: Device, number: usize, returned: usize) -> Header
     requires { ⌜ (number ≤ 128) × (returned ≤ number) ⌝ }
@@ -63,38 +39,39 @@ fn header_of(d: Device, number: usize, returned: usize) -> Header
 }
 
 // Stores the descriptors of the elements at the first of the places.
-fn put_list(
-    ps: [Part; 128],
-    hs: [u8; 128],
-    places: [u8; 128],
-    count: usize,
-    o: Order,
-    buf: &mut [u8],
-)
-    requires { ⌜ (count ≤ 128) × (32 + 32 * count ≤ length (now buf)) × private.Slots places ⌝ }
-    ensures { λ _. ⌜ now (buf .exit) ≡ stored (now (buf .entry)) 32 (flat (descriptorBytes o) (private.shownThere ps hs places count)) ⌝ }
+fn put_list(ps: [Part; 128], hs: [u8; 128], places: [u8; 128], returned: usize, buf: &mut [u8])
+    requires { ⌜ (returned ≤ 128) × (32 + 32 * returned ≤ length (now buf)) × private.Slots places ⌝ }
+    ensures { λ _. ⌜ now (buf .exit) ≡ stored (now (buf .entry)) 32 (flat (descriptorBytes Order.Little) (private.shownThere ps hs places returned)) ⌝ }
 {
     let mut k: usize = 0;
-    while k < count {
+    while k < returned {
         let j = places[k] as usize;
-        view::put_shown(ps[j], hs[j], 32 + 32 * k, o, buf);
+        view::put_shown(ps[j], hs[j], 32 + 32 * k, Order::Little, buf);
         k += 1;
     }
 }
 
 // Fills the page, in ascending order, each byte once: the header, the descriptors, the zeros.
+// The places of what is asked for are put down first, so that each element is judged once.
 fn fill(d: Device, request: Request, buf: &mut [u8])
     requires { ⌜ (1 ≤ pagesOf request) × (512 * pagesOf request ≤ length (now buf)) ⌝ }
     ensures { λ _. ⌜ now (buf .exit) ≡ pageOf d request ++ drop (512 * pagesOf request) (now (buf .entry)) ⌝ }
 {
-    let listed = collect(d, request);
-    let returned = slices::smaller(listed.number, 16 * (request.count.0 as usize) - 1);
-    let header = header_of(d, listed.number, returned);
-    view::put_header(header, Order::Little, buf);
     let ps = d.table.parts;
     let hs = d.cells.healths;
-    let places = listed.places;
-    put_list(ps, hs, places, returned, Order::Little, buf);
+    let n = table::bounded(d.table.count);
+    let mut places: [u8; 128] = [0; 128];
+    let mut number: usize = 0;
+    let mut i: usize = 0;
+    while i < n {
+        places[number] = i as u8;
+        number += view::does_ask(request, ps[i], hs[i]) as usize;
+        i += 1;
+    }
+    let returned = slices::smaller(number, 16 * (request.count.0 as usize) - 1);
+    let header = header_of(d, number, returned);
+    view::put_header(header, Order::Little, buf);
+    put_list(ps, hs, places, returned, buf);
     slices::clear(buf, 32 + 32 * returned, 512 * (request.count.0 as usize));
 }
 

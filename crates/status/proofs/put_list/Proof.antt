@@ -7,6 +7,7 @@ use borrow.Author.Needs.{needs}
 use Rattle.layout.specs.Bytes.{descriptorBytes}
 use Rattle.slices.proofs.Lists.{stored-none}
 use Rattle.slices.specs.Lists.{flat, stored}
+use Rattle.words.specs.declared.Order.the-variants.{Little}
 use Rattle.status.specs.Private.{shownThere}
 use Rattle.status.proofs.Page.{put-next, put-all}
 use Rattle.status.proofs.Places.{slot-below, slot-fits, slot-times}
@@ -14,12 +15,12 @@ use Rattle.status.proofs.put_list.Statement.{statement}
 use Rattle.status.proofs.put_list.Tie as tie
 
 abbrev Inv-loop : tie.InvT-loop
-Inv-loop count o buf₀ ps hs places k₀ buf k =
-    (k ≤ count) × (length buf ≡ length buf₀) × (length places ≡ 128) × (length ps ≡ 128) × (length hs ≡ 128)
-    × (buf ≡ stored buf₀ 32 (flat (descriptorBytes o) (take k (shownThere ps hs places count))))
+Inv-loop returned buf₀ ps hs places k₀ buf k =
+    (k ≤ returned) × (length buf ≡ length buf₀) × (length places ≡ 128) × (length ps ≡ 128) × (length hs ≡ 128)
+    × (buf ≡ stored buf₀ 32 (flat (descriptorBytes Little) (take k (shownThere ps hs places returned))))
 
 abbrev μ-loop : tie.MeasureT-loop
-μ-loop count o buf₀ ps hs places k₀ buf k = count - k
+μ-loop returned buf₀ ps hs places k₀ buf k = returned - k
 
 pub put-list-spec : {M : Type 1} → statement M
 put-list-spec =
@@ -47,7 +48,7 @@ put-list-spec =
       l .inv .2,
       l .inv .3,
       l .inv .4,
-      put-next (s .args .o) _ _ _ _ (s .args .buf .now) (l .inv .2) (s .pre .0) (s .pre .1) (l .k) (l .buf) _ (omega arith) (l .inv .5) (put .ensures),
+      put-next _ _ _ _ (s .args .buf .now) (l .inv .2) (s .pre .0) (s .pre .1) (l .k) (l .buf) _ (omega arith) (l .inv .5) (put .ensures),
     ))
     (λ c. search needs)
     (λ c. search (put-all)))

@@ -1,6 +1,6 @@
 -- `status::sent::fill_part`: the header, which may be cut, and what follows it.
 use borrow.Author.Needs.{needs}
-use Rattle.status.proofs.Sending.{part-cut, part-whole}
+use Rattle.status.proofs.Sending.{still-most, part-filled}
 use Rattle.status.proofs.sent.fill_part.Statement.{statement}
 use Rattle.status.proofs.sent.fill_part.Tie as tie
 
@@ -10,8 +10,7 @@ fill-part-spec =
     (tie.spec
     (λ c κs. search needs)
     (λ c κs. search needs)
-    (λ c. search needs)
-    (λ c. search (part-cut))
     (λ c κs. search needs)
+    (λ c κs. search (still-most))
     (λ c. search needs)
-    (λ c. search (part-whole)))
+    (λ c. search (part-filled)))

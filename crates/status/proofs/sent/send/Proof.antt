@@ -22,8 +22,8 @@ send-spec =
     (λ c κs. search needs)
     (λ c. search needs)
     (λ c. let sized = c .before .before .before .before .before in
-    let listed = sized .before .before in
-    let judged = listed .before .before .before in
+    let counted = sized .before in
+    let judged = counted .before .before .before in
     let s = judged .before .before in
-    sent-done (s .args .d) (s .args .query) (s .args .allocation) (s .args .buf .now) _ (judged .is-refused .ensures) (search needs) _ (listed .before .for-pages .ensures) _ _
-    (listed .collect .ensures) _ (sized .smaller .ensures) (c .before .before .before .before .if2 .left) _ (c .before .before .fill-part .ensures)))
+    sent-done (s .args .d) (s .args .query) (s .args .allocation) (s .args .buf .now) _ (judged .is-refused .ensures) (search needs) _ (counted .before .for-pages .ensures) _
+    (counted .number-asked .ensures .0) _ (sized .smaller .ensures) (c .before .before .before .before .if2 .left) _ (c .before .before .fill-part .ensures)))
