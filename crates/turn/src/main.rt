@@ -22,14 +22,22 @@ fn refuse(place: usize) {
     io::write_all(STDERR_FILENO, slices::head(&words, size));
 }
 
+// No call has failed, so errno says nothing.
+fn lack_room() {
+    io::write_all(
+        STDERR_FILENO,
+        b"convert: more pages than there is room for\n",
+    );
+}
+
 fn answer(outcome: Converted, out: &[u8]) {
     match outcome {
         Converted::Done(size) => {
             if !io::write_all(STDOUT_FILENO, slices::head(out, size)) {
-                os::fail(b"turn: standard output");
+                os::fail(b"convert: standard output");
             }
         }
-        Converted::SmallBuffer => os::fail(b"turn: more than there is room for"),
+        Converted::SmallBuffer => lack_room(),
         Converted::Refused(place) => refuse(place),
     }
 }
@@ -77,7 +85,7 @@ fn main() {
     let mut buf = input_room();
     let read = input::read_whole(STDIN_FILENO, &mut buf);
     if read.failed {
-        os::fail(b"turn: standard input");
+        os::fail(b"convert: standard input");
         return;
     }
     let n = read.count;
