@@ -176,13 +176,13 @@ lentOf b (lines.Dock c) page lent = dockLent b c page lent
 
 -- ## "Before the first device"
 
--- `scsi` alone: "the other three need none"
+-- `scsi` alone: "`scsiread`, `toscsi` and `toata` need no device"
 abbrev pub asksDevice : DockCall → Bool
 asksDevice (docks.Send s) = true
 asksDevice (docks.ToScsi q) = false
 asksDevice (docks.ToAta t) = false
 
--- "`command`, `step`, `error`, `cut`, the resets, `grade`, `cells` and `scsi` answer `no device`"
+-- "`command`, `scsi`, `step`, `error`, `cut`, the resets, `grade` and `cells` answer `no device`"
 abbrev pub needsDevice : Line → Bool
 needsDevice lines.Passed = false
 needsDevice lines.NotACall = false

@@ -11,7 +11,8 @@ use Rattle.arguments.specs.declared.Line.the-variants.{NotACall, Element
 use Rattle.arguments.specs.declared.Line.{Line}
 use Rattle.arguments.specs.declared.PageCall.the-variants.{Length, Poke, Read}
 
--- "ID 32, TYPE, HEALTH, CODE and BYTE 8, FLAG 1, LENGTH and PLACE up to 10000h"; those of 16 bits and of 64 stand in `registers`
+-- "ID, START and ALLOCATION 32 .. FILTER, TYPE, HEALTH, CODE and BYTE 8, FLAG 1, LENGTH and PLACE up to 10000h"; those of 16 bits and of 64 stand
+-- in `registers`
 abbrev pub most32 : ℕ
 most32 = 0xFFFF_FFFF
 

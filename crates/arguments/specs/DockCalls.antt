@@ -1,4 +1,4 @@
--- Request 2026-03: the calls for "a customer's dock", each from the words of its line (docs/BENCH.md).
+-- Request 2026-03: the calls for a customer's dock, each from the words of its line (docs/BENCH.md).
 use Prim.Native.Nat.{ℕ}
 use mathlib.Core.Bool.{cond, _&&_}
 use mathlib.Core.List.{List}
@@ -11,7 +11,7 @@ use Rattle.arguments.specs.declared.Line.{Line}
 use Rattle.arguments.specs.declared.PageCall.the-variants.{ReadScsi}
 use Rattle.arguments.specs.declared.dock_calls.Queried.{Queried}
 
--- FILTER TYPE START, the words after the name: "FILTER, TYPE 8 bits, START, ALLOCATION 32"
+-- FILTER TYPE START, the words after the name: "START and ALLOCATION 32 .. FILTER, TYPE, HEALTH, CODE and BYTE 8"
 unfoldable pub queriedIn : List ℕ → Queried
 queriedIn l =
     let filter = fieldAt l 1 most8 in
@@ -43,7 +43,7 @@ toscsiOf l =
     let size = fieldAt l 4 mostPlace in
     cond (asked .fits && size .fits) (Dock (record { call = ToScsi (asked .request); length = size .value })) NotACall
 
--- `toata FILTER TYPE START PAGES LENGTH`: "PAGES (16 bits)"
+-- `toata FILTER TYPE START PAGES LENGTH`: "PAGES 16"
 unfoldable pub toataOf : List ℕ → Line
 toataOf l =
     let asked = queriedIn l in

@@ -8,7 +8,8 @@ use Rattle.tally.specs.Tally.{tallyLine}
 use Rattle.words.specs.declared.Order.the-variants.{Big}
 use Rattle.contents.specs.Contents.{listText, refusedLine}
 
--- "`9 at PLACE`, or `0`, the header's line and the descriptors' lines as `read` has them, then `cut K of N` or `torn K of N` where it is so"
+-- "`9 at PLACE`, or `0`, the header's line and the descriptors' lines as `read` has them, then `cut K of N`, or `torn K of N` where a descriptor is
+-- cut through"
 abbrev pub dataFor : List ℕ → Values → List ℕ
 dataFor s (reading h whole torn) = listText h (slotOf Big s) whole ++ tallyLine whole (h .number) torn
 dataFor s (place p) = refusedLine p

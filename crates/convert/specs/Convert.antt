@@ -36,7 +36,7 @@ turned from to s = laid to (headerIn from s) (listIn from s (headerIn from s .nu
 unfoldable pub paged : ℕ → List ℕ → List ℕ
 paged p s = turned Big Little s ++ replicate (512 * p - baseOf (headerIn Big s .number)) 0
 
--- ## What is refused: "the source reader's refusals", and last
+-- ## What is refused: "the source reader's refusals", and after these
 
 -- "9 at 4 for a cut list"
 abbrev pub scsiOffence : List ℕ → Request → Offence
@@ -67,7 +67,7 @@ heard (Done n) buf = tells 0 (put (output n buf))
 heard SmallBuffer buf = tells 7 (put (output 0 buf))
 heard (Refused p) buf = tells 9 (place p buf)
 
--- "7 last .. for a buffer below the bytes to be written"
+-- "last, on writing or converting, 7 for a buffer below the bytes to be written"
 abbrev pub outcome : Offence → List ℕ → List ℕ → Told Outcome
 outcome (At p) bytes buf = tells 9 (place p buf)
 outcome Clean bytes buf = tells (written bytes buf .number) (put (written bytes buf .state))

@@ -30,7 +30,7 @@ use Rattle.words.specs.declared.Order.the-variants.{Little, Big}
 abbrev pub Bytes : List ℕ → Type 0
 Bytes s = Every (λ (b : ℕ). b < 256) s
 
--- ## What is read of a page, and of data that are not cut: these header numbers, and these elements
+-- ## What is read of a page, and of data that is not cut: these header numbers, and these elements
 
 pub record Page-holds (s : List ℕ) (q : Request) (h : Header) (slots : ℕ → Slot) : Type 0 where
   pub taken : page.readOf Little s q ≡ tells 0 (page.header h)

@@ -39,17 +39,17 @@ lentText n room count lent = answerLine n ++ pageText (take count lent) ++ touch
 
 -- ## The calls for a SCSI host
 
--- "`9 at PLACE`, `7`, or `0` (bare numbers, as `read` answers)"
+-- of a conversion: "`9 at PLACE`, `7`, or `0` (without a sense)"
 abbrev pub bareLine : ℕ → ℕ → List ℕ
 bareLine n place = cond (eqb n 9) (refusedLine place) (decimalOf n ++ ascii "\n")
 
--- "The answer line as of `command`", of `scsi` alone
+-- of `scsi` it is an answer as of `command`, with its sense
 abbrev pub firstLine : Kind → ℕ → ℕ → List ℕ
 firstLine scsi n place = answerLine n
 firstLine toscsi n place = bareLine n place
 firstLine toata n place = bareLine n place
 
--- "a line `bytes N` (decimal) and rows", or "the page's rows as 12h prints them"
+-- "a line `bytes N` (decimal) follows, and a line of 64 upper hex digits for each 32 bytes", or "the page's rows as 12h has them"
 abbrev pub shownAs : Kind → List ℕ → List ℕ
 shownAs scsi bytes = dataText bytes
 shownAs toscsi bytes = dataText bytes
