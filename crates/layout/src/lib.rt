@@ -37,14 +37,17 @@ impl Header {
         b
     }
 
-    // The header that a slice starts with; a byte past its end counts as 0. Of 32 bytes none is tested for.
+    // The header that a slice starts with; a byte past its end counts as 0. Of 32 bytes in the order of ATA pages none is tested for.
     pub fn read(s: &[u8], o: Order) -> Header
         ensures { λ r. ⌜ r ≡ headerIn o (now (s .entry)) ⌝ }
     {
         if s.len() < 32 {
             return Header::part(s, o);
         }
-        Header::whole(s, o)
+        match o {
+            Order::Little => Header::whole(s, o),
+            Order::Big => Header::part(s, o),
+        }
     }
 
     fn part(s: &[u8], o: Order) -> Header
@@ -88,7 +91,7 @@ impl Descriptor {
         b
     }
 
-    // The descriptor that a slice starts with, read as a header is.
+    // The descriptor that a slice starts with; of 32 bytes none is tested for.
     pub fn read(s: &[u8], o: Order) -> Descriptor
         ensures { λ r. ⌜ r ≡ descriptorIn o (now (s .entry)) ⌝ }
     {

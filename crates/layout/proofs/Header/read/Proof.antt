@@ -1,4 +1,4 @@
--- `layout::Header::read`: of 32 bytes, or of fewer.
+-- `layout::Header::read`: of 32 bytes in the little order, or of any.
 use borrow.Author.Needs.{needs}
 use Rattle.layout.proofs.Header.read.Statement.{statement}
 use Rattle.layout.proofs.Header.read.Tie as tie
@@ -9,5 +9,9 @@ read-spec =
     (tie.spec
     (λ c κs. search needs)
     (λ c. search needs)
+    (λ c. search needs)
     (λ c κs. search needs)
+    (λ c. search needs)
+    (λ c κs. search needs)
+    (λ c. search needs)
     (λ c. search needs))
