@@ -4,10 +4,10 @@ use mathlib.Core.Bool.{Bool, true, false, cond}
 use mathlib.Core.List.{List, [], _++_}
 use mathlib.Core.Path.{_≡_, refl, sym, ap, _∙_}
 use native.Mathlib.Omega.{arith}
-use lib.Dec.{eqb, leb, ltb}
-use lib.ListN.{length, drop, replicate, length-append, length-replicate}
-use borrow.Author.Tests.{eq-eqb, ne-eqb, eqb-true, leb-true}
-use Rattle.layout.specs.Bytes.{headerIn, laid}
+use lib.Dec.{eqb, leb}
+use lib.ListN.{length, replicate, length-append, length-replicate}
+use borrow.Author.Tests.{eq-eqb, ne-eqb, eqb-true, leb-true, not-true}
+use Rattle.layout.specs.Bytes.{headerIn, laid, returnedOf}
 use Rattle.layout.specs.declared.Header.{Header}
 use Rattle.offences.proofs.Laid.{length-laid}
 use Rattle.offences.specs.Checks.{baseOf}
@@ -25,6 +25,8 @@ use Rattle.reader.specs.Judgement as page·spec
 use Rattle.reader.specs.Page.{pageOffence}
 use Rattle.reader.specs.declared.Judgement.the-variants as page·judgement
 use Rattle.reader.specs.declared.Judgement as page·declared
+use Rattle.request.proofs.Requests.{accepted}
+use Rattle.request.specs.Requests.{pagesOf}
 use Rattle.request.specs.declared.Request.{Request}
 use Rattle.scsi.proofs.LayoutTheorem as scsi
 use Rattle.scsi.specs.Data.{wholeOf, dataOffence}
@@ -93,29 +95,7 @@ pub length-turned : (from to : Order) (s : List ℕ) → length (turned from to 
 unfolding turned
 length-turned from to s = length-laid to (headerIn from s) (listIn from s (headerIn from s .number)) ∙ ap baseOf (length-list from s (headerIn from s .number))
 
--- ## To SCSI
-
-module _ (s : List ℕ) (q : Request) (buf : List ℕ) (f : Offence) (is-f : f ≡ scsiOffence s q) where
-  told : (t : Told Outcome) → t ≡ outcome f (turned Little Big s) buf → t ≡ toScsi s q buf
-  told t so = so ∙ ap (λ (x : Offence). outcome x (turned Little Big s) buf) is-f
-
-  pub scsi-refused : (p : ℕ) → f ≡ At p → heard (Refused p) buf ≡ toScsi s q buf
-  scsi-refused p e = told _ (refused-at buf (turned Little Big s) buf f p e)
-
-  module _ (clean : f ≡ Clean) (h : Header) (is-h : h ≡ headerIn Little s) where
-    size : 32 + 32 * h .number ≡ length (turned Little Big s)
-    size = ap (λ (x : Header). baseOf (x .number)) is-h ∙ sym (length-turned Little Big s)
-
-    pub scsi-short : length buf < 32 + 32 * h .number → heard SmallBuffer buf ≡ toScsi s q buf
-    scsi-short less = told _ (too-short buf (turned Little Big s) buf f clean (32 + 32 * h .number) size less)
-
-    pub scsi-done : 32 + 32 * h .number ≤ length buf → (g : List ℕ) → g ≡ stored buf 0 (laid Big (headerIn Little s) (listIn Little s (h .number)))
-        → heard (Done (32 + 32 * h .number)) g ≡ toScsi s q buf
-    scsi-done room g is-g =
-        told _ (all-put g (turned Little Big s) buf f clean (32 + 32 * h .number) size room
-        (is-g ∙ ap (λ (x : Header). stored buf 0 (laid Big (headerIn Little s) (listIn Little s (x .number)))) is-h ∙ ap (stored buf 0) (turned-laid Little Big s)))
-
--- ## To ATA
+-- ## What is not refused
 
 place-of : Offence → ℕ
 place-of Clean = 0
@@ -132,6 +112,47 @@ unless-clean false p e = absurd (clean-not p e)
 pub or-clean : (a b : Offence) → (a orElse b) ≡ Clean → (a ≡ Clean) × (b ≡ Clean)
 or-clean Clean b e = (refl, e)
 or-clean (At p) b e = absurd (clean-not p e)
+
+-- a page that is not refused: the list is there whole
+pub page-whole : (s : List ℕ) (q : Request) → scsiOffence s q ≡ Clean → baseOf (headerIn Little s .number) ≤ length s
+page-whole s q clean =
+    let n = headerIn Little s .number in
+    let both = or-clean (pageOffence Little s q) (unless (eqb (headerIn Little s .returned) n) 4) clean in
+    let asked = or-clean _ _ (both .0) in
+    let sized = or-clean _ _ (asked .1) in
+    let counted = or-clean _ _ (sized .1) in
+    let some : 1 ≤ pagesOf q = accepted q (not-true _ (unless-clean _ 0 (asked .0))) .2 in
+    let long : length s ≡ 512 * pagesOf q = eqb-true _ _ (unless-clean _ 0 (sized .0)) in
+    let cut : headerIn Little s .returned ≡ returnedOf n (pagesOf q) = eqb-true _ _ (unless-clean _ 4 (counted .0)) in
+    let all : headerIn Little s .returned ≡ n = eqb-true _ _ (unless-clean _ 4 (both .1)) in
+    omega (arith, some, long, cut, all)
+
+-- ## To SCSI
+
+module _ (s : List ℕ) (q : Request) (buf : List ℕ) (f : Offence) (is-f : f ≡ scsiOffence s q) where
+  told : (t : Told Outcome) → t ≡ outcome f (turned Little Big s) buf → t ≡ toScsi s q buf
+  told t so = so ∙ ap (λ (x : Offence). outcome x (turned Little Big s) buf) is-f
+
+  pub scsi-refused : (p : ℕ) → f ≡ At p → heard (Refused p) buf ≡ toScsi s q buf
+  scsi-refused p e = told _ (refused-at buf (turned Little Big s) buf f p e)
+
+  module _ (clean : f ≡ Clean) (h : Header) (is-h : h ≡ headerIn Little s) where
+    size : 32 + 32 * h .number ≡ length (turned Little Big s)
+    size = ap (λ (x : Header). baseOf (x .number)) is-h ∙ sym (length-turned Little Big s)
+
+    pub scsi-short : length buf < 32 + 32 * h .number → heard SmallBuffer buf ≡ toScsi s q buf
+    scsi-short less = told _ (too-short buf (turned Little Big s) buf f clean (32 + 32 * h .number) size less)
+
+    pub page-there : 32 + 32 * h .number ≤ length s
+    page-there = rw is-h (page-whole s q (sym is-f ∙ clean))
+
+    pub scsi-done : 32 + 32 * h .number ≤ length buf → (g : List ℕ) → g ≡ stored buf 0 (laid Big (headerIn Little s) (listIn Little s (h .number)))
+        → heard (Done (32 + 32 * h .number)) g ≡ toScsi s q buf
+    scsi-done room g is-g =
+        told _ (all-put g (turned Little Big s) buf f clean (32 + 32 * h .number) size room
+        (is-g ∙ ap (λ (x : Header). stored buf 0 (laid Big (headerIn Little s) (listIn Little s (x .number)))) is-h ∙ ap (stored buf 0) (turned-laid Little Big s)))
+
+-- ## To ATA
 
 -- data that is not refused: the list is there whole, and not "above 16p - 1"
 pub fits-clean : (s : List ℕ) (q : Query) (p : ℕ) → ataOffence s q p ≡ Clean
@@ -156,6 +177,11 @@ module _ (s : List ℕ) (q : Query) (p : ℕ) (buf : List ℕ) (f : Offence) (is
     few : n + 1 ≤ 16 * p
     few = fits-clean s q p (sym is-f ∙ clean) .2
 
+    whole : baseOf n ≤ length s
+    whole =
+        let fits = fits-clean s q p (sym is-f ∙ clean) in
+        omega (arith, fits .1, leb-true 32 (length s) (unless-clean _ 0 (or-clean _ _ (fits .0) .0)))
+
     page-size : 512 * p ≡ length (paged p s)
     unfolding paged
     page-size = sym (length-append (turned Big Little s) (replicate (512 * p - baseOf n) 0) ∙ rw (length-turned Big Little s, length-replicate) (omega (arith, few)))
@@ -166,6 +192,9 @@ module _ (s : List ℕ) (q : Query) (p : ℕ) (buf : List ℕ) (f : Offence) (is
     module _ (room : 512 * p ≤ length buf) (h : Header) (is-h : h ≡ headerIn Big s) where
       same : h .number ≡ n
       same = ap (λ (x : Header). x .number) is-h
+
+      pub data-there : 32 + 32 * h .number ≤ length s
+      data-there = omega (arith, whole, same)
 
       pub list-fits : 32 + 32 * h .number ≤ length buf
       list-fits = omega (arith, few, same)

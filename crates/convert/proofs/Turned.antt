@@ -1,17 +1,18 @@
 -- A header and a list stored in another byte order: what each turn of the loop adds, and what it comes to.
-use Prim.Native.Nat.{ℕ, _+_, _*_, _≤_, _<_}
-use mathlib.Core.List.{List, _++_, map}
+use Prim.Native.Nat.{ℕ, _+_, _≤_, _<_}
+use mathlib.Core.List.{List, _++_}
 use mathlib.Core.Path.{_≡_, refl, sym, ap, _∙_}
 use native.Mathlib.Omega.{arith}
-use lib.ListN.{length, getD, take, drop, length-append, length-map, List·getD-map}
+use lib.ListN.{length, getD, take, drop, length-map, List·getD-map}
 use lib.Seq.{take-all}
 use Rattle.layout.proofs.Bytes.{header-wide, wide}
+use Rattle.layout.proofs.Reserved.{part-read}
 use Rattle.layout.specs.Bytes.{headerBytes, headerIn, descriptorBytes, descriptorIn, laid}
 use Rattle.layout.specs.declared.Descriptor.{Descriptor}
 use Rattle.layout.specs.declared.Header.{Header}
 use Rattle.offences.proofs.Laid.{length-laid}
 use Rattle.offences.specs.Checks.{baseOf, descriptorAt}
-use Rattle.slices.proofs.Lists.{length-upTo, upTo-at, stored-none, stored-more, stored-each, length-flat}
+use Rattle.slices.proofs.Lists.{length-upTo, upTo-at, length-stored, stored-none, stored-more, stored-each, part-stored}
 use Rattle.slices.specs.Lists.{upTo, flat, stored}
 use Rattle.words.specs.declared.Order.{Order}
 use Rattle.convert.specs.Convert.{listIn}
@@ -40,31 +41,43 @@ module _ (from to : Order) (s : List ℕ) (count : ℕ) (d : List ℕ) where
   put-none = record { k = 0; is-at = refl; few = omega arith; long = refl; so = sym (stored-none d 32) }
 
   module _ (x : List ℕ) (at : ℕ) (before : Put-before from to s count d x at) (room : baseOf count ≤ length d) where
-    pub put-on : at < baseOf count → (e : Descriptor) → e ≡ descriptorIn from (drop at s) → (b y : List ℕ) → b ≡ descriptorBytes to e → y ≡ stored x at b
-        → length y ≡ length x → Put-before from to s count d y (at + 32)
-    put-on less e is-e b y is-b is-y same = record {
-      k = before .k + 1;
-      is-at = omega (arith, before .is-at);
-      few = omega (arith, before .is-at);
-      long = same ∙ before .long;
-      so =
-          let k = before .k in
-          let listed : b ≡ descriptorBytes to (getD (listIn from s count) k (descriptorAt from s 0)) =
-          is-b ∙ ap (descriptorBytes to) (is-e ∙ ap (λ (m : ℕ). descriptorIn from (drop m s)) (before .is-at) ∙ sym (list-at from s count k (omega (arith, before .is-at)))) in
-          stored-each (descriptorBytes to) 32 (wide to) (listIn from s count) d x y 32 k (descriptorAt from s 0)
-          (omega (arith, before .is-at)) (omega (arith, before .is-at, length-list from s count)) (before .so)
-          (is-y ∙ (λ i. stored x (before .is-at i) (listed i)));
-    }
+    -- m is 32: a descriptor read in a part of the source, and stored in one of the target
+    pub put-on : at < baseOf count → (m : ℕ) → m ≡ 32 → (e : Descriptor) → e ≡ descriptorIn from (take m (drop at s)) → (b : List ℕ) → b ≡ descriptorBytes to e
+        → (z : List ℕ) → z ≡ stored (take m (drop at x)) 0 b → Put-before from to s count d (take at x ++ (z ++ drop m (drop at x))) (at + 32)
+    put-on less m is-m e is-e b is-b z is-z =
+        let k = before .k in
+        let y : List ℕ = take at x ++ (z ++ drop m (drop at x)) in
+        let whole : e ≡ descriptorIn from (drop at s) = is-e ∙ rw is-m (part-read from (drop at s)) in
+        let wide-b : length b ≡ 32 = ap length is-b ∙ wide to e in
+        let put : y ≡ stored x at b = part-stored x b at m (omega (arith, before .is-at, before .long)) (omega arith) z is-z in
+        let listed : b ≡ descriptorBytes to (getD (listIn from s count) k (descriptorAt from s 0)) =
+        is-b ∙ ap (descriptorBytes to) (whole ∙ ap (λ (n : ℕ). descriptorIn from (drop n s)) (before .is-at) ∙ sym (list-at from s count k (omega (arith, before .is-at)))) in
+        record {
+          k = k + 1;
+          is-at = omega (arith, before .is-at);
+          few = omega (arith, before .is-at);
+          long = ap length put ∙ length-stored x b at ∙ before .long;
+          so =
+              stored-each (descriptorBytes to) 32 (wide to) (listIn from s count) d x y 32 k (descriptorAt from s 0)
+              (omega (arith, before .is-at)) (omega (arith, before .is-at, length-list from s count)) (before .so)
+              (put ∙ (λ i. stored x (before .is-at i) (listed i)));
+        }
 
-pub put-all : (from to : Order) (s : List ℕ) (count : ℕ) (d₀ d x : List ℕ) (h : Header) (b : List ℕ) (at : ℕ) → h ≡ headerIn from s → b ≡ headerBytes to h → d ≡ stored d₀ 0 b
-    → baseOf count ≤ length d₀ → Put-before from to s count d x at → baseOf count ≤ at → x ≡ stored d₀ 0 (laid to (headerIn from s) (listIn from s count))
-put-all from to s count d₀ d x h b at is-h is-b is-d room before past =
+    pub put-all : baseOf count ≤ at → x ≡ stored d 32 (flat (descriptorBytes to) (listIn from s count))
+    put-all past =
+        let l : List Descriptor = listIn from s count in
+        before .so ∙ ap (λ (v : List Descriptor). stored d 32 (flat (descriptorBytes to) v))
+        (take-all (before .k) l (omega (arith, before .is-at, before .few, length-list from s count)))
+
+-- the header, and the list behind it
+pub both-put : (from to : Order) (s : List ℕ) (count : ℕ) (d₀ d x : List ℕ) (h : Header) (b : List ℕ) → h ≡ headerIn from s → b ≡ headerBytes to h → d ≡ stored d₀ 0 b
+    → baseOf count ≤ length d₀ → x ≡ stored d 32 (flat (descriptorBytes to) (listIn from s count)) → x ≡ stored d₀ 0 (laid to (headerIn from s) (listIn from s count))
+both-put from to s count d₀ d x h b is-h is-b is-d room is-x =
     let H : List ℕ = headerBytes to (headerIn from s) in
-    let l : List Descriptor = listIn from s count in
-    let every : take (before .k) l ≡ l = take-all (before .k) l (omega (arith, before .is-at, before .few, length-list from s count)) in
+    let F : List ℕ = flat (descriptorBytes to) (listIn from s count) in
     let place : 32 ≡ 0 + length H = omega (arith, header-wide to (headerIn from s)) in
-    let fits : 0 + length (H ++ flat (descriptorBytes to) l) ≤ length d₀ = omega (arith, length-laid to (headerIn from s) l, length-list from s count) in
-    before .so
-    ∙ (λ i. stored (is-d i) (place i) (flat (descriptorBytes to) (every i)))
-    ∙ (λ i. stored (stored d₀ 0 ((is-b ∙ ap (headerBytes to) is-h) i)) (0 + length H) (flat (descriptorBytes to) l))
-    ∙ stored-more d₀ 0 H (flat (descriptorBytes to) l) fits
+    let fits : 0 + length (H ++ F) ≤ length d₀ = omega (arith, length-laid to (headerIn from s) (listIn from s count), length-list from s count) in
+    is-x
+    ∙ (λ i. stored (is-d i) (place i) F)
+    ∙ (λ i. stored (stored d₀ 0 ((is-b ∙ ap (headerBytes to) is-h) i)) (0 + length H) F)
+    ∙ stored-more d₀ 0 H F fits

@@ -1,6 +1,5 @@
 // SCSI data as a page.
 ghost use mathlib.Core.Path.{_≡_};
-ghost use Prim.Native.Nat.{_≤_};
 ghost use Rattle.convert.specs.Convert as paper;
 use crate::Converted;
 use crate::put_turned;

@@ -5,9 +5,9 @@ mod from_page;
 ghost use mathlib.Core.Path.{_≡_};
 ghost use Prim.Native.Nat.{_+_, _*_, _≤_};
 ghost use lib.ListN.{length};
-ghost use Rattle.layout.specs.Bytes.{headerIn, laid};
+ghost use Rattle.layout.specs.Bytes.{headerIn, descriptorBytes, laid};
 ghost use Rattle.offences.specs.First as first;
-ghost use Rattle.slices.specs.Lists.{stored};
+ghost use Rattle.slices.specs.Lists.{flat, stored};
 ghost use Rattle.convert.specs.Convert.{listIn};
 pub use from_data::to_ata;
 pub use from_page::to_scsi;
@@ -34,20 +34,28 @@ fn unless(convertible: bool) -> Offence
     }
 }
 
-// Stores the header and the first `count` descriptors of one order in the other, reserved bytes as zeros.
+// Stores the first `count` descriptors of one order in the other behind the header, reserved bytes as zeros. All their bytes are there.
+fn put_list(bytes: &[u8], count: u32, from: Order, to: Order, buf: &mut [u8])
+    requires { ⌜ (32 + 32 * count ≤ length (now bytes)) × (32 + 32 * count ≤ length (now buf)) ⌝ }
+    ensures { λ _. ⌜ now (buf .exit) ≡ stored (now (buf .entry)) 32 (flat (descriptorBytes to) (listIn from (now (bytes .entry)) count)) ⌝ }
+{
+    let end = 32 + 32 * (count as usize);
+    let mut at: usize = 32;
+    while at < end {
+        let d = Descriptor::read(&bytes[at..at + 32], from);
+        let turned = d.bytes(to);
+        slices::put(&mut buf[at..at + 32], 0, &turned);
+        at += 32;
+    }
+}
+
+// The header, and the list behind it.
 fn put_turned(bytes: &[u8], count: u32, from: Order, to: Order, buf: &mut [u8])
-    requires { ⌜ 32 + 32 * count ≤ length (now buf) ⌝ }
+    requires { ⌜ (32 + 32 * count ≤ length (now bytes)) × (32 + 32 * count ≤ length (now buf)) ⌝ }
     ensures { λ _. ⌜ now (buf .exit) ≡ stored (now (buf .entry)) 0 (laid to (headerIn from (now (bytes .entry))) (listIn from (now (bytes .entry)) count)) ⌝ }
 {
     let h = Header::read(bytes, from);
     let header = h.bytes(to);
     slices::put(buf, 0, &header);
-    let end = 32 + 32 * (count as usize);
-    let mut at: usize = 32;
-    while at < end {
-        let d = Descriptor::read_at(bytes, at, from);
-        let turned = d.bytes(to);
-        slices::put(buf, at, &turned);
-        at += 32;
-    }
+    put_list(bytes, count, from, to, buf);
 }

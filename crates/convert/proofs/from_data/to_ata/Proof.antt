@@ -1,6 +1,6 @@
 -- `convert::from_data::to_ata`: a law for each way out.
 use borrow.Author.Needs.{needs}
-use Rattle.convert.proofs.Outcomes.{ata-refused, ata-short, list-fits, ata-done}
+use Rattle.convert.proofs.Outcomes.{ata-refused, ata-short, data-there, list-fits, ata-done}
 use Rattle.convert.proofs.from_data.to_ata.Statement.{statement}
 use Rattle.convert.proofs.from_data.to_ata.Tie as tie
 
@@ -16,7 +16,7 @@ to-ata-spec =
     (λ c. search needs)
     (λ c. search (ata-short))
     (λ c κs. search needs)
-    (λ c κs. search (list-fits))
+    (λ c κs. (search (data-there), search (list-fits)))
     (λ c. search needs)
     (λ c. search needs)
     (λ c. search needs)
