@@ -1,5 +1,5 @@
--- The page of a run is given back (specs/GivesBack): the making leaves a device in order that fits, every event keeps that, and what 12h
--- leaves in the buffer is then a page that the reader takes.
+-- The page of a run is given back (specs/GivesBack): the run leaves a device in order that fits, and what 12h leaves in the buffer is then a
+-- page that the reader takes.
 use Prim.Native.Nat.{ℕ, _*_, _/_, _≤_}
 use mathlib.Core.Bool.{Bool, true, false, cond}
 use mathlib.Core.List.{List, _++_}
@@ -10,13 +10,9 @@ use lib.ListN.{length, take, drop}
 use lib.Seq.{take-at}
 use borrow.Author.Tests.{le-ltb}
 use Rattle.agreement.proofs.Agreement.{agrees}
-use Rattle.conduct.proofs.Fits.{keeps-fit}
 use Rattle.conduct.specs.Fits.{Fits}
 use Rattle.device.specs.Machine.{command, told}
 use Rattle.device.specs.declared.Device.{Device}
-use Rattle.history.proofs.Places.{table-kept}
-use Rattle.history.proofs.Runs.{runs-are-scripts}
-use Rattle.history.specs.Runs.{Script, begin, _▸_, after}
 use Rattle.layout.specs.declared.Header.{Header}
 use Rattle.listing.specs.Listing.{judged}
 use Rattle.paper.specs.Registers.{Registers}
@@ -31,19 +27,9 @@ use Rattle.status.proofs.EveryPage.{three-answers, shown-alike, whole-pages}
 use Rattle.status.specs.Lent.{lent}
 use Rattle.status.specs.Page.{headerOf, pageOf, shown}
 use Rattle.table.specs.Elements.{identifiers, ascending}
-use Rattle.table.specs.declared.Table.{Table}
 use Rattle.words.specs.declared.Order.the-variants.{Little}
 use Rattle.demands.specs.GivesBack.{Given-back, Gives-back}
-use Rattle.demands.proofs.Starts.{listed-starts}
-
--- ## A run
-
-fits-after : (d : Device) → Fits d → (s : Script) → Fits (after d s)
-fits-after d fits begin = fits
-fits-after d fits (s ▸ e) = keeps-fit (after d s) e (fits-after d fits s)
-
-ordered-after : (d : Device) → ascending 0 (identifiers (d .table)) ≡ true → (s : Script) → ascending 0 (identifiers (after d s .table)) ≡ true
-ordered-after d asc s = subst⁻¹ (λ (t : Table). ascending 0 (identifiers t) ≡ true) (table-kept d s) asc
+use Rattle.demands.proofs.Runs.{run-leaves}
 
 -- ## What 12h leaves, answered 0
 
@@ -101,10 +87,7 @@ module _ (d : Device) (fits : Fits d) (asc : ascending 0 (identifiers (d .table)
   given = subst⁻¹ (Given-back d (asked r)) (page-left d s r buf is-12 done) page-given
 
 pub gives-back : Gives-back
-gives-back there es limit a d (is-made, fits) z s ns x ran security r buf out b y is-12 (is-told, is-out) done =
-    let same : x ≡ after d s = runs-are-scripts d s ns x ran .0 in
-    let fit : Fits x = subst⁻¹ Fits same (fits-after d fits s) in
-    let asc : ascending 0 (identifiers (x .table)) ≡ true =
-    subst⁻¹ (λ (v : Device). ascending 0 (identifiers (v .table)) ≡ true) same (ordered-after d (listed-starts there es limit a d is-made .0 z .1 .startable .ids) s) in
+gives-back there es limit a d made z s ns x ran security r buf out b y is-12 (is-told, is-out) done =
+    let (fits, asc) = run-leaves there es limit a d made z s ns x ran in
     let zero : told x (command security r (length buf)) .number ≡ 0 = ap (λ (t : Told Device). t .number) (sym is-told) ∙ done in
-    subst⁻¹ (λ (bytes : List ℕ). Given-back x (asked r) (take (512 * pagesOf (asked r)) bytes)) is-out (given x fit asc security r buf is-12 zero)
+    subst⁻¹ (λ (bytes : List ℕ). Given-back x (asked r) (take (512 * pagesOf (asked r)) bytes)) is-out (given x fits asc security r buf is-12 zero)

@@ -1,4 +1,6 @@
 -- What is proved of the demands.
 pub mod Demand1
 pub mod GivesBack
+pub mod Runs
+pub mod SendsBack
 pub mod Starts

@@ -1,16 +1,12 @@
--- "The reader .. gives back what was written", of the code's own calls. Each premise is what a call promises (calls/src/lib.rt): the lent
--- making, the calls of a run, and the front call with 12h, answered 0.
+-- "The reader .. gives back what was written", of the code's own calls. Its last premise is what the front call promises (calls/src/lib.rt),
+-- with 12h, answered 0.
 use Prim.Native.Nat.{ℕ, _*_, _<_, _≤_}
 use mathlib.Core.List.{List}
 use mathlib.Core.Path.{_≡_}
 use lib.ListN.{length, getD, take}
-use Rattle.calls.specs.Offered.{madeFrom}
-use Rattle.conduct.specs.Fits.{Fits}
 use Rattle.device.specs.Machine.{command, told}
 use Rattle.device.specs.declared.Device.{Device}
-use Rattle.history.specs.Runs.{Script, Ran}
 use Rattle.listing.specs.Listing.{judged}
-use Rattle.offer.specs.declared.Element.{Element}
 use Rattle.paper.specs.Answers.{numberOf}
 use Rattle.paper.specs.Registers.{Registers}
 use Rattle.paper.specs.Told.{tells, said}
@@ -25,6 +21,7 @@ use Rattle.status.specs.Page.{listOf, headerOf}
 use Rattle.table.specs.Elements.{blankPart}
 use Rattle.view.specs.Shown.{shownOf}
 use Rattle.words.specs.declared.Order.the-variants.{Little}
+use Rattle.demands.specs.Runs.{After-runs}
 
 -- a page, as the answer of a device to a request
 pub record Given-back (d : Device) (q : Request) (page : List ℕ) : Type 0 where
@@ -37,8 +34,7 @@ pub record Given-back (d : Device) (q : Request) (page : List ℕ) : Type 0 wher
 
 abbrev pub Gives-back : Type 0
 Gives-back =
-    (there : Device) (es : List Element) (limit : ℕ) (a : Answer) (d : Device) → (said a d ≡ madeFrom there es limit) × Fits d → numberOf a ≡ 0
-    → (s : Script) (ns : List ℕ) (x : Device) → Ran d s ns x
-    → (security : Security) (r : Registers) (buf out : List ℕ) (b : Answer) (y : Device) → r .code ≡ 0x12
+    After-runs (λ x.
+    (security : Security) (r : Registers) (buf out : List ℕ) (b : Answer) (y : Device) → r .code ≡ 0x12
     → (said b y ≡ told x (command security r (length buf))) × (out ≡ lent x security r buf) → numberOf b ≡ 0
-    → Given-back x (asked r) (take (512 * pagesOf (asked r)) out)
+    → Given-back x (asked r) (take (512 * pagesOf (asked r)) out))
