@@ -19,8 +19,7 @@ use Rattle.paper.specs.Told.{Told, tells, said}
 use Rattle.paper.specs.declared.Written.{Written}
 use Rattle.request.specs.declared.Request.{Request}
 use Rattle.status.specs.Sent.{sent}
-use Rattle.docking.specs.Dock.{Kind, answered, heardIn, heard, kindSaid, kindOf, toldOver, roomOf, filled, answeredBy, lentBy}
-use Rattle.docking.specs.Private.{heardOver}
+use Rattle.docking.specs.Dock.{Kind, answered, heardOver, heardIn, heard, kindSaid, kindOf, toldOver, roomOf, filled, answeredBy, lentBy}
 use Rattle.docking.specs.declared.Said.the-variants.{Sent, ToScsi, ToAta}
 use Rattle.docking.specs.declared.Said.{Said}
 
@@ -32,16 +31,16 @@ at-kind call found s e so = so ∙ sym (rw e)
 module _ (d : Device) (call : DockCall) (source buf x : List ℕ) where
   pub sent-told : (s : Send) (w : Written) → call ≡ calls.Send s → said (w .answer) (output (w .count) x) ≡ sent d (s .query) (s .allocation) buf
       → heardOver (Sent w) x ≡ toldOver d call source buf
-  unfolding heardOver toldOver
+  unfolding toldOver
   sent-told s w e so = ap (λ (t : Told Output). tells (t .number) (put (t .state))) so ∙ sym (rw e)
 
   pub scsi-told : (q : Request) (c : Converted) → call ≡ calls.ToScsi q → convert.heard c x ≡ convert.toScsi source q buf → heardOver (ToScsi c) x ≡ toldOver d call source buf
-  unfolding heardOver toldOver
+  unfolding toldOver
   scsi-told q c e so = so ∙ sym (rw e)
 
   pub ata-told : (t : Asked) (c : Converted) → call ≡ calls.ToAta t → convert.heard c x ≡ convert.toAta source (t .query) (t .pages .0) buf
       → heardOver (ToAta c) x ≡ toldOver d call source buf
-  unfolding heardOver toldOver
+  unfolding toldOver
   ata-told t c e so = so ∙ sym (rw e)
 
 -- ## Over A5h
@@ -51,9 +50,8 @@ pub over-told : (d : Device) (call : DockCall) (source buf x y : List ℕ) (s : 
 unfolding filled
 over-told d call source buf x y s is-x so = so ∙ ap (toldOver d call source) is-x
 
--- what is said is what is heard over a buffer, and the buffer is that one
+-- the buffer has no part in what is said, and is the one that is heard
 told-answer : (room : ℕ) (s : Said) (x : List ℕ) → heardIn room s ≡ answered (kindSaid s) room (heardOver s x)
-unfolding heardOver
 told-answer room (Sent w) x = refl
 told-answer room (ToScsi (Done n)) x = refl
 told-answer room (ToScsi SmallBuffer) x = refl
@@ -63,7 +61,6 @@ told-answer room (ToAta SmallBuffer) x = refl
 told-answer room (ToAta (Refused p)) x = refl
 
 told-buffer : (s : Said) (x : List ℕ) → bufferOf (heardOver s x .state) ≡ x
-unfolding heardOver
 told-buffer (Sent w) x = refl
 told-buffer (ToScsi (Done n)) x = refl
 told-buffer (ToScsi SmallBuffer) x = refl

@@ -1,15 +1,15 @@
 -- Request 2026-03, "Bench language, so that every request can be tried": `scsi`, `toscsi` and `toata`.
 use Prim.Native.Nat.{ℕ, min}
-use mathlib.Core.List.{List, _++_}
+use mathlib.Core.List.{List, [], _++_}
 use lib.ListN.{length, drop, replicate}
 use Rattle.arguments.specs.declared.Dock.{Dock}
 use Rattle.arguments.specs.declared.DockCall.the-variants as calls
 use Rattle.arguments.specs.declared.DockCall.{DockCall}
+use Rattle.convert.specs.Convert as convert
 use Rattle.convert.specs.Convert.{Outcome, put, place, bufferOf, toScsi, toAta}
-use Rattle.convert.specs.declared.Converted.the-variants.{Done, SmallBuffer, Refused}
-use Rattle.convert.specs.declared.Converted.{Converted}
 use Rattle.device.specs.declared.Device.{Device}
 use Rattle.paper.specs.Answers.{numberOf}
+use Rattle.paper.specs.Output.{output}
 use Rattle.paper.specs.Told.{Told, tells}
 use Rattle.status.specs.Sent.{sent}
 use Rattle.docking.specs.declared.Docked.{Docked}
@@ -50,43 +50,29 @@ answered k room t = record { kind = k; number = t .number; count = countIn (t .s
 
 -- ## As the code says it
 
-abbrev pub numbered : Converted → ℕ
-numbered (Done n) = 0
-numbered SmallBuffer = 7
-numbered (Refused p) = 9
-
-abbrev pub counted : Converted → ℕ
-counted (Done n) = n
-counted SmallBuffer = 0
-counted (Refused p) = 0
-
-abbrev pub placed : Converted → ℕ
-placed (Done n) = 0
-placed SmallBuffer = 0
-placed (Refused p) = p
-
 abbrev pub kindSaid : Said → Kind
 kindSaid (said.Sent w) = scsi
 kindSaid (said.ToScsi c) = toscsi
 kindSaid (said.ToAta c) = toata
 
+-- as the writer and the conversions promise it, with a buffer
+abbrev pub heardOver : Said → List ℕ → Told Outcome
+heardOver (said.Sent w) buf = tells (numberOf (w .answer)) (put (output (w .count) buf))
+heardOver (said.ToScsi c) buf = convert.heard c buf
+heardOver (said.ToAta c) buf = convert.heard c buf
+
+-- which has no part in what is said
 abbrev pub numberSaid : Said → ℕ
-numberSaid (said.Sent w) = numberOf (w .answer)
-numberSaid (said.ToScsi c) = numbered c
-numberSaid (said.ToAta c) = numbered c
+numberSaid s = heardOver s [] .number
 
 abbrev pub countSaid : Said → ℕ
-countSaid (said.Sent w) = w .count
-countSaid (said.ToScsi c) = counted c
-countSaid (said.ToAta c) = counted c
+countSaid s = countIn (heardOver s [] .state)
 
 abbrev pub placeSaid : Said → ℕ
-placeSaid (said.Sent w) = 0
-placeSaid (said.ToScsi c) = placed c
-placeSaid (said.ToAta c) = placed c
+placeSaid s = placeIn (heardOver s [] .state)
 
 abbrev pub heardIn : ℕ → Said → Answered
-heardIn room s = record { kind = kindSaid s; number = numberSaid s; count = countSaid s; place = placeSaid s; room = room }
+heardIn room s = answered (kindSaid s) room (heardOver s [])
 
 abbrev pub heard : Docked → Answered
 heard d = heardIn (d .room) (d .said)

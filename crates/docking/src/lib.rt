@@ -1,8 +1,9 @@
 // The bench's calls for a SCSI host, over a lent buffer that is filled with A5h before.
 ghost use mathlib.Core.Path.{_≡_};
+ghost use mathlib.Core.List.{[]};
 ghost use lib.ListN.{length};
+ghost use Rattle.convert.specs.Convert.{heard};
 ghost use Rattle.docking.specs.Dock as paper;
-ghost use Rattle.docking.specs.Private as private;
 use arguments::Dock;
 use arguments::DockCall;
 use convert::Converted;
@@ -25,7 +26,7 @@ pub struct Docked {
 // ---- What was said
 
 fn number_of(c: Converted) -> u8
-    ensures { λ r. ⌜ r ≡ paper.numbered c ⌝ }
+    ensures { λ r. ⌜ r ≡ heard c [] .number ⌝ }
 {
     match c {
         Converted::Done(_) => 0,
@@ -35,7 +36,7 @@ fn number_of(c: Converted) -> u8
 }
 
 fn count_of(c: Converted) -> usize
-    ensures { λ r. ⌜ r ≡ paper.counted c ⌝ }
+    ensures { λ r. ⌜ r ≡ paper.countIn (heard c [] .state) ⌝ }
 {
     match c {
         Converted::Done(n) => n,
@@ -74,7 +75,7 @@ impl Said {
 // ---- The calls
 
 fn answer(d: Device, call: DockCall, source: &[u8], lent: &mut [u8]) -> Said
-    ensures { λ r. ⌜ (paper.kindSaid r ≡ paper.kindOf call) × (private.heardOver r (now (lent .exit)) ≡ paper.toldOver d call (now (source .entry)) (now (lent .entry))) ⌝ }
+    ensures { λ r. ⌜ (paper.kindSaid r ≡ paper.kindOf call) × (paper.heardOver r (now (lent .exit)) ≡ paper.toldOver d call (now (source .entry)) (now (lent .entry))) ⌝ }
 {
     match call {
         DockCall::Send(s) => {
@@ -92,7 +93,7 @@ fn answer(d: Device, call: DockCall, source: &[u8], lent: &mut [u8]) -> Said
 
 // Over a buffer that is lent whole.
 fn answer_over(d: Device, call: DockCall, source: &[u8], lent: &mut [u8]) -> Said
-    ensures { λ r. ⌜ (paper.kindSaid r ≡ paper.kindOf call) × (private.heardOver r (now (lent .exit)) ≡ paper.toldOver d call (now (source .entry)) (paper.filled (length (now (lent .entry))))) ⌝ }
+    ensures { λ r. ⌜ (paper.kindSaid r ≡ paper.kindOf call) × (paper.heardOver r (now (lent .exit)) ≡ paper.toldOver d call (now (source .entry)) (paper.filled (length (now (lent .entry))))) ⌝ }
 {
     front::fill(lent);
     answer(d, call, source, lent)

@@ -8,8 +8,9 @@ use lib.Dec.{eqb}
 use lib.ListN.{length, take, length-append}
 use borrow.Author.Tests.{eq-eqb, ne-eqb}
 use Rattle.contents.specs.Contents.{refusedLine}
+use Rattle.convert.specs.Convert as convert
 use Rattle.convert.specs.declared.Converted.{Converted}
-use Rattle.docking.specs.Dock.{Kind, scsi, toscsi, toata, Answered, numbered, placed, heard, kindSaid, numberSaid, placeSaid, countSaid}
+use Rattle.docking.specs.Dock.{Kind, scsi, toscsi, toata, Answered, placeIn, heard, kindSaid, numberSaid, placeSaid, countSaid}
 use Rattle.docking.specs.declared.Docked.{Docked}
 use Rattle.docking.specs.declared.Said.{Said}
 use Rattle.dump.proofs.Data.{enough-for-data}
@@ -28,9 +29,11 @@ use Rattle.replies.proofs.Answers.{length-answer, three-puts}
 
 -- ## The first line, by what was said
 
-pub at-bare : (c found : Converted) → c ≡ found → (d x : List ℕ) (r : ℕ) → x ≡ stored d 0 (bareLine (numbered found) (placed found))
-    → r ≡ ended d 0 (bareLine (numbered found) (placed found)) → Puts d 0 (bareLine (numbered c) (placed c)) x r
-at-bare c found e d x r is-x is-r = rw e (puts-one d x 0 r (bareLine (numbered found) (placed found)) is-x is-r)
+abbrev bareOf : Converted → List ℕ
+bareOf c = bareLine (convert.heard c [] .number) (placeIn (convert.heard c [] .state))
+
+pub at-bare : (c found : Converted) → c ≡ found → (d x : List ℕ) (r : ℕ) → x ≡ stored d 0 (bareOf found) → r ≡ ended d 0 (bareOf found) → Puts d 0 (bareOf c) x r
+at-bare c found e d x r is-x is-r = rw e (puts-one d x 0 r (bareOf found) is-x is-r)
 
 pub at-first : (s found : Said) → s ≡ found → (d x : List ℕ) (r : ℕ) → Puts d 0 (firstLine (kindSaid found) (numberSaid found) (placeSaid found)) x r
     → Puts d 0 (firstLine (kindSaid s) (numberSaid s) (placeSaid s)) x r

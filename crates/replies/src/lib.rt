@@ -1,8 +1,10 @@
 // What the bench says to a line, as text in a lent buffer.
 ghost use mathlib.Core.Path.{_≡_};
+ghost use mathlib.Core.List.{[]};
 ghost use Prim.Native.Nat.{_≤_};
 ghost use lib.ListN.{length};
 ghost use Rattle.acts.specs.Acts.{heard};
+ghost use Rattle.convert.specs.Convert as convert;
 ghost use Rattle.docking.specs.Dock as dock;
 ghost use Rattle.paper.specs.Answers.{numberOf};
 ghost use Rattle.writing.specs.Private as writing·private;
@@ -54,7 +56,7 @@ fn put_answer(out: &mut [u8], at: usize, answer: Answer) -> usize
 // ---- The calls for a SCSI host
 
 fn put_bare(out: &mut [u8], c: Converted) -> usize
-    ensures { λ r. ⌜ writing·private.Puts (now (out .entry)) 0 (bareLine (dock.numbered c) (dock.placed c)) (now (out .exit)) r ⌝ }
+    ensures { λ r. ⌜ writing·private.Puts (now (out .entry)) 0 (bareLine (convert.heard c [] .number) (dock.placeIn (convert.heard c [] .state))) (now (out .exit)) r ⌝ }
 {
     match c {
         Converted::Done(_) => writing::word(out, 0, b"0\n"),
