@@ -16,6 +16,7 @@ use Rattle.slices.proofs.Lists.{length-upTo, upTo-at, length-stored, stored-non
 use Rattle.slices.specs.Lists.{upTo, flat, stored}
 use Rattle.words.specs.declared.Order.{Order}
 use Rattle.convert.specs.Convert.{listIn}
+use Rattle.convert.specs.Private.{Turned}
 
 -- ## The list
 
@@ -42,16 +43,16 @@ module _ (from to : Order) (s : List ℕ) (count : ℕ) (d : List ℕ) where
 
   module _ (x : List ℕ) (at : ℕ) (before : Put-before from to s count d x at) (room : baseOf count ≤ length d) where
     -- m is 32: a descriptor read in a part of the source, and stored in one of the target
-    pub put-on : at < baseOf count → (m : ℕ) → m ≡ 32 → (e : Descriptor) → e ≡ descriptorIn from (take m (drop at s)) → (b : List ℕ) → b ≡ descriptorBytes to e
+    pub put-on : at < baseOf count → (m : ℕ) → m ≡ 32 → (b : List ℕ) → Turned from to (take m (drop at s)) b
         → (z : List ℕ) → z ≡ stored (take m (drop at x)) 0 b → Put-before from to s count d (take at x ++ (z ++ drop m (drop at x))) (at + 32)
-    put-on less m is-m e is-e b is-b z is-z =
+    put-on less m is-m b turned z is-z =
         let k = before .k in
         let y : List ℕ = take at x ++ (z ++ drop m (drop at x)) in
-        let whole : e ≡ descriptorIn from (drop at s) = is-e ∙ rw is-m (part-read from (drop at s)) in
-        let wide-b : length b ≡ 32 = ap length is-b ∙ wide to e in
+        let whole : turned .descriptor ≡ descriptorIn from (drop at s) = turned .read ∙ rw is-m (part-read from (drop at s)) in
+        let wide-b : length b ≡ 32 = ap length (turned .written) ∙ wide to (turned .descriptor) in
         let put : y ≡ stored x at b = part-stored x b at m (omega (arith, before .is-at, before .long)) (omega arith) z is-z in
         let listed : b ≡ descriptorBytes to (getD (listIn from s count) k (descriptorAt from s 0)) =
-        is-b ∙ ap (descriptorBytes to) (whole ∙ ap (λ (n : ℕ). descriptorIn from (drop n s)) (before .is-at) ∙ sym (list-at from s count k (omega (arith, before .is-at)))) in
+        turned .written ∙ ap (descriptorBytes to) (whole ∙ ap (λ (n : ℕ). descriptorIn from (drop n s)) (before .is-at) ∙ sym (list-at from s count k (omega (arith, before .is-at)))) in
         record {
           k = k + 1;
           is-at = omega (arith, before .is-at);

@@ -9,6 +9,7 @@ ghost use Rattle.layout.specs.Bytes.{headerIn, descriptorBytes, laid};
 ghost use Rattle.offences.specs.First as first;
 ghost use Rattle.slices.specs.Lists.{flat, stored};
 ghost use Rattle.convert.specs.Convert.{listIn};
+ghost use Rattle.convert.specs.Private as private;
 pub use from_data::to_ata;
 pub use from_page::to_scsi;
 use layout::Descriptor;
@@ -34,7 +35,15 @@ fn unless(convertible: bool) -> Offence
     }
 }
 
-// Stores the first `count` descriptors of one order in the other behind the header, reserved bytes as zeros. All their bytes are there.
+// The descriptor of a part in another order; its reserved bytes are zeros, whatever stood there.
+fn turned_part(part: &[u8], from: Order, to: Order) -> [u8; 32]
+    ensures { λ r. ⌜ private.Turned from to (now (part .entry)) r ⌝ }
+{
+    let d = Descriptor::read(part, from);
+    d.bytes(to)
+}
+
+// Stores the first `count` descriptors of one order in the other behind the header. All their bytes are there.
 fn put_list(bytes: &[u8], count: u32, from: Order, to: Order, buf: &mut [u8])
     requires { ⌜ (32 + 32 * count ≤ length (now bytes)) × (32 + 32 * count ≤ length (now buf)) ⌝ }
     ensures { λ _. ⌜ now (buf .exit) ≡ stored (now (buf .entry)) 32 (flat (descriptorBytes to) (listIn from (now (bytes .entry)) count)) ⌝ }
@@ -42,9 +51,8 @@ fn put_list(bytes: &[u8], count: u32, from: Order, to: Order, buf: &mut [u8])
     let end = 32 + 32 * (count as usize);
     let mut at: usize = 32;
     while at < end {
-        let d = Descriptor::read(&bytes[at..at + 32], from);
-        let turned = d.bytes(to);
-        slices::put(&mut buf[at..at + 32], 0, &turned);
+        let descriptor = turned_part(&bytes[at..at + 32], from, to);
+        slices::put(&mut buf[at..at + 32], 0, &descriptor);
         at += 32;
     }
 }

@@ -26,7 +26,6 @@ put-list-spec =
     (λ c. search needs)
     (λ c. search needs)
     (λ c κs. search needs)
-    (λ c κs. search needs)
     (λ c. search needs)
     (λ c. search needs)
     (λ c. search needs)
@@ -36,10 +35,10 @@ put-list-spec =
     (λ c. search needs)
     (λ c. search needs)
     (λ c. let made = c .before .before .before .before .before in
-    let turn = made .before .before .before in
+    let turn = made .before .before in
     let l = turn .before .loop in
     let s = turn .before .before .before .before in
-    put-on _ _ _ _ _ (l .buf) (l .at) (l .inv) (s .pre .1) (turn .loop-test .taken) (l .at + 32 - l .at) (omega arith) _ (made .before .read .ensures) _ (made .bytes .ensures) _
+    put-on _ _ _ _ _ (l .buf) (l .at) (l .inv) (s .pre .1) (turn .loop-test .taken) (l .at + 32 - l .at) (omega arith) _ (made .turned-part .ensures) _
     (c .before .before .put .ensures))
     (λ c. search needs)
     (λ c. search (put-all)))

@@ -1,0 +1,13 @@
+-- For the promises of private functions: no reader has to believe it.
+use Prim.Native.Nat.{ℕ}
+use mathlib.Core.List.{List}
+use mathlib.Core.Path.{_≡_}
+use Rattle.layout.specs.Bytes.{descriptorBytes, descriptorIn}
+use Rattle.layout.specs.declared.Descriptor.{Descriptor}
+use Rattle.words.specs.declared.Order.{Order}
+
+-- the descriptor that some bytes start with, in another order
+pub record Turned (from to : Order) (s b : List ℕ) : Type 0 where
+  pub descriptor : Descriptor
+  pub read : descriptor ≡ descriptorIn from s
+  pub written : b ≡ descriptorBytes to descriptor
