@@ -1,8 +1,8 @@
 // The bench in plain C: what `./recorder speed` sets beside the proved program. A script on standard input, on one device.
 #include "files.h"
-#include "page.h"
 #include "plain.h"
 #include "script.h"
+#include "turn.h"
 
 static struct element offered[129];
 static size_t offered_count;
@@ -42,9 +42,7 @@ static void say(const char *words)
 static void say_number(const char *words, uint64_t number)
 {
     begin();
-    to = put_words(to, words);
-    to = put_decimal(to, number);
-    *to++ = '\n';
+    to = put_numbered(to, words, number);
 }
 
 static void answer(int number)
@@ -97,11 +95,30 @@ static int make(uint64_t limit)
     return 0;
 }
 
-// ---- The front call
+// ---- What a call writes into the lent buffer
+
+static void lend(size_t length)
+{
+    memset(lent, 0xA5, length);
+}
+
+static void keep(size_t written)
+{
+    kept = written;
+    memcpy(page, lent, kept);
+}
+
+static void print_row(const uint8_t *row, size_t size)
+{
+    begin();
+    for (size_t k = 0; k < size; k++)
+        to = put_hex(to, row[k], 2);
+    *to++ = '\n';
+}
 
 static int is_zero(const uint8_t *row)
 {
-    return (load64(row) | load64(row + 8) | load64(row + 16) | load64(row + 24)) == 0;
+    return (load(row, 8, LITTLE) | load(row + 8, 8, LITTLE) | load(row + 16, 8, LITTLE) | load(row + 24, 8, LITTLE)) == 0;
 }
 
 static void print_page(void)
@@ -109,32 +126,84 @@ static void print_page(void)
     size_t rows = kept / 32, shown = rows;
     while (shown > 0 && is_zero(page + 32 * (shown - 1)))
         shown--;
-    for (size_t i = 0; i < shown; i++) {
-        begin();
-        for (size_t k = 0; k < 32; k++)
-            to = put_hex(to, page[32 * i + k], 2);
-        *to++ = '\n';
-    }
+    for (size_t i = 0; i < shown; i++)
+        print_row(page + 32 * i, 32);
     if (shown < rows)
         say_number("zeros ", rows - shown);
 }
 
-static void command(enum security security, const uint64_t *n)
+static void print_data(void)
 {
-    size_t length = n[4], written = 0;
-    memset(lent, 0xA5, length);
-    int number = plain_command(&device, security, n[0], n[1], n[2], n[3], lent, length);
-    answer(number);
-    if (n[0] == 0x12 && number == 0) {
-        written = kept = 512 * n[2];
-        memcpy(page, lent, kept);
-        print_page();
-    }
+    say_number("bytes ", kept);
+    for (size_t at = 0; at < kept; at += 32)
+        print_row(page + at, kept - at < 32 ? kept - at : 32);
+}
+
+static void print_touched(size_t written, size_t length)
+{
     for (; written < length; written++)
         if (lent[written] != 0xA5) {
             say_number("touched ", written);
             return;
         }
+}
+
+// ---- The front call, and those for a SCSI host
+
+static void command(enum security security, const uint64_t *n)
+{
+    size_t length = n[4], written = 0;
+    lend(length);
+    int number = plain_command(&device, security, n[0], n[1], n[2], n[3], lent, length);
+    answer(number);
+    if (n[0] == 0x12 && number == 0) {
+        written = 512 * n[2];
+        keep(written);
+        print_page();
+    }
+    print_touched(written, length);
+}
+
+static void send(const uint64_t *n)
+{
+    size_t length = n[4], written;
+    lend(length);
+    int number = plain_send(&device, n[0], n[1], n[2], n[3], lent, length, &written);
+    answer(number);
+    if (number == 0) {
+        keep(written);
+        print_data();
+    }
+    print_touched(written, length);
+}
+
+// Says what came of a conversion, keeps it, and prints it as its kind is printed.
+static void convert(struct outcome outcome, void (*print)(void), size_t length)
+{
+    size_t written = 0;
+    if (outcome.answer == 9)
+        say_number("9 at ", outcome.number);
+    else if (outcome.answer == 7)
+        say("7");
+    else {
+        say("0");
+        written = outcome.number;
+        keep(written);
+        print();
+    }
+    print_touched(written, length);
+}
+
+static void convert_to_scsi(const uint64_t *n)
+{
+    lend(n[3]);
+    convert(to_scsi(lent, n[3], page, kept, n[0], n[1], n[2] & LBA_BITS), print_data, n[3]);
+}
+
+static void convert_to_ata(const uint64_t *n)
+{
+    lend(n[4]);
+    convert(to_ata(lent, n[4], page, kept, n[0], n[1], n[2], n[3]), print_page, n[4]);
 }
 
 // ---- What the device holds
@@ -194,31 +263,51 @@ static void poke(size_t place, uint8_t byte)
         say("outside");
 }
 
-static void print_reading(const uint64_t *n)
+// What was read of a list of which so many descriptors are there.
+static void print_list(size_t count, enum order order)
 {
-    ssize_t offence = check(page, kept, n[0], n[1], n[2] & ((1ull << 48) - 1));
-    if (offence >= 0) {
-        say_number("9 at ", offence);
-        return;
-    }
     say("0");
     begin();
-    to = put_header(to, page);
-    const uint8_t *end = page + 32 + 32 * (size_t)returned_of(page);
+    to = put_header(to, page, order);
+    const uint8_t *end = page + 32 + 32 * count;
     for (const uint8_t *descriptor = page + 32; descriptor < end; descriptor += 32) {
         begin();
-        to = put_hex(to, id_of(descriptor), 8);
+        to = put_hex(to, id_of(descriptor, order), 8);
         *to++ = ' ';
         *to++ = '0' + flag_of(descriptor);
         *to++ = ' ';
-        to = put_values(to, descriptor);
+        to = put_values(to, descriptor, order);
         *to++ = '\n';
     }
 }
 
+static void print_reading(const uint64_t *n)
+{
+    ssize_t offence = check(page, kept, n[0], n[1], n[2] & LBA_BITS);
+    if (offence >= 0)
+        say_number("9 at ", offence);
+    else
+        print_list(returned_of(page, LITTLE), LITTLE);
+}
+
+static void print_data_reading(const uint64_t *n)
+{
+    ssize_t offence = check_data(page, kept, n[0], n[1], n[2]);
+    if (offence >= 0) {
+        say_number("9 at ", offence);
+        return;
+    }
+    print_list(whole_of(page, kept), BIG);
+    begin();
+    to = put_tally(to, page, kept);
+}
+
 // ---- The calls
 
-enum name { ELEMENT, MAKE, COMMAND, STEP, ERROR, CUT, COMRESET, HARDRESET, SOFTRESET, GRADE, CELLS, LENGTH, POKE, READ, NAMES };
+enum name {
+    ELEMENT, MAKE, COMMAND, STEP, ERROR, CUT, COMRESET, HARDRESET, SOFTRESET, GRADE, CELLS, LENGTH, POKE, READ,
+    SCSI, SCSIREAD, TOSCSI, TOATA, NAMES
+};
 
 // The numbers of each call, by the most that each may be; a command's state stands before them.
 static const struct {
@@ -241,6 +330,10 @@ static const struct {
     [LENGTH] = {"length", 0, 1, {0x10000}},
     [POKE] = {"poke", 0, 2, {0x10000, 0xFF}},
     [READ] = {"read", 0, 3, {0xFFFF, 0xFFFF, ~0ull}},
+    [SCSI] = {"scsi", 1, 5, {0xFF, 0xFF, 0xFFFFFFFF, 0xFFFFFFFF, 0x10000}},
+    [SCSIREAD] = {"scsiread", 0, 3, {0xFF, 0xFF, 0xFFFFFFFF}},
+    [TOSCSI] = {"toscsi", 0, 4, {0xFFFF, 0xFFFF, ~0ull, 0x10000}},
+    [TOATA] = {"toata", 0, 5, {0xFF, 0xFF, 0xFFFFFFFF, 0xFFFF, 0x10000}},
 };
 
 static void call(enum name name, enum security security, const uint64_t *n)
@@ -278,6 +371,18 @@ static void call(enum name name, enum security security, const uint64_t *n)
         break;
     case READ:
         print_reading(n);
+        break;
+    case SCSI:
+        send(n);
+        break;
+    case SCSIREAD:
+        print_data_reading(n);
+        break;
+    case TOSCSI:
+        convert_to_scsi(n);
+        break;
+    case TOATA:
+        convert_to_ata(n);
         break;
     default:
         answer(plain_reset(&device));

@@ -11,6 +11,9 @@
 // The form of IDLE IMMEDIATE that is open during a removal.
 #define UNLOAD .feature = 0x44, .lba = 0x0554E4C
 
+// Of SEND: slow storage elements alone.
+#define SLOW .filter = 1, .type = 1
+
 static const struct kase cases[] = {
     // Call, path                      Device     Asked                                                     Limits
     {STEP, "no-removal",               0, IDLE,   {0},                                                      {0, UP_TO(100),  2560}},
@@ -43,21 +46,28 @@ static const struct kase cases[] = {
     {GRADE, "unknown",                 0, IDLE,   {.element = UNKNOWN, .health = 0x05},                     {1, OF_C(120),   2560}},
     {GRADE, "above-CFh",               0, IDLE,   {.element = LAST, .health = 0xD0},                        {1, OF_C(120),   2560}},
     {GRADE, "at-FFh",                  2, IDLE,   {.element = SECOND, .health = 0x05},                      {1, UP_TO(150),  2560}},
-    {COMMAND, "25h",                   0, IDLE,   {UNLOCKED, .code = 0x25, .count = 1, .lba = 5},           {0, UP_TO(150),  5120}},
-    {COMMAND, "25h-beyond",            0, IDLE,   {UNLOCKED, .code = 0x25, .count = 0, .lba = 126999},      {0, UP_TO(150),  5120}},
-    {COMMAND, "25h-in-progress",       0, WORK_3, {UNLOCKED, .code = 0x25, .count = 1, .lba = 5},           {0, UP_TO(200),  5120}},
-    {COMMAND, "B0h-in-progress",       0, WORK_3, {UNLOCKED, .code = 0xB0, .feature = 0xDA},                {0, UP_TO(200),  5120}},
-    {COMMAND, "E1h-in-progress",       0, WORK_3, {UNLOCKED, .code = 0xE1},                                 {0, UP_TO(200),  5120}},
-    {COMMAND, "E1h-Unload",            0, WORK_3, {UNLOCKED, .code = 0xE1, UNLOAD},                         {0, UP_TO(200),  5120}},
-    {COMMAND, "unknown",               0, IDLE,   {UNLOCKED, .code = 0x99},                                 {0, UP_TO(150),  5120}},
-    {COMMAND, "ECh",                   0, IDLE,   {UNLOCKED, .code = 0xEC},                                 {0, UP_TO(150),  5120}},
-    {COMMAND, "7Ch-accepted",          0, IDLE,   {UNLOCKED, .code = 0x7C, .element = LAST},                {1, OF_C(120),   5120}},
-    {COMMAND, "7Ch-in-progress",       0, WORK_3, {UNLOCKED, .code = 0x7C, .element = LAST},                {0, UP_TO(200),  5120}},
-    {COMMAND, "12h-1-page",            0, IDLE,   {UNLOCKED, .code = 0x12, .count = 1, .room = 512},        {2, OF_C(100),   7168}},
-    {COMMAND, "12h-refused",           0, IDLE,   {UNLOCKED, .code = 0x12, .count = 0, .room = 512},        {0, UP_TO(200),  7168}},
-    {SHOW, "1-page",                   0, IDLE,   {UNLOCKED, .count = 1, .room = 512},                      {2, OF_C(100),   4864}},
-    {SHOW, "9-pages",                  0, IDLE,   {UNLOCKED, .count = 9, .room = 4608},                     {2, OF_C(100),   4864}},
-    {SHOW, "9-pages-filtered",         0, IDLE,   {UNLOCKED, .feature = 0x4100, .count = 9, .room = 4608},  {2, OF_C(100),   4864}},
-    {SHOW, "refused",                  0, IDLE,   {UNLOCKED, .count = 0, .room = 512},                      {0, UP_TO(100),  4864}},
-    {SHOW, "small-buffer",             0, IDLE,   {UNLOCKED, .count = 2, .room = 512},                      {0, UP_TO(100),  4864}},
+    {COMMAND, "25h",                   0, IDLE,   {UNLOCKED, .code = 0x25, .count = 1, .lba = 5},           {0, UP_TO(150),  2816}},
+    {COMMAND, "25h-beyond",            0, IDLE,   {UNLOCKED, .code = 0x25, .count = 0, .lba = 126999},      {0, UP_TO(150),  2816}},
+    {COMMAND, "25h-in-progress",       0, WORK_3, {UNLOCKED, .code = 0x25, .count = 1, .lba = 5},           {0, UP_TO(200),  2816}},
+    {COMMAND, "B0h-in-progress",       0, WORK_3, {UNLOCKED, .code = 0xB0, .feature = 0xDA},                {0, UP_TO(200),  2816}},
+    {COMMAND, "E1h-in-progress",       0, WORK_3, {UNLOCKED, .code = 0xE1},                                 {0, UP_TO(200),  2816}},
+    {COMMAND, "E1h-Unload",            0, WORK_3, {UNLOCKED, .code = 0xE1, UNLOAD},                         {0, UP_TO(200),  2816}},
+    {COMMAND, "unknown",               0, IDLE,   {UNLOCKED, .code = 0x99},                                 {0, UP_TO(150),  2816}},
+    {COMMAND, "ECh",                   0, IDLE,   {UNLOCKED, .code = 0xEC},                                 {0, UP_TO(150),  2816}},
+    {COMMAND, "7Ch-accepted",          0, IDLE,   {UNLOCKED, .code = 0x7C, .element = LAST},                {1, OF_C(120),   2816}},
+    {COMMAND, "7Ch-in-progress",       0, WORK_3, {UNLOCKED, .code = 0x7C, .element = LAST},                {0, UP_TO(200),  2816}},
+    {COMMAND, "12h-1-page",            0, IDLE,   {UNLOCKED, .code = 0x12, .count = 1, .room = 512},        {0, OF_C(100),   2816}},
+    {COMMAND, "12h-refused",           0, IDLE,   {UNLOCKED, .code = 0x12, .count = 0, .room = 512},        {0, UP_TO(200),  2816}},
+    {SHOW, "1-page",                   0, IDLE,   {UNLOCKED, .count = 1, .room = 512},                      {0, OF_C(100),    512}},
+    {SHOW, "9-pages",                  0, IDLE,   {UNLOCKED, .count = 9, .room = 4608},                     {0, OF_C(100),    512}},
+    {SHOW, "9-pages-filtered",         0, IDLE,   {UNLOCKED, .feature = 0x4100, .count = 9, .room = 4608},  {0, OF_C(100),    512}},
+    {SHOW, "refused",                  0, IDLE,   {UNLOCKED, .count = 0, .room = 512},                      {0, UP_TO(100),   512}},
+    {SHOW, "small-buffer",             0, IDLE,   {UNLOCKED, .count = 2, .room = 512},                      {0, UP_TO(100),   512}},
+    {SEND, "whole",                    0, IDLE,   {.allocation = 4608, .room = 4608},                       {0, OF_C(90),     512}},
+    {SEND, "filtered",                 0, IDLE,   {SLOW, .allocation = 4608, .room = 4608},                 {0, OF_C(80),     512}},
+    {SEND, "512-bytes",                0, IDLE,   {.allocation = 512, .room = 512},                         {0, OF_C(90),     512}},
+    {SEND, "cut-through",              0, IDLE,   {.allocation = 144, .room = 144},                         {0, OF_C(90),     512}},
+    {SEND, "no-byte",                  0, IDLE,   {.allocation = 0, .room = 512},                           {0, OF_C(80),     512}},
+    {SEND, "refused",                  0, IDLE,   {.filter = 2, .allocation = 512, .room = 512},            {0, UP_TO(100),   512}},
+    {SEND, "small-buffer",             0, IDLE,   {.allocation = 512, .room = 100},                         {0, OF_C(70),     512}},
 };

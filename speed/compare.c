@@ -10,30 +10,32 @@ static char text[160000];                  // Room for every comparison.
 // The last identifier of a page that was cut short.
 static uint64_t reach(const uint8_t *page)
 {
-    return number_of(page) > returned_of(page) ? id_of(page + 32 * (size_t)returned_of(page)) : PAST;
+    size_t returned = returned_of(page, LITTLE);
+    return number_of(page, LITTLE) > returned ? id_of(page + 32 * returned, LITTLE) : PAST;
 }
 
 static int is_changed(const uint8_t *a, const uint8_t *b)
 {
-    return type_of(a) != type_of(b) || health_of(a) != health_of(b) || flag_of(a) != flag_of(b) || capacity_of(a) != capacity_of(b);
+    return type_of(a) != type_of(b) || health_of(a) != health_of(b) || flag_of(a) != flag_of(b) ||
+           capacity_of(a, LITTLE) != capacity_of(b, LITTLE);
 }
 
 static char *put_signed(char *to, char sign, const uint8_t *descriptor)
 {
     *to++ = sign;
     *to++ = ' ';
-    to = put_hex(to, id_of(descriptor), 8);
+    to = put_hex(to, id_of(descriptor, LITTLE), 8);
     *to++ = ' ';
-    return put_values(to, descriptor);
+    return put_values(to, descriptor, LITTLE);
 }
 
 // The lines of all differences up to an identifier: the two pages are merged.
 static char *put_differences(char *to, uint64_t end)
 {
-    const uint8_t *a = older + 32, *a_end = a + 32 * (size_t)returned_of(older);
-    const uint8_t *b = newer + 32, *b_end = b + 32 * (size_t)returned_of(newer);
+    const uint8_t *a = older + 32, *a_end = a + 32 * (size_t)returned_of(older, LITTLE);
+    const uint8_t *b = newer + 32, *b_end = b + 32 * (size_t)returned_of(newer, LITTLE);
     for (;;) {
-        uint64_t i = a < a_end ? id_of(a) : PAST, j = b < b_end ? id_of(b) : PAST;
+        uint64_t i = a < a_end ? id_of(a, LITTLE) : PAST, j = b < b_end ? id_of(b, LITTLE) : PAST;
         uint64_t nearer = i < j ? i : j;
         if (nearer > end || nearer == PAST)
             return to;
@@ -46,7 +48,7 @@ static char *put_differences(char *to, uint64_t end)
         } else if (is_changed(a, b)) {
             to = put_signed(to, '~', b);
             to = put_words(to, " <- ");
-            to = put_values(to, a);
+            to = put_values(to, a, LITTLE);
             *to++ = '\n';
         }
         if (i == nearer)

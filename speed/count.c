@@ -9,10 +9,10 @@ int printf(const char *form, ...);
 
 // ---- The cases
 
-enum call { STEP, MEDIA_ERROR, POWER_CUT, COMRESET, HARDWARE_RESET, SOFTWARE_RESET, REMOVE, GRADE, COMMAND, SHOW };
+enum call { STEP, MEDIA_ERROR, POWER_CUT, COMRESET, HARDWARE_RESET, SOFTWARE_RESET, REMOVE, GRADE, COMMAND, SHOW, SEND };
 
-static const char *const names[] = {"step",   "media_error", "power_cut", "comreset", "hardware_reset", "software_reset",
-                                    "remove", "grade",       "command",   "show"};
+static const char *const names[] = {"step",  "media_error", "power_cut", "comreset", "hardware_reset", "software_reset", "remove",
+                                    "grade", "command",     "show",      "send"};
 
 enum { IDLE = -1 };
 enum which { NONE, FIRST, SECOND, LAST, UNKNOWN };
@@ -23,6 +23,8 @@ struct asked {
     enum which element; // Of a call that names one; its identifier is then in COUNT.
     uint16_t feature, count;
     uint64_t lba;
+    uint8_t filter, type; // Of SEND, which begins at identifier 0.
+    uint32_t allocation;
     size_t room;
 };
 
@@ -45,6 +47,7 @@ struct kase {
 static struct device proved;
 static struct plain_device plain;
 static uint8_t proved_page[4608], plain_page[sizeof proved_page];
+static size_t proved_count, plain_count; // Of the bytes that SEND wrote.
 
 static uint32_t identifier(enum which element, int elements)
 {
@@ -97,6 +100,7 @@ static void set_up(const struct kase *k, int elements)
     proved.cells.failed = plain.failed;
     proved.cells.note = (struct note){plain.under_way, {plain.noted, plain.old, plain.new}};
     proved.position = plain.position;
+    proved_count = plain_count = 0;
     memset(proved_page, 0xA5, sizeof proved_page);
     memset(plain_page, 0xA5, sizeof plain_page);
 }
@@ -106,6 +110,8 @@ static int call_proved(enum call call, const struct asked *a, uint16_t count)
     uint8_t answer, security = a->security;
     uint32_t id = count;
     struct request request = {a->feature, count, a->lba};
+    struct query query = {a->filter, a->type, 0};
+    struct written written;
     struct buffer buf = {proved_page, a->room};
     switch (call) {
     case STEP:
@@ -137,6 +143,11 @@ static int call_proved(enum call call, const struct asked *a, uint16_t count)
         break;
     case SHOW:
         calls_show(&answer, &proved, &security, &request, &buf);
+        break;
+    case SEND:
+        calls_send(&written, &proved, &query, a->allocation, &buf);
+        answer = written.answer;
+        proved_count = written.count;
     }
     return answer < sizeof numbers ? numbers[answer] : -1;
 }
@@ -158,6 +169,8 @@ static int call_plain(enum call call, const struct asked *a, uint16_t count)
         return plain_command(&plain, a->security, a->code, a->feature, count, a->lba, plain_page, a->room);
     case SHOW:
         return plain_show(&plain, a->feature, count, a->lba, plain_page, a->room);
+    case SEND:
+        return plain_send(&plain, a->filter, a->type, 0, a->allocation, plain_page, a->room, &plain_count);
     default:
         return plain_reset(&plain);
     }
@@ -189,6 +202,8 @@ static const char *difference(void)
         return "another position than plain C";
     if (memcmp(proved_page, plain_page, sizeof plain_page) != 0)
         return "another page than plain C";
+    if (proved_count != plain_count)
+        return "another number of bytes than plain C";
     return NULL;
 }
 
@@ -254,12 +269,12 @@ static void count(uint64_t at, uint64_t stack)
 
 // Where each call begins, in both forms.
 static void *const proved_calls[] = {
-    calls_step,           calls_media_error, calls_power_cut, calls_comreset, calls_hardware_reset,
-    calls_software_reset, calls_remove,      calls_grade,     calls_command,  calls_show,
+    calls_step,   calls_media_error, calls_power_cut, calls_comreset, calls_hardware_reset, calls_software_reset,
+    calls_remove, calls_grade,       calls_command,   calls_show,     calls_send,
 };
 static void *const plain_calls[] = {
-    plain_step,  plain_media_error, plain_power_cut, plain_reset,   plain_reset,
-    plain_reset, plain_remove,      plain_grade,     plain_command, plain_show,
+    plain_step,   plain_media_error, plain_power_cut, plain_reset, plain_reset, plain_reset,
+    plain_remove, plain_grade,       plain_command,   plain_show,  plain_send,
 };
 
 // Makes the call of a case in both forms.

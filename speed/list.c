@@ -5,30 +5,15 @@
 static uint8_t page[65537]; // A byte more than may be listed, so that a longer input is seen.
 static char text[80000];    // Room for every listing.
 
-static char *put_refusal(char *to, size_t place)
-{
-    to = put_words(to, "refused 9 at ");
-    to = put_decimal(to, place);
-    *to++ = '\n';
-    return to;
-}
-
 static char *put_listing(char *to, size_t length)
 {
     if (length > 65536)
-        return put_refusal(to, 65536);
+        return put_numbered(to, "refused 9 at ", 65536);
     ssize_t offence = check(page, length, 0, length / 512, 0);
     if (offence >= 0)
-        return put_refusal(to, offence);
-    to = put_header(to, page);
-    const uint8_t *end = page + 32 + 32 * (size_t)returned_of(page);
-    for (const uint8_t *descriptor = page + 32; descriptor < end; descriptor += 32) {
-        to = put_hex(to, id_of(descriptor), 8);
-        *to++ = ' ';
-        to = put_values(to, descriptor);
-        *to++ = '\n';
-    }
-    return to;
+        return put_numbered(to, "refused 9 at ", offence);
+    to = put_header(to, page, LITTLE);
+    return put_list(to, page, returned_of(page, LITTLE), LITTLE);
 }
 
 int main(void)

@@ -1,7 +1,8 @@
-// Writes the status pages that the programs are counted on, of a size: pages PAGES ELEMENTS. The same on every run.
+// Writes the status pages and the SCSI data that the programs are counted on, of a size: pages PAGES ELEMENTS. The same on every run.
 #include "files.h"
+#include "turn.h"
 
-static uint8_t page[65536];
+static uint8_t page[65536], data[sizeof page];
 static size_t pages, elements;
 static uint64_t state;
 
@@ -10,11 +11,6 @@ static uint64_t chance(uint64_t most)
 {
     state = state * 6364136223846793005ull + 1442695040888963407ull;
     return (state >> 11) % most;
-}
-
-static void store(uint8_t *to, uint64_t number, size_t size)
-{
-    memcpy(to, &number, size);
 }
 
 // Of 9 digits; or of 1 to 16, and about every tenth all ones.
@@ -40,28 +36,40 @@ static void make(int is_mixed, size_t changed, size_t gone)
     for (size_t i = 0; i < elements; i++) {
         uint8_t *to = page + 32 + 32 * count;
         id += 1 + chance(1000000);
-        store(to + 4, id, 4);
+        store(to + 4, id, 4, LITTLE);
         to[14] = chance(4) == 0 ? 2 : 1;
         to[15] = chance(0xCF) + (changed && i % changed == 0);
-        store(to + 16, capacity(is_mixed), 8);
+        store(to + 16, capacity(is_mixed), 8, LITTLE);
         if (!gone || i % gone != 0)
             count++;
         else
             memset(to, 0, 32);
     }
-    store(page, count, 4);
-    store(page + 4, count, 4);
-    store(page + 12, 2, 2);
+    store(page, count, 4, LITTLE);
+    store(page + 4, count, 4, LITTLE);
+    store(page + 12, 2, 2, LITTLE);
 }
 
-static int write_page(const char *name)
+static int write_file(const char *name, const uint8_t *bytes, size_t size)
 {
     int file = open(name, O_WRONLY | O_CREAT | O_TRUNC, 0600);
-    if (file < 0 || write_whole(file, (const char *)page, 512 * pages) < 0) {
+    if (file < 0 || write_whole(file, (const char *)bytes, size) < 0) {
         perror(name);
         return 1;
     }
     return close(file) != 0;
+}
+
+static int write_page(const char *name)
+{
+    return write_file(name, page, 512 * pages);
+}
+
+// So many bytes of the page as SCSI data.
+static int write_data(const char *name, size_t size)
+{
+    turn_list(data, page, elements);
+    return write_file(name, data, size);
 }
 
 static size_t number(const char *word)
@@ -81,8 +89,11 @@ int main(int count, char **words)
     elements = number(words[2]);
     make(0, 0, 0);
     trouble |= write_page("older");
+    trouble |= write_data("data", 32 + 32 * elements);
+    trouble |= write_data("data-cut", 32 + 32 * (elements / 2) + 16); // Through the descriptor in the middle.
     page[32 * elements + 13] |= 1; // The restoration bit of the last descriptor, which is not at FFh.
     trouble |= write_page("refused");
+    trouble |= write_data("data-refused", 32 + 32 * elements);
     make(0, 10, 0);
     trouble |= write_page("tenth");
     make(0, 2, 0);

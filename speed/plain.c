@@ -1,7 +1,6 @@
 // Document 01 in plain C, in place: what `./recorder speed` sets beside the proved calls.
+#include "order.h"
 #include "plain.h"
-
-#define LBA_BITS ((1ull << 48) - 1)
 
 // ---- Table and cells
 
@@ -135,57 +134,100 @@ int plain_grade(struct plain_device *d, uint32_t id, uint8_t health)
 
 // ---- GET PHYSICAL ELEMENT STATUS (12h)
 
-static void put(uint8_t *to, uint64_t number, size_t size)
-{
-    memcpy(to, &number, size); // Little-endian, as x86-64 is.
-}
-
-static int does_ask(const struct element *e, uint16_t feature, uint64_t start)
+static int does_ask(const struct element *e, uint8_t filter, uint8_t type, uint64_t start)
 {
     if (e->id < start)
         return 0;
-    if ((feature >> 8 & 15) == 1 && e->kind != 1)
+    if (type == 1 && e->kind != 1)
         return 0;
-    if (feature >> 14 == 1)
+    if (filter == 1)
         return (e->health >= 0x65 && e->health <= 0xCF) || e->health == 0xFF;
     return 1;
 }
 
-static void put_descriptor(uint8_t *to, const struct element *e)
+static void put_header(uint8_t *to, const struct plain_device *d, size_t number, size_t returned, size_t at_ffh, enum order order)
 {
-    put(to, 0, 4);
-    put(to + 4, e->id, 4);
-    put(to + 8, 0, 4);
+    store(to, number, 4, order);
+    store(to + 4, returned, 4, order);
+    store(to + 8, d->under_way ? d->noted : 0, 4, order);
+    store(to + 12, d->limit, 2, order);
+    store(to + 14, at_ffh, 2, order);
+    store(to + 16, 0, 8, order);
+    store(to + 24, 0, 8, order);
+}
+
+static void put_descriptor(uint8_t *to, const struct element *e, enum order order)
+{
+    store(to, 0, 4, order);
+    store(to + 4, e->id, 4, order);
+    store(to + 8, 0, 4, order);
     to[12] = 0;
     to[13] = 0;
     to[14] = e->kind;
     to[15] = e->health;
-    put(to + 16, e->unreported ? ~0ull : e->blocks, 8);
-    put(to + 24, 0, 8);
+    store(to + 16, e->unreported ? ~0ull : e->blocks, 8, order);
+    store(to + 24, 0, 8, order);
 }
 
 int plain_show(const struct plain_device *d, uint16_t feature, uint16_t pages, uint64_t start, uint8_t *page, size_t length)
 {
+    uint8_t filter = feature >> 14, type = feature >> 8 & 15;
     size_t number = 0, returned = 0, at_ffh = 0, most = 16 * (size_t)pages - 1;
     start &= LBA_BITS;
-    if (feature >> 14 > 1 || (feature >> 8 & 15) > 1 || pages == 0)
+    if (filter > 1 || type > 1 || pages == 0)
         return 4;
     if (length < 512 * (size_t)pages)
         return 7;
     for (size_t i = 0; i < d->count; i++) {
         const struct element *e = &d->elements[i];
         at_ffh += e->health == 0xFF;
-        if (does_ask(e, feature, start) && number++ < most)
-            put_descriptor(page + 32 + 32 * returned++, e);
+        if (does_ask(e, filter, type, start) && number++ < most)
+            put_descriptor(page + 32 + 32 * returned++, e, LITTLE);
     }
-    put(page, number, 4);
-    put(page + 4, returned, 4);
-    put(page + 8, d->under_way ? d->noted : 0, 4);
-    put(page + 12, d->limit, 2);
-    put(page + 14, at_ffh, 2);
-    put(page + 16, 0, 8);
-    put(page + 24, 0, 8);
+    put_header(page, d, number, returned, at_ffh, LITTLE);
     memset(page + 32 + 32 * returned, 0, 512 * (size_t)pages - 32 - 32 * returned);
+    return 0;
+}
+
+// ---- The same for a SCSI host (request 2026-03)
+
+static size_t smaller(size_t a, size_t b)
+{
+    return a < b ? a : b;
+}
+
+// After 0 `written` has how many bytes; else it is 0.
+int plain_send(const struct plain_device *d, uint8_t filter, uint8_t type, uint32_t start, uint32_t allocation, uint8_t *buf, size_t length,
+               size_t *written)
+{
+    size_t number = 0, at_ffh = 0;
+    uint8_t row[32];
+    *written = 0;
+    if (filter > 1 || type > 1)
+        return 4;
+    for (size_t i = 0; i < d->count; i++) {
+        at_ffh += d->elements[i].health == 0xFF;
+        if (does_ask(&d->elements[i], filter, type, start))
+            number++;
+    }
+    size_t size = smaller(allocation, 32 + 32 * number);
+    if (length < size)
+        return 7;
+    put_header(row, d, number, number, at_ffh, BIG);
+    memcpy(buf, row, smaller(size, 32));
+    for (size_t i = 0, at = 32; at < size; i++) {
+        const struct element *e = &d->elements[i];
+        if (!does_ask(e, filter, type, start))
+            continue;
+        if (size - at >= 32)
+            put_descriptor(buf + at, e, BIG);
+        else {
+            put_descriptor(row, e, BIG);
+            memcpy(buf + at, row, size - at);
+        }
+        at += 32;
+    }
+    *written = size;
     return 0;
 }
 

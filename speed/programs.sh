@@ -2,13 +2,13 @@
 # write must be the same, byte by byte. Read by `measure`.
 
 build_programs() {
-    for program in list diff bench; do
+    for program in list dock turn diff bench; do
         [ -x "$programs/$program" ] || die "$programs/$program is missing"
     done
     compile_c counter -fPIC -O1
     try "$tools/bin/ld.lld" -shared -o "$work/counter.so" "$work/counter.o" "$tools/lib/libc.so.6"
-    for program in pages list compare bench plain; do compile_c "$program" -fPIE -O3; done
-    for program in pages list compare; do link "$program" "$work/$program.o"; done
+    for program in pages list dock convert compare bench plain; do compile_c "$program" -fPIE -O3; done
+    for program in pages list dock convert compare; do link "$program" "$work/$program.o"; done
     link bench "$work/bench.o" "$work/plain.o"
 }
 
@@ -44,6 +44,15 @@ read_back() {
     }'
 }
 
+# dock ELEMENTS PAGES: SCSI data written, read, turned into so many pages, and these into data.
+dock() {
+    elements "$1"
+    awk -v n="$1" -v p="$2" 'BEGIN {
+        printf "scsi 0 0 0 %x %x\nscsiread 0 0 0\n", 32 + 32 * n, 32 + 32 * n
+        printf "toata 0 0 0 %x %x\ntoscsi 0 %x 0 %x\n", p, 512 * p, p, 32 + 32 * n
+    }'
+}
+
 # make_inputs SIZE PAGES ELEMENTS, then of the scripts: ELEMENTS REMOVED DESCRIPTORS
 make_inputs() {
     mkdir "$work/$1" || die "cannot write to $work"
@@ -51,11 +60,13 @@ make_inputs() {
     removal "$4" "$5" > "$work/$1/removal"
     pages "$4" "$2" > "$work/$1/pages"
     read_back "$2" "$6" > "$work/$1/read"
+    dock "$4" "$2" > "$work/$1/dock"
+    echo "$2" > "$work/$1/page-count"
 }
 
 # ---- The counting
 
-# count SIDE PROGRAM INPUT [FILE..]: its output, and the instructions inside its `main`. The C library clears a buffer of 2 KB and more by one
+# count SIDE PROGRAM INPUT [WORD..]: its output, and the instructions inside its `main`. The C library clears a buffer of 2 KB and more by one
 # instruction that repeats itself, where the processor has a fast one.
 count() {
     side=$1 program=$2 input=$3
@@ -71,7 +82,7 @@ try_counter() {
         die "no counter: the processor's trap flag does not work here"
 }
 
-# both PROGRAM NAME INPUT [FILE..]: the proved one and the one in C, at once.
+# both PROGRAM NAME INPUT [WORD..]: the proved one and the one in C, at once.
 both() {
     proved=$programs/$1 plain=$work/$2
     shift 2
@@ -90,10 +101,14 @@ run_work() {
     case "$1 $2" in
         'list listed') both list list older ;;
         'list refused') both list list refused ;;
+        'dock listed') both dock dock data ;;
+        'dock cut' | 'dock refused') both dock dock "data-$2" ;;
+        'convert scsi') both turn convert older ;;
+        'convert ata') both turn convert data "$(cat "$work/$size/page-count")" ;;
         'compare equal') both diff compare /dev/null older older ;;
         'compare mixed') both diff compare /dev/null mixed mixed-half ;;
         'compare tenth' | 'compare half' | 'compare all' | 'compare gone') both diff compare /dev/null older "$2" ;;
-        'bench removal' | 'bench pages' | 'bench read') both bench bench "$2" ;;
+        'bench removal' | 'bench pages' | 'bench read' | 'bench dock') both bench bench "$2" ;;
         *) die "works.txt: no such work: $1 $2" ;;
     esac
 }

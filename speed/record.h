@@ -1,5 +1,5 @@
-// The device record and the lent calls as the kit's compiler lays them out: the fields are those of crates/table and crates/device, in their
-// order. A slip here shows as a difference from plain C.
+// The device record and the lent calls as the kit's compiler lays them out: the fields are those of crates/table, crates/device,
+// crates/query and crates/paper, in their order. A slip here shows as a difference from plain C.
 #include "libc.h"
 
 struct part {
@@ -40,6 +40,16 @@ struct request {
     uint64_t lba;
 };
 
+struct query {
+    uint8_t filter, report;
+    uint32_t start;
+};
+
+struct written {
+    uint8_t answer;
+    size_t count;
+};
+
 struct buffer {
     uint8_t *bytes;
     size_t length;
@@ -59,3 +69,4 @@ void calls_grade(uint8_t *answer, struct device *d, const uint32_t *id, uint8_t 
 void calls_command(uint8_t *answer, struct device *d, const uint8_t *security, uint8_t code, uint16_t feature, uint16_t count,
                    const uint64_t *lba, const struct buffer *buf);
 void calls_show(uint8_t *answer, const struct device *d, const uint8_t *security, const struct request *request, const struct buffer *buf);
+void calls_send(struct written *written, const struct device *d, const struct query *query, uint32_t allocation, const struct buffer *buf);

@@ -27,3 +27,12 @@ static inline char *put_decimal(char *to, uint64_t number)
     memcpy(to, first, size);
     return to + size;
 }
+
+// Words and a number, as a line.
+static inline char *put_numbered(char *to, const char *words, uint64_t number)
+{
+    to = put_words(to, words);
+    to = put_decimal(to, number);
+    *to++ = '\n';
+    return to;
+}

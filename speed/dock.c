@@ -1,0 +1,32 @@
+// The listing of SCSI data in plain C: what `./recorder speed` sets beside the proved program.
+#include "files.h"
+#include "page.h"
+
+static uint8_t data[65537]; // A byte more than may be listed, so that a longer input is seen.
+static char text[80000];    // Room for every listing.
+
+static char *put_listing(char *to, size_t length)
+{
+    if (length > 65536)
+        return put_numbered(to, "refused 9 at ", 65536);
+    ssize_t offence = check_data(data, length, 0, 0, 0);
+    if (offence >= 0)
+        return put_numbered(to, "refused 9 at ", offence);
+    to = put_header(to, data, BIG);
+    to = put_list(to, data, whole_of(data, length), BIG);
+    return put_tally(to, data, length);
+}
+
+int main(void)
+{
+    ssize_t length = read_whole(0, data, sizeof data);
+    if (length < 0) {
+        perror("dock: standard input");
+        return 2;
+    }
+    if (write_whole(1, text, put_listing(text, length) - text) < 0) {
+        perror("dock: standard output");
+        return 2;
+    }
+    return 0;
+}
