@@ -24,7 +24,7 @@ use Rattle.scsi.proofs.Taken.{Taken, takes}
 use Rattle.scsi.specs.Data.{wholeOf, tornOf}
 use Rattle.scsi.specs.Judgement.{reading, readOf, slotOf}
 use Rattle.status.specs.Page.{listOf}
-use Rattle.status.specs.Sent.{sentHeader, dataOf}
+use Rattle.sender.specs.Sent.{sentHeader, dataOf}
 use Rattle.table.specs.Elements.{identifiers, ascending}
 use Rattle.words.specs.declared.Order.{Order}
 use Rattle.agreement.specs.Sent.{Sent-agrees}

@@ -12,7 +12,7 @@ use Rattle.reader.specs.declared.Slot.the-variants.{Holds}
 use Rattle.scsi.specs.Data.{wholeOf, tornOf}
 use Rattle.scsi.specs.Judgement.{reading, readOf, slotOf}
 use Rattle.status.specs.Page.{listOf}
-use Rattle.status.specs.Sent.{sentHeader, dataOf}
+use Rattle.sender.specs.Sent.{sentHeader, dataOf}
 use Rattle.table.specs.Elements.{identifiers, blankPart, ascending}
 use Rattle.view.specs.Shown.{shownOf}
 use Rattle.words.specs.declared.Order.{Order}

@@ -15,7 +15,7 @@ ghost use Rattle.paper.specs.Output.{output};
 ghost use Rattle.paper.specs.Told.{said};
 ghost use Rattle.status.specs.Lent.{lent};
 ghost use Rattle.status.specs.Page.{shown};
-ghost use Rattle.status.specs.Sent.{sent};
+ghost use Rattle.sender.specs.Sent.{sent};
 ghost use Rattle.calls.specs.Offered.{arrayOf, checkList, findList, madeFrom};
 use device::Device;
 use device::Stepped;
@@ -133,7 +133,7 @@ pub fn show(d: &Device, security: Security, request: Request, buf: &mut [u8]) ->
 pub fn send(d: &Device, query: Query, allocation: u32, buf: &mut [u8]) -> Written
     ensures { λ r. ⌜ said (r .answer) (output (r .count) (now (buf .exit))) ≡ sent (now (d .entry)) query allocation (now (buf .entry)) ⌝ }
 {
-    status::send(*d, query, allocation, buf)
+    sender::send(*d, query, allocation, buf)
 }
 
 // ---- The caller's own list of records

@@ -5,7 +5,7 @@ use Rattle.conduct.proofs.EveryCall.{refusal-leaves}
 use Rattle.convert.proofs.Outcomes as convert
 use Rattle.paper.proofs.Output.{refusal-writes-nothing}
 use Rattle.status.proofs.EveryPage.{refusal-leaves-bytes}
-use Rattle.status.proofs.Sending.{unsent-leaves-bytes}
+use Rattle.sender.proofs.Sending.{unsent-leaves-bytes}
 use Rattle.demands.specs.Demand1.{Demand-1}
 
 pub demand-1 : Demand-1

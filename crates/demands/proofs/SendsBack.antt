@@ -19,8 +19,8 @@ use Rattle.paper.specs.Told.{Told, tells}
 use Rattle.query.specs.Queries.{dueFour, asked, plain}
 use Rattle.query.specs.declared.Query.{Query}
 use Rattle.scsi.specs.Judgement.{Values, readOf}
-use Rattle.status.proofs.Sending.{sends-the-smaller}
-use Rattle.status.specs.Sent.{dataOf}
+use Rattle.sender.proofs.Sending.{sends-the-smaller}
+use Rattle.sender.specs.Sent.{dataOf}
 use Rattle.table.specs.Elements.{identifiers, ascending}
 use Rattle.words.specs.declared.Order.the-variants.{Big}
 use Rattle.demands.specs.SendsBack.{readingIn, Sent-back, Sends-back}

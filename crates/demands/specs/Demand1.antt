@@ -4,7 +4,8 @@ use Rattle.calls.specs.Promises.{Refusal-leaves-both, Refused-list-leaves}
 use Rattle.convert.specs.Promises as convert
 use Rattle.conduct.specs.Promises.{Refusal-leaves}
 use Rattle.paper.specs.Promises.{Refusal-writes-nothing}
-use Rattle.status.specs.Promises.{Refusal-leaves-bytes, Unsent-leaves-bytes}
+use Rattle.sender.specs.Promises.{Unsent-leaves-bytes}
+use Rattle.status.specs.Promises.{Refusal-leaves-bytes}
 
 -- of every call that changes what is lent
 pub record Demand-1 : Type 0 where

@@ -16,7 +16,7 @@ use Rattle.reader.specs.declared.Slot.the-variants.{Holds}
 use Rattle.scsi.specs.Data.{wholeOf, tornOf}
 use Rattle.scsi.specs.Judgement.{Values, reading, readOf, slotOf}
 use Rattle.status.specs.Page.{listOf}
-use Rattle.status.specs.Sent.{sentHeader, sent}
+use Rattle.sender.specs.Sent.{sentHeader, sent}
 use Rattle.table.specs.Elements.{blankPart}
 use Rattle.view.specs.Shown.{shownOf}
 use Rattle.words.specs.declared.Order.the-variants.{Big}

@@ -18,7 +18,7 @@ use Rattle.paper.specs.Output.{Output, output}
 use Rattle.paper.specs.Told.{Told, tells, said}
 use Rattle.paper.specs.declared.Written.{Written}
 use Rattle.request.specs.declared.Request.{Request}
-use Rattle.status.specs.Sent.{sent}
+use Rattle.sender.specs.Sent.{sent}
 use Rattle.docking.specs.Dock.{Kind, answered, heardOver, heardIn, heard, kindSaid, kindOf, toldOver, roomOf, filled, answeredBy, lentBy}
 use Rattle.docking.specs.declared.Said.the-variants.{Sent, ToScsi, ToAta}
 use Rattle.docking.specs.declared.Said.{Said}

@@ -11,7 +11,7 @@ use Rattle.device.specs.declared.Device.{Device}
 use Rattle.paper.specs.Answers.{numberOf}
 use Rattle.paper.specs.Output.{output}
 use Rattle.paper.specs.Told.{Told, tells}
-use Rattle.status.specs.Sent.{sent}
+use Rattle.sender.specs.Sent.{sent}
 use Rattle.docking.specs.declared.Docked.{Docked}
 use Rattle.docking.specs.declared.Said.the-variants as said
 use Rattle.docking.specs.declared.Said.{Said}

@@ -80,7 +80,7 @@ fn answer(d: Device, call: DockCall, source: &[u8], lent: &mut [u8]) -> Said
     match call {
         DockCall::Send(s) => {
             let query = s.query;
-            Said::Sent(status::send(d, query, s.allocation, lent))
+            Said::Sent(sender::send(d, query, s.allocation, lent))
         }
         DockCall::ToScsi(q) => Said::ToScsi(convert::to_scsi(source, q, lent)),
         DockCall::ToAta(t) => {

@@ -30,7 +30,7 @@ use Rattle.request.specs.declared.Request.{Request}
 use Rattle.slices.proofs.Lists.{map-upTo, map-places}
 use Rattle.slices.specs.Lists.{upTo}
 use Rattle.status.specs.Page.{listOf, headed, headerOf, pageOf}
-use Rattle.status.specs.Sent.{sentHeader, dataOf}
+use Rattle.sender.specs.Sent.{sentHeader, dataOf}
 use Rattle.table.specs.Elements.{identifiers, ascending}
 use Rattle.view.specs.Shown.{asks}
 use Rattle.words.specs.declared.Order.the-variants.{Little, Big}

@@ -22,7 +22,7 @@ use Rattle.request.specs.declared.Request.{Request}
 use Rattle.scsi.specs.Judgement as scsi
 use Rattle.slices.specs.Lists.{Every}
 use Rattle.status.specs.Page.{pageOf}
-use Rattle.status.specs.Sent.{sentHeader, dataOf}
+use Rattle.sender.specs.Sent.{sentHeader, dataOf}
 use Rattle.table.specs.Elements.{identifiers, ascending}
 use Rattle.words.specs.declared.Order.the-variants.{Little, Big}
 

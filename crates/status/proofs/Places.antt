@@ -1,19 +1,19 @@
 -- The list, put down as places of the table: what each turn of the loop adds, and what it comes to.
-use Prim.Native.Nat.{ℕ, zero, suc, _+_, _-_, _*_, _^_, _≤_, _<_, min}
+use Prim.Native.Nat.{ℕ, zero, suc, _+_, _*_, _^_, _≤_, _<_, min}
 use mathlib.Core.Bool.{Bool, true, false, cond}
-use mathlib.Core.List.{List, [], _∷_, _++_, map, append-nil, append-assoc}
+use mathlib.Core.List.{List, [], _∷_, _++_, map, append-nil}
 use mathlib.Core.Path.{_≡_, refl, sym, ap, _∙_}
 use native.Mathlib.Nat.{add-zero}
 use native.Mathlib.Numerals.{add-one}
 use native.Mathlib.Omega.{arith}
-use lib.ListN.{length, take, getD, set, replicate, length-append, length-map, length-set, List·getD-map}
-use lib.Seq.{length-take-le, getD-append-seam, take-take, take-set-le, take-suc-set, getD-take}
+use lib.ListN.{length, take, getD, set, replicate, length-map, length-set, List·getD-map}
+use lib.Seq.{length-take-le, take-take, take-set-le, take-suc-set, getD-take}
 use mir.Val.{boolByte}
 use Rattle.device.specs.Record.{healthAt}
 use Rattle.device.specs.declared.Device.{Device}
 use Rattle.layout.specs.declared.Descriptor.{Descriptor}
 use Rattle.request.specs.declared.Request.{Request}
-use Rattle.slices.proofs.Lists.{keep-append, length-keep, map-append, map-upTo, length-upTo, every-same, every-set}
+use Rattle.slices.proofs.Lists.{keep-append, map-append, map-upTo, every-same, every-set}
 use Rattle.slices.specs.Lists.{keep, upTo}
 use Rattle.table.proofs.Arrays.{length-taken}
 use Rattle.table.specs.Elements.{live, blankPart, size}
@@ -45,7 +45,7 @@ module _ (ps : List Part) (hs : List ℕ) where
     unfoldable pub wanted : ℕ → List Descriptor
     wanted i = keep (asks q) (map (shownIn ps hs) (upTo i))
 
-    wanted-more : (i : ℕ) → wanted (i + 1) ≡ wanted i ++ cond (asks q (shownIn ps hs i)) (shownIn ps hs i ∷ []) []
+    pub wanted-more : (i : ℕ) → wanted (i + 1) ≡ wanted i ++ cond (asks q (shownIn ps hs i)) (shownIn ps hs i ∷ []) []
     unfolding wanted
     wanted-more i =
         rw (add-one i, map-append (shownIn ps hs) (upTo i) (i ∷ [])) (keep-append (asks q) (map (shownIn ps hs) (upTo i)) (shownIn ps hs i ∷ []))
@@ -74,50 +74,6 @@ module _ (ps : List Part) (hs : List ℕ) where
           less : (b : Bool) → n + boolByte b ≤ i + 1
           less true = omega (arith, listed)
           less false = omega (arith, listed)
-
-    -- how many are asked for of the first i
-    abbrev pub count : ℕ → ℕ
-    count i = length (wanted i)
-
-    pub count-low : (i : ℕ) → count i ≤ i
-    unfolding wanted
-    count-low i =
-        omega (arith, length-keep (asks q) (map (shownIn ps hs) (upTo i)), length-map (upTo i) (shownIn ps hs), length-upTo i)
-
-    wanted-on : (i k : ℕ) → (rest : List Descriptor) × (wanted (i + k) ≡ wanted i ++ rest)
-    wanted-on i zero = ([], ap wanted (add-zero i) ∙ sym (append-nil (wanted i)))
-    wanted-on i (suc k) =
-        let before : (rest : List Descriptor) × (wanted (i + k) ≡ wanted i ++ rest) = wanted-on i k in
-        let more : List Descriptor = cond (asks q (shownIn ps hs (i + k))) (shownIn ps hs (i + k) ∷ []) [] in
-        let turn : i + suc k ≡ i + k + 1 = omega arith in
-        (before .0 ++ more, ap wanted turn ∙ wanted-more (i + k) ∙ ap (λ (l : List Descriptor). l ++ more) (before .1) ∙ append-assoc (wanted i) (before .0) more)
-
-    -- a turn of the walk over the first n: an element counts if it is asked for, and then it is the next of all
-    module _ (i : ℕ) (b : Bool) (is-b : b ≡ asks q (shownOf (getD ps i blankPart) (getD hs i 0))) where
-      pub count-turn : count (i + 1) ≡ count i + boolByte b
-      unfolding shownIn
-      count-turn = ap length (wanted-more i) ∙ length-append (wanted i) (cond (asks q (shownIn ps hs i)) (shownIn ps hs i ∷ []) []) ∙ by-test b (sym is-b)
-        where
-          by-test : (b : Bool) → asks q (shownIn ps hs i) ≡ b → count i + length (cond (asks q (shownIn ps hs i)) (shownIn ps hs i ∷ []) []) ≡ count i + boolByte b
-          by-test true y = rw y
-          by-test false z = rw z
-
-      module _ (yes : b ≡ true) (n : ℕ) (low : i < n) where
-        rest : (rest : List Descriptor) × (wanted n ≡ wanted i ++ (shownIn ps hs i ∷ rest))
-        unfolding shownIn
-        rest =
-            let on : (rest : List Descriptor) × (wanted (i + 1 + (n - (i + 1))) ≡ wanted (i + 1) ++ rest) = wanted-on (i + 1) (n - (i + 1)) in
-            let all : n ≡ i + 1 + (n - (i + 1)) = omega arith in
-            let here : wanted (i + 1) ≡ wanted i ++ (shownIn ps hs i ∷ []) = wanted-more i ∙ rw (sym is-b ∙ yes) in
-            (on .0, ap wanted all ∙ on .1 ∙ ap (λ (l : List Descriptor). l ++ on .0) here ∙ append-assoc (wanted i) (shownIn ps hs i ∷ []) (on .0))
-
-        pub next-less : count i < count n
-        next-less =
-            let long : count n ≡ count i + suc (length (rest .0)) = ap length (rest .1) ∙ length-append (wanted i) (shownIn ps hs i ∷ rest .0) in
-            omega arith
-
-        pub next-here : (z : Descriptor) → shownIn ps hs i ≡ getD (wanted n) (count i) z
-        next-here z = sym (ap (λ (l : List Descriptor). getD l (count i) z) (rest .1) ∙ getD-append-seam (wanted i) (shownIn ps hs i) (rest .0) z)
 
 module _ (places : List ℕ) (slots : Slots places) (k : ℕ) where
   pub slot-below : getD places k 0 < 128

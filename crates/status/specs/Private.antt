@@ -3,17 +3,14 @@ use Prim.Native.Nat.{ℕ, _≤_, _<_}
 use mathlib.Core.List.{List, map}
 use mathlib.Core.Path.{_≡_}
 use lib.ListN.{length, getD, take}
-use Rattle.device.specs.Record.{removedNumber}
 use Rattle.device.specs.declared.Device.{Device}
-use Rattle.layout.specs.Bytes.{laid}
 use Rattle.layout.specs.declared.Descriptor.{Descriptor}
 use Rattle.request.specs.declared.Request.{Request}
 use Rattle.slices.specs.Lists.{Every}
 use Rattle.table.specs.Elements.{blankPart}
 use Rattle.table.specs.declared.Part.{Part}
 use Rattle.view.specs.Shown.{shownOf}
-use Rattle.words.specs.declared.Order.the-variants.{Big}
-use Rattle.status.specs.Page.{listOf, headed}
+use Rattle.status.specs.Page.{listOf}
 
 -- each is an index of the table's arrays
 abbrev pub Slots : List ℕ → Type 0
@@ -30,9 +27,3 @@ shownThere ps hs places n = map (shownIn ps hs) (take n places)
 abbrev pub Lists : Device → Request → List ℕ → ℕ → Type 0
 Lists d q places number =
     (shownThere (d .table .parts) (d .cells .healths) places number ≡ listOf d q) × (number ≤ 128) × (length places ≡ 128) × Slots places
-
--- the data of what is asked for, for a SCSI host
-abbrev pub dataFor : Device → Request → List ℕ
-dataFor d q =
-    let n = length (listOf d q) in
-    laid Big (headed n n (d .cells .note) (d .table .limit) (removedNumber d)) (listOf d q)

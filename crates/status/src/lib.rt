@@ -1,6 +1,4 @@
-// GET PHYSICAL ELEMENT STATUS: the list, the filled page, and the data that is sent to a SCSI host. The device is only read.
-mod sent;
-
+// GET PHYSICAL ELEMENT STATUS: the list and the filled page. The device is only read.
 ghost use mathlib.Core.Path.{_≡_};
 ghost use mathlib.Core.List.{_++_};
 ghost use Prim.Native.Nat.{_+_, _*_, _≤_};
@@ -17,21 +15,19 @@ use layout::Header;
 use paper::Answer;
 use paper::Security;
 use request::Request;
-pub use sent::send;
 use table::Part;
 use words::Order;
 
-// The header of a list of this number. The number at FFh is of the whole table.
-fn header_of(d: Device, number: usize, returned: usize) -> Header
-    requires { ⌜ (number ≤ 128) × (returned ≤ number) ⌝ }
+// The header of a list of this number, of which so many are returned. The number at FFh is of the whole table.
+pub fn header_of(d: Device, number: u32, returned: u32) -> Header
     ensures { λ r. ⌜ r ≡ headed number returned (d .cells .note) (d .table .limit) (removedNumber d) ⌝ }
 {
     let cells = d.cells;
     let note = cells.note;
     let hs = cells.healths;
     Header {
-        number: number as u32,
-        returned: returned as u32,
+        number,
+        returned,
         busy: view::busy(note),
         limit: d.table.limit,
         removed: table::removed(hs, d.table.count),
@@ -69,7 +65,7 @@ fn fill(d: Device, request: Request, buf: &mut [u8])
         i += 1;
     }
     let returned = slices::smaller(number, 16 * (request.count.0 as usize) - 1);
-    let header = header_of(d, number, returned);
+    let header = header_of(d, number as u32, returned as u32);
     view::put_header(header, Order::Little, buf);
     put_list(ps, hs, places, returned, buf);
     slices::clear(buf, 32 + 32 * returned, 512 * (request.count.0 as usize));

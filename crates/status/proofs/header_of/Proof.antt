@@ -8,8 +8,6 @@ pub header-of-spec : {M : Type 1} → statement M
 header-of-spec =
     tie.close
     (tie.spec
-    (λ c. search needs)
-    (λ c. search needs)
     (λ c κs. search needs)
     (λ c κs. search needs)
     (λ c. search (header-made)))

@@ -1,8 +1,8 @@
--- `status::sent::send`: a law for each way out.
+-- `sender::send`: a law for each way out.
 use borrow.Author.Needs.{needs}
-use Rattle.status.proofs.Sending.{sent-due, sent-small, sent-done}
-use Rattle.status.proofs.sent.send.Statement.{statement}
-use Rattle.status.proofs.sent.send.Tie as tie
+use Rattle.sender.proofs.Sending.{sent-due, sent-small, sent-done}
+use Rattle.sender.proofs.send.Statement.{statement}
+use Rattle.sender.proofs.send.Tie as tie
 
 pub send-spec : {M : Type 1} → statement M
 send-spec =

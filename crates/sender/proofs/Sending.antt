@@ -29,11 +29,13 @@ use Rattle.table.specs.Elements.{blankPart}
 use Rattle.table.specs.declared.Part.{Part}
 use Rattle.view.specs.Shown.{shownOf, asks}
 use Rattle.words.specs.declared.Order.the-variants.{Big}
 use Rattle.status.specs.Page.{listOf, headed}
-use Rattle.status.specs.Private.{shownIn, dataFor}
-use Rattle.status.specs.Promises.{Unsent-leaves-bytes, Sends-the-smaller}
-use Rattle.status.specs.Sent.{sentHeader, dataOf, sent}
-use Rattle.status.proofs.Places.{wanted, count, count-low, count-turn, next-less, next-here, all-listed}
+use Rattle.status.specs.Private.{shownIn}
+use Rattle.sender.specs.Private.{dataFor}
+use Rattle.sender.specs.Promises.{Unsent-leaves-bytes, Sends-the-smaller}
+use Rattle.sender.specs.Sent.{sentHeader, dataOf, sent}
+use Rattle.status.proofs.Places.{wanted, all-listed}
+use Rattle.sender.proofs.Walk.{count, count-low, count-turn, next-less, next-here}
 
 -- ## What there is room for
 

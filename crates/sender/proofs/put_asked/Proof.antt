@@ -1,11 +1,11 @@
--- `status::sent::put_asked`. The invariant: the descriptors of what is asked for of the first i stand behind the header.
+-- `sender::put_asked`. The invariant: the descriptors of what is asked for of the first i stand behind the header.
 use Prim.Native.Nat.{_-_}
 use lib.ListN.{length-map}
 use borrow.Author.Needs.{needs}
 use borrow.Author.Tests.{not-true, not-false}
-use Rattle.status.proofs.Sending.{Walked, walk-none, walk-past, walk-next, asked-cut, asked-all}
-use Rattle.status.proofs.sent.put_asked.Statement.{statement}
-use Rattle.status.proofs.sent.put_asked.Tie as tie
+use Rattle.sender.proofs.Sending.{Walked, walk-none, walk-past, walk-next, asked-cut, asked-all}
+use Rattle.sender.proofs.put_asked.Statement.{statement}
+use Rattle.sender.proofs.put_asked.Tie as tie
 
 abbrev Inv-loop : tie.InvT-loop
 Inv-loop request part₀ ps hs n at₀ i₀ part at i = Walked ps hs request n part₀ at i part

@@ -1,11 +1,11 @@
--- `status::sent::number_asked`. The invariant: the number is of what is asked for of the first i.
+-- `sender::number_asked`. The invariant: the number is of what is asked for of the first i.
 use Prim.Native.Nat.{_-_}
 use lib.ListN.{length-map}
 use borrow.Author.Needs.{needs}
 use Rattle.status.proofs.Places.{count-fits}
-use Rattle.status.proofs.Sending.{Counted, counted-none, counted-low, counted-less, counted-next, counted-all}
-use Rattle.status.proofs.sent.number_asked.Statement.{statement}
-use Rattle.status.proofs.sent.number_asked.Tie as tie
+use Rattle.sender.proofs.Sending.{Counted, counted-none, counted-low, counted-less, counted-next, counted-all}
+use Rattle.sender.proofs.number_asked.Statement.{statement}
+use Rattle.sender.proofs.number_asked.Tie as tie
 
 abbrev Inv-loop : tie.InvT-loop
 Inv-loop request ps hs n number₀ i₀ number i = Counted ps hs request n number i

@@ -6,10 +6,9 @@ ghost use Rattle.layout.specs.Bytes.{descriptorBytes};
 ghost use Rattle.paper.specs.Output.{output};
 ghost use Rattle.paper.specs.Told.{said};
 ghost use Rattle.slices.specs.Lists.{flat, stored};
 ghost use Rattle.status.specs.Page.{listOf};
-ghost use Rattle.status.specs.Private as private;
-ghost use Rattle.status.specs.Sent.{sent};
-use crate::header_of;
+ghost use Rattle.sender.specs.Private as private;
+ghost use Rattle.sender.specs.Sent.{sent};
 use device::Device;
 use paper::Answer;
 use paper::PageCount;
@@ -71,7 +70,8 @@ fn fill_part(d: Device, request: Request, number: usize, part: &mut [u8])
     requires { ⌜ (number ≡ length (listOf d request)) × (number ≤ 128) × (length (now part) ≤ 32 + 32 * number) ⌝ }
     ensures { λ _. ⌜ now (part .exit) ≡ take (length (now (part .entry))) (private.dataFor d request) ⌝ }
 {
-    let header = header_of(d, number, number);
+    let count = number as u32;
+    let header = status::header_of(d, count, count);
     put_some(header.bytes(Order::Big), 0, part);
     put_asked(d, request, part);
 }

@@ -1,8 +1,8 @@
--- `status::sent::put_some`.
+-- `sender::put_some`.
 use borrow.Author.Needs.{needs}
-use Rattle.status.proofs.Sending.{some-stored, none-stored}
-use Rattle.status.proofs.sent.put_some.Statement.{statement}
-use Rattle.status.proofs.sent.put_some.Tie as tie
+use Rattle.sender.proofs.Sending.{some-stored, none-stored}
+use Rattle.sender.proofs.put_some.Statement.{statement}
+use Rattle.sender.proofs.put_some.Tie as tie
 
 pub put-some-spec : {M : Type 1} → statement M
 put-some-spec =

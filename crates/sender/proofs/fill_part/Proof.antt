@@ -1,13 +1,14 @@
--- `status::sent::fill_part`: the header, which may be cut, and what follows it.
+-- `sender::fill_part`: the header, which may be cut, and what follows it.
 use borrow.Author.Needs.{needs}
-use Rattle.status.proofs.Sending.{still-most, part-filled}
-use Rattle.status.proofs.sent.fill_part.Statement.{statement}
-use Rattle.status.proofs.sent.fill_part.Tie as tie
+use Rattle.sender.proofs.Sending.{still-most, part-filled}
+use Rattle.sender.proofs.fill_part.Statement.{statement}
+use Rattle.sender.proofs.fill_part.Tie as tie
 
 pub fill-part-spec : {M : Type 1} → statement M
 fill-part-spec =
     tie.close
     (tie.spec
+    (λ c. search needs)
     (λ c κs. search needs)
     (λ c κs. search needs)
     (λ c κs. search needs)

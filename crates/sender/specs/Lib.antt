@@ -1,0 +1,4 @@
+-- The data of a device for a SCSI host.
+pub mod Private
+pub mod Promises
+pub mod Sent
