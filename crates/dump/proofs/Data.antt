@@ -5,10 +5,10 @@ use mathlib.Core.List.{List, [], _++_, append-nil}
 use mathlib.Core.Path.{_≡_, refl, sym, ap, _∙_}
 use native.Mathlib.Omega.{arith}
 use lib.Dec.{eqb}
-use lib.ListN.{length, take, drop, getD, replicate, length-append, length-take, length-drop}
-use lib.Seq.{take-all}
+use lib.ListN.{length, take, drop, replicate, length-append, length-take, length-drop}
+use lib.Seq.{take-all, take-append-le}
 use borrow.Author.Tests.{eq-eqb, ne-eqb, eqb-true, eqb-false}
-use Rattle.slices.proofs.Lists.{front-shown, length-flat}
+use Rattle.slices.proofs.Lists.{front-shown, length-flat, flat-cut, length-stored}
 use Rattle.slices.specs.Lists.{flat, stored, ended}
 use Rattle.text.proofs.Digits.{length-digits, length-decimal}
 use Rattle.text.specs.Digits.{digits, decimalOf}
@@ -17,33 +17,37 @@ use Rattle.writing.proofs.Puts.{puts-none, puts-one, puts-same, puts-more}
 use Rattle.writing.specs.Private.{Puts}
 use Rattle.writing.specs.Writing.{numberLine}
 use Rattle.dump.specs.Dump.{rowLine, rowsBelow, dataLines, dataText}
-use Rattle.dump.specs.Private.{begun, lastLine}
+use Rattle.dump.specs.Private.{lastLine}
 use Rattle.dump.specs.Promises.{Enough-for-data}
-use Rattle.dump.proofs.Dump.{begun-next, length-rows}
+use Rattle.dump.proofs.Dump.{length-rows}
 
 -- ## The last row
 
-module _ (s : List ℕ) (short : length s ≤ 32) where
-  pub digits-next : (k : ℕ) (h x y : List ℕ) → k < length s → h ≡ digits 16 2 (getD s k 0) → y ≡ stored x (2 * k) h → x ≡ begun s k → y ≡ begun s (k + 1)
-  digits-next k h x y less = begun-next s k h x y (omega arith) less
-
-  pub digits-all : (k : ℕ) (x : List ℕ) → length s ≤ k → k ≤ length s → x ≡ begun s k → x ≡ begun s (length s)
-  digits-all k x low high is-x =
-      let all : k ≡ length s = omega arith in
-      is-x ∙ ap (begun s) all
+module _ (s : List ℕ) (short : length s < 32) where
+  -- what a row's line begins with, whatever fills the row up
+  begins : (w : List ℕ) → w ≡ stored (replicate 32 0) 0 s → take (2 * length s) (rowLine (take 32 w)) ≡ flat (digits 16 2) s
+  begins w is-w =
+      let each : (b : ℕ) → length (digits 16 2 b) ≡ 2 = λ b. length-digits 16 2 b in
+      let long : length w ≡ 32 = ap length is-w ∙ length-stored (replicate 32 0) s 0 in
+      let wide : length (flat (digits 16 2) w) ≡ 2 * length w = length-flat (digits 16 2) 2 each w in
+      let none-more : 2 * length s ≡ 2 * length s + 0 = omega arith in
+      rw (take-all 32 w (omega arith))
+      (take-append-le (2 * length s) (flat (digits 16 2) w) (ascii "\n") (omega arith)
+      ∙ ap (λ (n : ℕ). take n (flat (digits 16 2) w)) none-more
+      ∙ flat-cut (digits 16 2) 2 each w (length s) 0 0 (omega arith) (omega arith)
+      ∙ append-nil (flat (digits 16 2) (take (length s) w))
+      ∙ ap (flat (digits 16 2)) (ap (take (length s)) is-w ∙ front-shown (replicate 32 0) s (omega arith)))
 
   module _ (d : List ℕ) (at : ℕ) where
     pub last-none : length s ≡ 0 → Puts d at (lastLine s) d at
     last-none e = rw (eq-eqb (length s) 0 e) (puts-none d at)
 
-    pub last-puts : (length s ≡ 0 → ⊥) → (line part x y : List ℕ) (m r : ℕ) → line ≡ begun s (length s) → part ≡ take (2 * length s) line
-        → x ≡ stored d at part → m ≡ ended d at part → y ≡ stored x m (ascii "\n") → r ≡ ended x m (ascii "\n") → Puts d at (lastLine s) y r
-    last-puts some line part x y m r is-line is-part is-x is-m is-y is-r =
+    pub last-puts : (length s ≡ 0 → ⊥) → (w line part x y : List ℕ) (m r : ℕ) → w ≡ stored (replicate 32 0) 0 s → line ≡ rowLine (take 32 w)
+        → part ≡ take (2 * length s) line → x ≡ stored d at part → m ≡ ended d at part → y ≡ stored x m (ascii "\n") → r ≡ ended x m (ascii "\n")
+        → Puts d at (lastLine s) y r
+    last-puts some w line part x y m r is-w is-line is-part is-x is-m is-y is-r =
         let F : List ℕ = flat (digits 16 2) s in
-        let wide : length F ≡ 2 * length s = length-flat (digits 16 2) 2 (λ (b : ℕ). length-digits 16 2 b) s in
-        let shown : take (length F) (stored (replicate 65 10) 0 F) ≡ F = front-shown (replicate 65 10) F (rw wide (omega arith)) in
-        let same : part ≡ F =
-        is-part ∙ rw (is-line, take-all (length s) s (omega arith), ← wide) shown in
+        let same : part ≡ F = is-part ∙ ap (take (2 * length s)) is-line ∙ begins w is-w in
         rw (ne-eqb (length s) 0 some) (puts-more d x at m F (ascii "\n") y r (puts-one x y m r (ascii "\n") is-y is-r) (puts-same d x at m part F same is-x is-m))
 
 -- ## The whole text
@@ -71,7 +75,7 @@ module _ (w rest : List ℕ) (n : ℕ) (is-n : n ≡ length w / 32) (is-rest : r
   left : length rest ≡ length w - 32 * n
   left = ap length is-rest ∙ length-drop (32 * n) w
 
-  pub rest-short : length rest ≤ 32
+  pub rest-short : length rest < 32
   rest-short = omega (arith, left)
 
   each-row : rowsBelow w ((length w + 31) / 32) ≡ rowsBelow w n ++ lastLine rest
@@ -85,7 +89,7 @@ module _ (w rest : List ℕ) (n : ℕ) (is-n : n ≡ length w / 32) (is-rest : r
       by-test false e =
           let some : (length rest ≡ 0 → ⊥) = eqb-false (length rest) 0 e in
           let more : (length w + 31) / 32 ≡ suc n = omega (arith, left) in
-          rw (more, e) (one-more w rest n is-rest rest-short)
+          rw (more, e) (one-more w rest n is-rest (omega (arith, rest-short)))
 
   pub lines-puts : (d x y z : List ℕ) (at m k r : ℕ) → x ≡ stored d at (numberLine (ascii "bytes ") (length w))
       → m ≡ ended d at (numberLine (ascii "bytes ") (length w)) → Puts x m (rowsBelow w n) y k → Puts y k (lastLine rest) z r → Puts d at (dataLines w) z r

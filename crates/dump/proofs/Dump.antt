@@ -17,20 +17,21 @@ use Rattle.text.specs.Text.{ascii}
 use Rattle.writing.proofs.Puts.{ended-none, puts-none, puts-one, puts-same, puts-more, whole-stored-in, whole-ended-in}
 use Rattle.writing.specs.Private.{Puts}
 use Rattle.writing.specs.Writing.{numberLine, storedIn, endedIn}
-use Rattle.dump.specs.Private.{begun}
 use Rattle.dump.specs.Promises.{Enough}
 use Rattle.dump.specs.Dump.{rowAt, rowLine, rowsBelow, isZero, rowsShown, zerosLine, pageText, firstTouched, touchedText}
 
 -- ## A row
 
-pub begun-next : (s : List ℕ) (k : ℕ) (h x y : List ℕ) → k < 32 → k < length s → h ≡ digits 16 2 (getD s k 0) → y ≡ stored x (2 * k) h → x ≡ begun s k → y ≡ begun s (k + 1)
-begun-next s k h x y less inside is-h is-y is-x =
-    let place : 2 * k ≡ 0 + 2 * k = omega arith in
-    stored-each (digits 16 2) 2 (λ (b : ℕ). length-digits 16 2 b) s (replicate 65 10) x y 0 k 0 (omega arith) inside is-x (is-y ∙ (λ j. stored x (place j) (is-h j)))
+-- the digits of the first k bytes, over 65 newlines
+abbrev pub begun : List ℕ → ℕ → List ℕ
+begun s k = stored (replicate 65 10) 0 (flat (digits 16 2) (take k s))
 
 module _ (s : List ℕ) (long : 32 ≤ length s) where
   pub row-next : (k : ℕ) (h x y : List ℕ) → k < 32 → h ≡ digits 16 2 (getD s k 0) → y ≡ stored x (2 * k) h → x ≡ begun s k → y ≡ begun s (k + 1)
-  row-next k h x y less = begun-next s k h x y less (omega arith)
+  row-next k h x y less is-h is-y is-x =
+      let place : 2 * k ≡ 0 + 2 * k = omega arith in
+      stored-each (digits 16 2) 2 (λ (b : ℕ). length-digits 16 2 b) s (replicate 65 10) x y 0 k 0 (omega arith) (omega arith) is-x
+      (is-y ∙ (λ j. stored x (place j) (is-h j)))
 
   pub row-all : (k : ℕ) (x : List ℕ) → 32 ≤ k → k ≤ 32 → x ≡ begun s k → x ≡ rowLine (take 32 s)
   row-all k x low high is-x =

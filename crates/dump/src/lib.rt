@@ -112,30 +112,17 @@ pub fn put_page(out: &mut [u8], at: usize, page: &[u8]) -> usize
 
 // ---- Data
 
-// The digits of at most 32 bytes, in front of newlines.
-fn digits_of(bytes: &[u8]) -> [u8; 65]
-    requires { ⌜ length (now bytes) ≤ 32 ⌝ }
-    ensures { λ r. ⌜ r ≡ private.begun (now (bytes .entry)) (length (now (bytes .entry))) ⌝ }
-{
-    let mut begun = [b'\n'; 65];
-    let mut k: usize = 0;
-    while k < bytes.len() {
-        let digits = pair(bytes[k]);
-        slices::put(&mut begun, 2 * k, &digits);
-        k += 1;
-    }
-    begun
-}
-
-// The last row, if it has a byte.
+// The last row, if it has a byte: the front of a whole row's line.
 fn put_last(out: &mut [u8], at: usize, bytes: &[u8]) -> usize
-    requires { ⌜ length (now bytes) ≤ 32 ⌝ }
+    requires { ⌜ length (now bytes) < 32 ⌝ }
     ensures { λ r. ⌜ writing·private.Puts (now (out .entry)) at (private.lastLine (now (bytes .entry))) (now (out .exit)) r ⌝ }
 {
     if bytes.len() == 0 {
         return at;
     }
-    let line = digits_of(bytes);
+    let mut whole = [0; 32];
+    slices::put(&mut whole, 0, bytes);
+    let line = row(&whole);
     let a = writing::word(out, at, slices::head(&line, 2 * bytes.len()));
     writing::word(out, a, b"\n")
 }

@@ -9,6 +9,9 @@ put-last-spec =
     tie.close
     (tie.spec
     (λ c. search (last-none))
+    (λ c. search needs)
+    (λ c κs. search needs)
+    (λ c. search needs)
     (λ c κs. search needs)
     (λ c. search needs)
     (λ c. search needs)

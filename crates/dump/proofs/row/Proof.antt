@@ -5,8 +5,7 @@ use native.Mathlib.Omega.{arith}
 use lib.ListN.{length, replicate}
 use borrow.Author.Needs.{needs}
 use Rattle.slices.proofs.Lists.{stored-none}
-use Rattle.dump.specs.Private.{begun}
-use Rattle.dump.proofs.Dump.{row-next, row-all}
+use Rattle.dump.proofs.Dump.{begun, row-next, row-all}
 use Rattle.dump.proofs.row.Statement.{statement}
 use Rattle.dump.proofs.row.Tie as tie
 
