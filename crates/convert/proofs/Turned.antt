@@ -16,7 +16,7 @@ use Rattle.slices.proofs.Lists.{length-upTo, upTo-at, length-stored, stored-non
 use Rattle.slices.specs.Lists.{upTo, flat, stored}
 use Rattle.words.specs.declared.Order.{Order}
 use Rattle.convert.specs.Convert.{listIn}
-use Rattle.convert.specs.Private.{Turned}
+use Rattle.convert.specs.Private.{other, Turned}
 
 -- ## The list
 
@@ -64,21 +64,21 @@ module _ (from to : Order) (s : List ℕ) (count : ℕ) (d : List ℕ) where
               (put ∙ (λ i. stored x (before .is-at i) (listed i)));
         }
 
-    pub put-all : baseOf count ≤ at → x ≡ stored d 32 (flat (descriptorBytes to) (listIn from s count))
-    put-all past =
+    pub put-all : baseOf count ≤ at → to ≡ other from → x ≡ stored d 32 (flat (descriptorBytes (other from)) (listIn from s count))
+    put-all past is-to =
         let l : List Descriptor = listIn from s count in
-        before .so ∙ ap (λ (v : List Descriptor). stored d 32 (flat (descriptorBytes to) v))
-        (take-all (before .k) l (omega (arith, before .is-at, before .few, length-list from s count)))
+        let all : take (before .k) l ≡ l = take-all (before .k) l (omega (arith, before .is-at, before .few, length-list from s count)) in
+        before .so ∙ (λ i. stored d 32 (flat (descriptorBytes (is-to i)) (all i)))
 
 -- the header, and the list behind it
-pub both-put : (from to : Order) (s : List ℕ) (count : ℕ) (d₀ d x : List ℕ) (h : Header) (b : List ℕ) → h ≡ headerIn from s → b ≡ headerBytes to h → d ≡ stored d₀ 0 b
-    → baseOf count ≤ length d₀ → x ≡ stored d 32 (flat (descriptorBytes to) (listIn from s count)) → x ≡ stored d₀ 0 (laid to (headerIn from s) (listIn from s count))
-both-put from to s count d₀ d x h b is-h is-b is-d room is-x =
+pub both-put : (from to t : Order) (s : List ℕ) (count : ℕ) (d₀ d x : List ℕ) (h : Header) (b : List ℕ) → h ≡ headerIn from s → t ≡ to → b ≡ headerBytes t h
+    → d ≡ stored d₀ 0 b → baseOf count ≤ length d₀ → x ≡ stored d 32 (flat (descriptorBytes to) (listIn from s count)) → x ≡ stored d₀ 0 (laid to (headerIn from s) (listIn from s count))
+both-put from to t s count d₀ d x h b is-h is-t is-b is-d room is-x =
     let H : List ℕ = headerBytes to (headerIn from s) in
     let F : List ℕ = flat (descriptorBytes to) (listIn from s count) in
     let place : 32 ≡ 0 + length H = omega (arith, header-wide to (headerIn from s)) in
     let fits : 0 + length (H ++ F) ≤ length d₀ = omega (arith, length-laid to (headerIn from s) (listIn from s count), length-list from s count) in
     is-x
     ∙ (λ i. stored (is-d i) (place i) F)
-    ∙ (λ i. stored (stored d₀ 0 ((is-b ∙ ap (headerBytes to) is-h) i)) (0 + length H) F)
+    ∙ (λ i. stored (stored d₀ 0 ((is-b ∙ (λ j. headerBytes (is-t j) (is-h j))) i)) (0 + length H) F)
     ∙ stored-more d₀ 0 H F fits

@@ -4,7 +4,12 @@ use mathlib.Core.List.{List}
 use mathlib.Core.Path.{_≡_}
 use Rattle.layout.specs.Bytes.{descriptorBytes, descriptorIn}
 use Rattle.layout.specs.declared.Descriptor.{Descriptor}
+use Rattle.words.specs.declared.Order.the-variants.{Little, Big}
 use Rattle.words.specs.declared.Order.{Order}
+
+abbrev pub other : Order → Order
+other Little = Big
+other Big = Little
 
 -- the descriptor that some bytes start with, in another order
 pub record Turned (from to : Order) (s b : List ℕ) : Type 0 where

@@ -45,7 +45,7 @@ pub fn to_ata(bytes: &[u8], query: Query, pages: PageCount, buf: &mut [u8]) -> C
         return Converted::SmallBuffer;
     }
     let h = Header::read(bytes, Order::Big);
-    put_turned(bytes, h.number, Order::Big, Order::Little, buf);
+    put_turned(bytes, h.number, Order::Big, buf);
     slices::clear(buf, 32 + 32 * (h.number as usize), size);
     Converted::Done(size)
 }

@@ -33,6 +33,6 @@ pub fn to_scsi(page: &[u8], request: Request, buf: &mut [u8]) -> Converted
     if buf.len() < size {
         return Converted::SmallBuffer;
     }
-    put_turned(page, h.number, Order::Little, Order::Big, buf);
+    put_turned(page, h.number, Order::Little, buf);
     Converted::Done(size)
 }

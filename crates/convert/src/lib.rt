@@ -35,6 +35,15 @@ fn unless(convertible: bool) -> Offence
     }
 }
 
+fn other(o: Order) -> Order
+    ensures { λ r. ⌜ r ≡ private.other o ⌝ }
+{
+    match o {
+        Order::Little => Order::Big,
+        Order::Big => Order::Little,
+    }
+}
+
 // The descriptor of a part in another order; its reserved bytes are zeros, whatever stood there.
 fn turned_part(part: &[u8], from: Order, to: Order) -> [u8; 32]
     ensures { λ r. ⌜ private.Turned from to (now (part .entry)) r ⌝ }
@@ -43,11 +52,12 @@ fn turned_part(part: &[u8], from: Order, to: Order) -> [u8; 32]
     d.bytes(to)
 }
 
-// Stores the first `count` descriptors of one order in the other behind the header. All their bytes are there.
-fn put_list(bytes: &[u8], count: u32, from: Order, to: Order, buf: &mut [u8])
+// Stores the first `count` descriptors in the other order behind the header. All their bytes are there.
+fn put_list(bytes: &[u8], count: u32, from: Order, buf: &mut [u8])
     requires { ⌜ (32 + 32 * count ≤ length (now bytes)) × (32 + 32 * count ≤ length (now buf)) ⌝ }
-    ensures { λ _. ⌜ now (buf .exit) ≡ stored (now (buf .entry)) 32 (flat (descriptorBytes to) (listIn from (now (bytes .entry)) count)) ⌝ }
+    ensures { λ _. ⌜ now (buf .exit) ≡ stored (now (buf .entry)) 32 (flat (descriptorBytes (private.other from)) (listIn from (now (bytes .entry)) count)) ⌝ }
 {
+    let to = other(from);
     let end = 32 + 32 * (count as usize);
     let mut at: usize = 32;
     while at < end {
@@ -58,12 +68,12 @@ fn put_list(bytes: &[u8], count: u32, from: Order, to: Order, buf: &mut [u8])
 }
 
 // The header, and the list behind it.
-fn put_turned(bytes: &[u8], count: u32, from: Order, to: Order, buf: &mut [u8])
+fn put_turned(bytes: &[u8], count: u32, from: Order, buf: &mut [u8])
     requires { ⌜ (32 + 32 * count ≤ length (now bytes)) × (32 + 32 * count ≤ length (now buf)) ⌝ }
-    ensures { λ _. ⌜ now (buf .exit) ≡ stored (now (buf .entry)) 0 (laid to (headerIn from (now (bytes .entry))) (listIn from (now (bytes .entry)) count)) ⌝ }
+    ensures { λ _. ⌜ now (buf .exit) ≡ stored (now (buf .entry)) 0 (laid (private.other from) (headerIn from (now (bytes .entry))) (listIn from (now (bytes .entry)) count)) ⌝ }
 {
     let h = Header::read(bytes, from);
-    let header = h.bytes(to);
+    let header = h.bytes(other(from));
     slices::put(buf, 0, &header);
-    put_list(bytes, count, from, to, buf);
+    put_list(bytes, count, from, buf);
 }
