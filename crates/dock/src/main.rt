@@ -18,7 +18,7 @@ fn list(bytes: &[u8]) {
     let listed = docklist::list(bytes, &mut out);
     let size = listed.count;
     if !io::write_all(STDOUT_FILENO, &out[..size]) {
-        os::fail(b"dock: standard output");
+        os::fail(b"list: standard output");
     }
 }
 
@@ -26,7 +26,7 @@ fn list_input() {
     let mut buf = page_room();
     let data = input::read_whole(STDIN_FILENO, &mut buf);
     if data.failed {
-        os::fail(b"dock: standard input");
+        os::fail(b"list: standard input");
         return;
     }
     let n = data.count;

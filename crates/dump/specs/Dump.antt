@@ -45,7 +45,7 @@ pageText s = rowsOf (take 65536 s) (length (take 65536 s) / 32)
 
 -- ## Data
 
--- "a line `bytes N` (decimal) and rows of 64 upper hex digits for each 32 bytes, the last one shorter, zero rows too"
+-- "a line `bytes N` (decimal) follows, and a line of 64 upper hex digits for each 32 bytes, the last one shorter, all-zero rows too"
 abbrev pub dataLines : List ℕ → List ℕ
 dataLines s = numberLine (ascii "bytes ") (length s) ++ rowsBelow s ((length s + 31) / 32)
 

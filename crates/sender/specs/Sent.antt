@@ -23,7 +23,7 @@ sentHeader d q = let n = length (listOf d (asked q)) in headed n n (d .cells .no
 unfoldable pub dataOf : Order → Device → Query → List ℕ
 dataOf o d q = laid o (sentHeader d q) (listOf d (asked q))
 
--- ".. in big-endian order, cut at an allocation length in bytes"; "on writing, 4 for filter or report type ..; last .. 7 for a buffer below the
+-- ".. in big-endian order .., cut at an allocation length in bytes"; "on writing, 4 for filter or report type ..; last .. 7 for a buffer below the
 -- bytes to be written"
 abbrev pub sent : Device → Query → ℕ → List ℕ → Told Output
 sent d q allocation buf = cond (dueFour q) (tells 4 (output 0 buf)) (written (take allocation (dataOf Big d q)) buf)
