@@ -51,7 +51,7 @@ none-stored d b at past =
     sym (rw none (stored-none d at))
 
 -- one after another, each with as much as there is room for
-pub cut-more : (d : List ℕ) (at : ℕ) (a b x y : List ℕ) → x ≡ stored d at (take (length d - at) a)
+cut-more : (d : List ℕ) (at : ℕ) (a b x y : List ℕ) → x ≡ stored d at (take (length d - at) a)
     → y ≡ stored x (at + length a) (take (length x - (at + length a)) b) → y ≡ stored d at (take (length d - at) (a ++ b))
 cut-more d at a b x y is-x is-y = by-test (leb (at + length a) (length d)) refl
   where
