@@ -1,7 +1,7 @@
 -- Laws of a call for a SCSI host: what it says, and what of the kept page it leaves.
 use Prim.Native.Nat.{ℕ}
 use mathlib.Core.List.{List}
-use mathlib.Core.Path.{_≡_, sym, ap, _∙_}
+use mathlib.Core.Path.{_≡_, ap, _∙_}
 use lib.ListN.{take}
 use Rattle.arguments.specs.declared.Dock.{Dock}
 use Rattle.docking.specs.Dock.{Answered, heard, numberSaid, countSaid, answeredBy, lentBy}

@@ -1,9 +1,9 @@
 -- The data for a SCSI host keeps each rule of its layout, cut or not, and reads back as what was written (specs/Sent). Whole descriptors of
 -- what is cut are those of the whole.
-use Prim.Native.Nat.{ℕ, _+_, _-_, _*_, _/_, _≤_, _<_, min}
+use Prim.Native.Nat.{ℕ, _+_, _≤_, _<_, min}
 use mathlib.Core.Bool.{true, false}
 use mathlib.Core.List.{List, [], _++_, append-nil}
-use mathlib.Core.Path.{_≡_, refl, sym, ap, _∙_}
+use mathlib.Core.Path.{_≡_, sym, ap, _∙_}
 use native.Mathlib.Omega.{arith}
 use lib.Dec.{ltb}
 use lib.ListN.{length, getD, take, length-take}
@@ -42,11 +42,11 @@ module _ (o : Order) (d : Device) (q : Query) (fits : Fits d) where
   unfolding dataOf
   length-data = length-laid o (sentHeader d q) list
 
-  pub data-header : headerIn o (dataOf o d q) ≡ sentHeader d q
+  data-header : headerIn o (dataOf o d q) ≡ sentHeader d q
   data-header =
       ap (headerIn o) data-is ∙ laid-header o (sentHeader d q) list [] (header-fits d (asked q) fits (length list) (length list) (few d (asked q) fits) (few d (asked q) fits))
 
-  pub data-descriptor : (k : ℕ) → k < length list → descriptorAt o (dataOf o d q) k ≡ getD list k none
+  data-descriptor : (k : ℕ) → k < length list → descriptorAt o (dataOf o d q) k ≡ getD list k none
   data-descriptor k l =
       ap (λ (s : List ℕ). descriptorAt o s k) data-is ∙ laid-descriptor o (sentHeader d q) list [] (list-fits d (asked q) fits) k none l
 

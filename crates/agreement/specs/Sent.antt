@@ -1,5 +1,5 @@
 -- The data that a device sends to a SCSI host, and its reader: what holds of the two together, in either byte order.
-use Prim.Native.Nat.{ℕ, _^_, _≤_, _<_}
+use Prim.Native.Nat.{ℕ, _≤_, _<_}
 use mathlib.Core.Bool.{true, false}
 use mathlib.Core.Path.{_≡_}
 use lib.ListN.{length, getD, take}

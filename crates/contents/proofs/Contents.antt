@@ -27,7 +27,6 @@ use Rattle.words.specs.declared.Order.the-variants.{Little}
 use Rattle.words.specs.declared.Order.{Order}
 use Rattle.writing.proofs.Puts.{puts-none, puts-one, puts-same, puts-more}
 use Rattle.writing.specs.Private.{Puts}
-use Rattle.writing.specs.Writing.{numberLine}
 use Rattle.contents.specs.Contents.{heldLine, slotLine, slotsBelow, listText, refusedLine, readingFor, readingOf}
 use Rattle.contents.specs.Private.{headOf, slotAt}
 use Rattle.contents.specs.Promises.{Enough}

@@ -1,4 +1,4 @@
--- Request 2026-03, `scsiread`: what the SCSI reader makes of the kept bytes.
+-- docs/BENCH.md, `scsiread`: what the SCSI reader makes of the kept bytes.
 use Prim.Native.Nat.{ℕ}
 use mathlib.Core.List.{List, _++_}
 use lib.ListN.{take}

@@ -1,5 +1,5 @@
 -- Demand 1: "A refusal has the number of document 01 and changes neither the device nor a byte lent to us." The number is each call's own
--- promise, and no second one fits (calls/specs/Promises, `One-fits`).
+-- promise, and no second one fits (calls/specs/Promises, `One-fits`; of the conversions convert/specs/Promises, `One-outcome`).
 use Rattle.calls.specs.Promises.{Refusal-leaves-both, Refused-list-leaves}
 use Rattle.convert.specs.Promises as convert
 use Rattle.conduct.specs.Promises.{Refusal-leaves}

@@ -11,7 +11,7 @@ use Rattle.paper.specs.Told.{Told, tells}
 use Rattle.query.specs.Queries.{plain}
 use Rattle.query.specs.declared.Query.{Query}
 use Rattle.rows.specs.Rows.{headerLine, refusedLine}
-use Rattle.scsi.specs.Judgement.{Values, reading, place, heard, readOf}
+use Rattle.scsi.specs.Judgement.{Values, place, heard, readOf}
 use Rattle.scsi.specs.declared.Judgement.the-variants.{Accepted, Refused}
 use Rattle.scsi.specs.declared.Judgement.{Judgement}
 use Rattle.scsi.specs.declared.Reading.{Reading}

@@ -1,11 +1,11 @@
 -- The device's SCSI data is its page converted (specs/Exchange): both show one list under one header.
 use Prim.Native.Nat.{ℕ, _+_, _*_, _≤_, _<_}
 use mathlib.Core.Bool.{Bool, true, false}
-use mathlib.Core.List.{List, map}
+use mathlib.Core.List.{List}
 use mathlib.Core.Path.{_≡_, refl, sym, ap, _∙_}
 use native.Mathlib.Omega.{arith}
 use lib.Dec.{eqb}
-use lib.ListN.{length, getD, take}
+use lib.ListN.{length, getD}
 use lib.Seq.{take-all}
 use borrow.Author.Tests.{eq-eqb}
 use Rattle.agreement.proofs.Agreement.{none, header-here, descriptor-here, agrees}
@@ -18,7 +18,7 @@ use Rattle.device.specs.declared.Device.{Device}
 use Rattle.layout.specs.Bytes.{headerIn, laid, returnedOf}
 use Rattle.layout.specs.declared.Descriptor.{Descriptor}
 use Rattle.layout.specs.declared.Header.{Header}
-use Rattle.offences.specs.Checks.{baseOf, descriptorAt}
+use Rattle.offences.specs.Checks.{descriptorAt}
 use Rattle.offences.specs.First.{unless}
 use Rattle.offences.specs.declared.Offence.the-variants.{Clean}
 use Rattle.query.proofs.Queries.{not-due, not-refused}
@@ -28,7 +28,6 @@ use Rattle.reader.proofs.LayoutTheorem.{heard-clean}
 use Rattle.request.specs.Requests.{refused}
 use Rattle.request.specs.declared.Request.{Request}
 use Rattle.slices.proofs.Lists.{map-upTo, map-places}
-use Rattle.slices.specs.Lists.{upTo}
 use Rattle.status.specs.Page.{listOf, headed, headerOf, pageOf}
 use Rattle.sender.specs.Sent.{sentHeader, dataOf}
 use Rattle.table.specs.Elements.{identifiers, ascending}
@@ -79,14 +78,14 @@ module _ (d : Device) (q : Query) (p : ℕ) (fits : Fits d) (asc : ascending 0 (
   one-list-in =
       map-upTo (descriptorAt Little page) (λ (k : ℕ). getD list k none) n descriptor ∙ map-places list none n (omega arith) ∙ take-all n list (omega arith)
 
-  pub whole : turned Little Big page ≡ dataOf Big d q
+  whole : turned Little Big page ≡ dataOf Big d q
   unfolding dataOf
   whole =
       sym (turned-laid Little Big page)
       ∙ (λ i. laid Big (header i) (listIn Little page (header i .number)))
       ∙ ap (laid Big (sentHeader d q)) one-list-in
 
-  pub clean : (unless (eqb (headerIn Little page .returned) (headerIn Little page .number)) 4 ≡ Clean)
+  clean : (unless (eqb (headerIn Little page .returned) (headerIn Little page .number)) 4 ≡ Clean)
   clean = ap (λ (b : Bool). unless b 4) (eq-eqb _ _ (ap (λ (h : Header). h .returned) header ∙ sym (ap (λ (h : Header). h .number) header)))
 
 pub sends-its-page : Sends-its-page

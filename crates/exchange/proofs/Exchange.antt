@@ -1,6 +1,6 @@
 -- A page that is converted is read as SCSI data, data as a page, and there and back (specs/Exchange): what a conversion keeps is all that the
 -- readers look at.
-use Prim.Native.Nat.{ℕ, _+_, _-_, _*_, _^_, _≤_, _<_}
+use Prim.Native.Nat.{ℕ, _+_, _-_, _*_, _≤_, _<_}
 use mathlib.Core.Bool.{Bool, true, false, cond}
 use mathlib.Core.List.{List, [], _++_, append-nil}
 use mathlib.Core.Path.{_≡_, refl, sym, ap, _∙_, subst}
@@ -18,7 +18,7 @@ use Rattle.offences.specs.Checks.{baseOf, descriptorAt, lastBefore}
 use Rattle.offences.specs.First.{unless, _orElse_}
 use Rattle.offences.specs.declared.Offence.the-variants.{Clean}
 use Rattle.offences.specs.declared.Offence.{Offence}
-use Rattle.paper.specs.Told.{Told, tells}
+use Rattle.paper.specs.Told.{tells}
 use Rattle.query.proofs.Queries.{filter-asked, report-asked, start-asked}
 use Rattle.query.specs.Queries.{askedFor, asked}
 use Rattle.query.specs.declared.Query.{Query}
@@ -28,15 +28,12 @@ use Rattle.reader.proofs.Taken.{Listed}
 use Rattle.reader.specs.Judgement as page
 use Rattle.reader.specs.Page.{pageOffence}
 use Rattle.reader.specs.declared.Slot.the-variants.{Outside, Holds}
-use Rattle.reader.specs.declared.Slot.{Slot}
-use Rattle.request.specs.Requests.{filterOf, reportTypeOf, pagesOf, startOf}
 use Rattle.request.specs.declared.Request.{Request}
 use Rattle.scsi.proofs.LayoutTheorem as scsi·theorem
 use Rattle.scsi.proofs.Taken as scsi·taken
 use Rattle.scsi.specs.Data.{wholeOf, tornOf, dataOffence}
 use Rattle.scsi.specs.Judgement as scsi
 use Rattle.words.specs.declared.Order.the-variants.{Little, Big}
-use Rattle.words.specs.declared.Order.{Order}
 use Rattle.exchange.specs.Exchange.{Page-holds, Data-holds, Asks-as, Page-to-data, Data-to-page, There-and-back, Back-and-there}
 use Rattle.exchange.proofs.Kept.{Fits-in, bytes-fit, header-kept, descriptor-kept, fits-kept, list-kept}
 

@@ -1,23 +1,21 @@
 -- What a conversion keeps, in either direction: the header's numbers and each descriptor, and so the rules of the list.
-use Prim.Native.Nat.{ℕ, zero, suc, _+_, _*_, _≤_, _<_}
+use Prim.Native.Nat.{ℕ, zero, suc, _+_, _≤_, _<_}
 use mathlib.Core.List.{List, _++_}
 use mathlib.Core.Path.{_≡_, refl, sym, ap, _∙_, subst}
 use native.Mathlib.Omega.{arith}
-use lib.ListN.{length, getD, drop}
+use lib.ListN.{drop}
 use Rattle.convert.proofs.Turned.{length-list, list-at}
 use Rattle.convert.specs.Convert.{listIn}
 use Rattle.layout.proofs.Fits.{header-fits, descriptor-fits}
 use Rattle.layout.specs.Bytes.{headerIn, laid}
 use Rattle.layout.specs.Promises.{HeaderFits, DescriptorFits}
 use Rattle.layout.specs.declared.Descriptor.{Descriptor}
-use Rattle.layout.specs.declared.Header.{Header}
 use Rattle.offences.proofs.Laid.{laid-header, laid-descriptor}
 use Rattle.offences.specs.Checks.{baseOf, descriptorAt, lastBefore}
 use Rattle.reader.proofs.Taken.{Listed}
 use Rattle.request.specs.Requests.{filterOf, reportTypeOf, startOf}
 use Rattle.request.specs.declared.Request.{Request}
 use Rattle.slices.proofs.Lists.{every-below}
-use Rattle.slices.specs.Lists.{Every}
 use Rattle.words.proofs.Bytes.{bytes-drop}
 use Rattle.words.specs.declared.Order.{Order}
 use Rattle.exchange.specs.Exchange.{Bytes}

@@ -1,7 +1,6 @@
 -- What is read from bytes fits its fields.
 use Prim.Native.Nat.{ℕ}
 use mathlib.Core.List.{List}
-use lib.ListN.{drop}
 use Rattle.slices.specs.Lists.{Every}
 use Rattle.words.proofs.Bytes.{Byte, byte-at, number-fits}
 use Rattle.words.specs.declared.Order.{Order}

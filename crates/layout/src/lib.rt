@@ -37,7 +37,8 @@ impl Header {
         b
     }
 
-    // The header that a slice starts with; a byte past its end counts as 0. Of 32 bytes in the order of ATA pages none is tested for.
+    // The header that a slice starts with; a byte past its end counts as 0. Of 32 bytes in the order of ATA pages none is tested for, since a
+    // comparison reads one for each line.
     pub fn read(s: &[u8], o: Order) -> Header
         ensures { λ r. ⌜ r ≡ headerIn o (now (s .entry)) ⌝ }
     {

@@ -24,7 +24,7 @@ use Rattle.text.specs.Text.{ascii}
 use Rattle.writing.proofs.Puts.{ended-none, puts-one}
 use Rattle.writing.specs.Private.{Puts}
 use Rattle.writing.specs.Writing.{storedIn, endedIn}
-use Rattle.replies.specs.Replies.{answerLine, bareLine, firstLine, shownAs, bytesText, dockText}
+use Rattle.replies.specs.Replies.{bareLine, firstLine, shownAs, bytesText, dockText}
 use Rattle.replies.proofs.Answers.{length-answer, three-puts}
 
 -- ## The first line, by what was said

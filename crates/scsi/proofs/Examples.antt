@@ -6,7 +6,6 @@ use mathlib.Core.Path.{_≡_, refl}
 use lib.Dec.{eqb}
 use lib.ListN.{set, take}
 use Rattle.layout.specs.Examples.{zeros, headerG1, elementG1}
-use Rattle.layout.specs.declared.Header.{Header}
 use Rattle.paper.specs.Told.{tells}
 use Rattle.query.specs.Queries.{dueFour}
 use Rattle.query.specs.declared.Query.{Query}

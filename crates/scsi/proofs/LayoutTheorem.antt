@@ -1,7 +1,7 @@
 -- The layout theorem: the reader takes exactly the data that keeps each rule, and refuses any other at the first that is broken. The rules
 -- of the descriptors, and that the checks decide them, are the ATA reader's.
 use Prim.Native.Nat.{ℕ, _≤_}
-use mathlib.Core.Bool.{Bool, true, false, not}
+use mathlib.Core.Bool.{Bool, true, not}
 use mathlib.Core.List.{List}
 use mathlib.Core.Path.{_≡_, refl, sym, ap, _∙_}
 use lib.Dec.{leb}

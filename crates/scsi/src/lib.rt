@@ -1,8 +1,6 @@
 // The host's reader of SCSI's status data: the data and the request that it answers, checked in request 2026-03's order. Data is read in
 // place, and may be cut anywhere after its header, the first 32 bytes.
 ghost use mathlib.Core.Path.{_≡_};
-ghost use Prim.Native.Nat.{_≤_};
-ghost use lib.ListN.{length};
 ghost use Rattle.words.specs.declared.Order.the-variants.{Big};
 ghost use Rattle.scsi.specs.Data.{wholeOf, tornOf, contentsOf};
 ghost use Rattle.scsi.specs.Judgement as paper;

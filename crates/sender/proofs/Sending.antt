@@ -222,9 +222,6 @@ module _ (d : Device) (q : Query) (a : ℕ) (buf : List ℕ) (b : Bool) (is-b : 
         length-append (headerBytes Big (headed (length (listOf d r)) (length (listOf d r)) (d .cells .note) (d .table .limit) (removedNumber d))) F
         ∙ rw (length-flat (descriptorBytes Big) 32 (wide Big) (listOf d r), is-number)
 
-    pub part-most : (room : ℕ) → size ≤ room → (n : ℕ) → n ≡ size → n ≤ 32 + 32 * number
-    part-most room h n e = omega (arith, is-size)
-
     cut : take size (dataFor d r) ≡ take a (dataOf Big d q)
     cut =
         let less : size ≡ min a (length (dataFor d r)) = omega (arith, is-size, long-data) in

@@ -28,7 +28,7 @@ use Rattle.table.specs.declared.Part.{Part}
 use Rattle.view.specs.Shown.{shownOf, asks, busyOf}
 use Rattle.words.specs.declared.Order.the-variants.{Little}
 use Rattle.status.specs.Page.{shownAt, shownAll, listOf, headed, headerOf, pageOf, shown}
-use Rattle.status.specs.Private.{shownIn, shownThere, Lists}
+use Rattle.status.specs.Private.{Slots, shownIn, shownThere}
 use Rattle.status.specs.Promises.{Keeps-identifier}
 use Rattle.status.proofs.Places.{length-there, at-place, take-there, Listed, list-turn, all-listed}
 
@@ -89,6 +89,11 @@ pub listing-next : (ps : List Part) (hs : List ℕ) (q : Request) (n : ℕ) (pla
 listing-next ps hs q n places number i listing low b is-b =
     (omega arith, listing .1, listing .2, listing .3, list-turn ps hs q places number i (listing .4) (omega (arith, listing)) b is-b)
 
+-- places put down, and how many count: what they show is the list
+abbrev Lists : Device → Request → List ℕ → ℕ → Type 0
+Lists d q places number =
+    (shownThere (d .table .parts) (d .cells .healths) places number ≡ listOf d q) × (number ≤ 128) × (length places ≡ 128) × Slots places
+
 pub listing-all : (d : Device) (q : Request) (n : ℕ) (places : List ℕ) (number i : ℕ) → n ≡ min (d .table .count) 128
     → Listing (d .table .parts) (d .cells .healths) q n places number i → n ≤ i → Lists d q places number
 listing-all d q n places number i is-n listing high =
@@ -96,7 +101,7 @@ listing-all d q n places number i is-n listing high =
     (listing .4 .0 ∙ all-listed d q i (listing .2) all, omega (arith, listing), listing .4 .2, listing .4 .3)
 
 module _ (d : Device) (q : Request) (places : List ℕ) (number : ℕ) (lists : Lists d q places number) where
-  pub number-listed : number ≡ length (listOf d q)
+  number-listed : number ≡ length (listOf d q)
   number-listed = sym (length-there (d .table .parts) (d .cells .healths) places number (omega (arith, lists))) ∙ ap length (lists .0)
 
   pub filled : 1 ≤ pagesOf q → (r : ℕ) → r ≡ returnedOf number (pagesOf q) → (h : Header) → h ≡ headed number r (d .cells .note) (d .table .limit) (removedNumber d)

@@ -66,7 +66,7 @@ fn fill(d: Device, request: Request, buf: &mut [u8])
     }
     let returned = slices::smaller(number, 16 * (request.count.0 as usize) - 1);
     let header = header_of(d, number as u32, returned as u32);
-    view::put_header(header, Order::Little, buf);
+    view::put_header(header, buf);
     put_list(ps, hs, places, returned, buf);
     slices::clear(buf, 32 + 32 * returned, 512 * (request.count.0 as usize));
 }

@@ -58,17 +58,17 @@ pub fn busy(note: Note) -> ElementId
     }
 }
 
-// ---- In the lent buffer, in either byte order
+// ---- In the lent buffer
 
-// Stores the header, if it fits.
-pub fn put_header(header: Header, o: Order, buf: &mut [u8])
-    ensures { λ _. ⌜ now (buf .exit) ≡ stored (now (buf .entry)) 0 (headerBytes o header) ⌝ }
+// Stores a page's header, if it fits.
+pub fn put_header(header: Header, buf: &mut [u8])
+    ensures { λ _. ⌜ now (buf .exit) ≡ stored (now (buf .entry)) 0 (headerBytes Order.Little header) ⌝ }
 {
-    let bytes = header.bytes(o);
+    let bytes = header.bytes(Order::Little);
     slices::put(buf, 0, &bytes);
 }
 
-// Stores the descriptor of the element of this part and health from a place on, if it fits there.
+// Stores the descriptor of the element of this part and health from a place on, in either byte order, if it fits there.
 pub fn put_shown(p: Part, health: u8, at: usize, o: Order, buf: &mut [u8])
     ensures { λ _. ⌜ now (buf .exit) ≡ stored (now (buf .entry)) at (descriptorBytes o (shownOf p health)) ⌝ }
 {
