@@ -152,6 +152,18 @@ impl Text {
         }
     }
 
+    /// Reads a page, and each of the changed ones made of it.
+    pub fn read_each(mut self, page: &Draft, changed: &[Draft], read: fn(&mut Text)) -> Text {
+        self.page(page);
+        read(&mut self);
+        for draft in changed {
+            self.turn(page, draft);
+            read(&mut self);
+            self.turn(draft, page);
+        }
+        self
+    }
+
     pub fn poke(&mut self, place: usize, byte: u8) {
         self.line(&format!("poke {:x} {:x}", place, byte));
     }

@@ -41,16 +41,9 @@ fn read_all(text: &mut Text) {
 
 /// A script that reads each of some changed data.
 fn script_of(name: &str, changed: &[Draft]) -> Case {
-    let mut text = Text::new();
-    let base = base();
-    text.page(&base);
-    read_all(&mut text);
-    for draft in changed {
-        text.turn(&base, draft);
-        read_all(&mut text);
-        text.turn(draft, &base);
-    }
-    text.named(name)
+    Text::new()
+        .read_each(&base(), changed, read_all)
+        .named(name)
 }
 
 /// Each offence of a descriptor, and values beside it: the first, the middle and
