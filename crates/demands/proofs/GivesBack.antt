@@ -38,21 +38,28 @@ zero-only : (r small : Bool) → cond {A = ℕ} r 4 (cond small 7 0) ≡ 0 → r
 zero-only true small e = absurd (omega arith)
 zero-only false small e = refl
 
+-- a page that is shown is accepted, and stands at the front
+module _ (d : Device) (s : Security) (q : Request) (buf : List ℕ) (zero : shown d s q buf .number ≡ 0) where
+  pub shown-accepted : refused q ≡ false
+  shown-accepted = zero-only (refused q) (ltb (length buf) (512 * pagesOf q)) (sym (three-answers d s q buf) ∙ zero)
+
+  pub shown-front : take (512 * pagesOf q) (shown d s q buf .state) ≡ pageOf d q
+  shown-front =
+      ap (λ (n : ℕ). take (512 * pagesOf q) (cond (eqb n 0) (pageOf d q ++ drop (512 * pagesOf q) buf) buf)) zero
+      ∙ take-at (pageOf d q) _ (512 * pagesOf q) (whole-pages d q (accepted q shown-accepted .2))
+
 module _ (d : Device) (s : Security) (r : Registers) (buf : List ℕ) (is-12 : r .code ≡ 0x12) (done : told d (command s r (length buf)) .number ≡ 0) where
   abbrev q : Request
   q = asked r
 
-  shown-0 : shown d s q buf .number ≡ 0
+  pub shown-0 : shown d s q buf .number ≡ 0
   shown-0 = ap (λ (t : Told Device). t .number) (sym (shown-alike d s r buf is-12 .0)) ∙ done
 
   unrefused : refused q ≡ false
-  unrefused = zero-only (refused q) (ltb (length buf) (512 * pagesOf q)) (sym (three-answers d s q buf) ∙ shown-0)
+  unrefused = shown-accepted d s q buf shown-0
 
   page-left : take (512 * pagesOf q) (lent d s r buf) ≡ pageOf d q
-  page-left =
-      let written : lent d s r buf ≡ pageOf d q ++ drop (512 * pagesOf q) buf =
-      shown-alike d s r buf is-12 .1 ∙ ap (λ (n : ℕ). cond (eqb n 0) (pageOf d q ++ drop (512 * pagesOf q) buf) buf) shown-0 in
-      ap (take (512 * pagesOf q)) written ∙ take-at (pageOf d q) _ (512 * pagesOf q) (whole-pages d q (accepted q unrefused .2))
+  page-left = ap (take (512 * pagesOf q)) (shown-alike d s r buf is-12 .1) ∙ shown-front d s q buf shown-0
 
 -- ## The listing's request
 

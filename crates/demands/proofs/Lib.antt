@@ -3,4 +3,5 @@ pub mod Demand1
 pub mod GivesBack
 pub mod Runs
 pub mod SendsBack
+pub mod SendsPage
 pub mod Starts
