@@ -3,3 +3,4 @@ pub mod Bytes
 pub mod Examples
 pub mod Fits
 pub mod Reserved
+pub mod Zeroed

@@ -1,11 +1,12 @@
--- What is laid is read back, whatever follows it, and no reserved byte is looked at. Each is a statement; proofs/ has the proof under the
--- same name in lower case.
+-- What is laid is read back, whatever follows it, no reserved byte is looked at, and each is laid as 0. Each is a statement; proofs/ has the
+-- proof under the same name in lower case.
 use Prim.Native.Nat.{ℕ, _^_, _<_}
 use mathlib.Core.List.{List, _++_}
 use mathlib.Core.Path.{_≡_}
+use lib.ListN.{getD}
 use Rattle.words.specs.declared.Order.{Order}
 use Rattle.layout.specs.Bytes.{headerBytes, headerIn, descriptorBytes, descriptorIn}
-use Rattle.layout.specs.Reserved.{Headers-alike, Descriptors-alike}
+use Rattle.layout.specs.Reserved.{inHeader, inDescriptor, Headers-alike, Descriptors-alike}
 use Rattle.layout.specs.declared.Descriptor.{Descriptor}
 use Rattle.layout.specs.declared.Header.{Header}
 
@@ -35,3 +36,10 @@ Header-reserved = (o : Order) (s t : List ℕ) → Headers-alike s t → headerI
 
 abbrev pub Descriptor-reserved : Type 0
 Descriptor-reserved = (o : Order) (s t : List ℕ) → Descriptors-alike s t → descriptorIn o s ≡ descriptorIn o t
+
+-- "16..31 zero", "the rest zero": of each byte that is laid, all is looked at; a byte past the end counts as 0
+abbrev pub Header-zeroed : Type 0
+Header-zeroed = (o : Order) (h : Header) (at : ℕ) → inHeader at (getD (headerBytes o h) at 0) ≡ getD (headerBytes o h) at 0
+
+abbrev pub Descriptor-zeroed : Type 0
+Descriptor-zeroed = (o : Order) (d : Descriptor) (at : ℕ) → inDescriptor at (getD (descriptorBytes o d) at 0) ≡ getD (descriptorBytes o d) at 0
