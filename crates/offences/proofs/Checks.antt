@@ -1,8 +1,8 @@
--- The checks of a descriptor, a law for each way out; and the list, from place to place.
+-- The checks of a descriptor, a law for each way out; and the list, from place to place, and beside one with the same descriptors.
 use Prim.Native.Nat.{ℕ, zero, suc, _+_, _-_, _≤_, _<_}
 use mathlib.Core.Bool.{Bool, true, false}
 use mathlib.Core.List.{List}
-use mathlib.Core.Path.{_≡_, refl, sym, _∙_}
+use mathlib.Core.Path.{_≡_, refl, sym, ap, _∙_}
 use native.Mathlib.Numerals.{add-one}
 use native.Mathlib.Omega.{arith}
 use lib.Dec.{eqb, ltb, leb·suc-zero, eqb·suc-zero}
@@ -13,12 +13,12 @@ use Rattle.layout.specs.declared.Descriptor.{Descriptor}
 use Rattle.request.specs.Requests.{filterOf, reportTypeOf, takesId, takesType, takesHealth}
 use Rattle.request.specs.declared.Request.{Request}
 use Rattle.words.specs.declared.Order.{Order}
-use Rattle.offences.specs.Checks.{baseOf, inTurn, earned, checkOf, offenceAt}
+use Rattle.offences.specs.Checks.{baseOf, descriptorAt, lastBefore, inTurn, earned, checkOf, offenceAt}
 use Rattle.offences.specs.First.{firstBelow}
 use Rattle.offences.specs.Private.{Swept}
 use Rattle.offences.specs.declared.Offence.the-variants.{Clean, At}
 use Rattle.offences.specs.declared.Offence.{Offence}
-use Rattle.offences.proofs.First.{first-more, first-found, first-done}
+use Rattle.offences.proofs.First.{first-more, first-found, first-done, first-same}
 
 module _ (q : Request) (last : ℕ) (b : Bool) where
   pub turn-below : (id : ℕ) → b ≡ takesId q id → b ≡ false → false ≡ inTurn q last id
@@ -100,3 +100,18 @@ module _ (o : Order) (s : List ℕ) (q : Request) (count : ℕ) where
 
       pub swept-plain : (t : Bool) → (t ≡ true → (base : ℕ) → Clean ≡ checkOf q last base d) → t ≡ true → Swept o s q count (at + 32) (d .id .0)
       swept-plain t is-clean y = swept-next Clean (is-clean y at) refl
+
+-- ## The same descriptors below a number
+
+module _ (o : Order) (s t : List ℕ) where
+  abbrev Same-below : ℕ → Type 0
+  Same-below n = (k : ℕ) → k < n → descriptorAt o s k ≡ descriptorAt o t k
+
+  pub before-same : (k : ℕ) → Same-below k → lastBefore o s k ≡ lastBefore o t k
+  before-same zero same = refl
+  before-same (suc k) same = ap (λ (d : Descriptor). d .id .0) (same k (omega arith))
+
+  pub list-same : (n : ℕ) → Same-below n → (q : Request) → firstBelow n (offenceAt o s q) ≡ firstBelow n (offenceAt o t q)
+  list-same n same q =
+      first-same (offenceAt o s q) (offenceAt o t q) n
+      (λ k less i. checkOf q (before-same k (λ j h. same j (omega arith)) i) (baseOf k) (same k less i))

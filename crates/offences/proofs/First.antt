@@ -1,10 +1,11 @@
--- The first offence of the checks f 0 to f (n - 1): what a loop over them keeps, finds and ends with.
+-- The first offence of the checks f 0 to f (n - 1): what a loop over them keeps, finds and ends with; and that it goes by these checks alone.
 use Prim.Native.Nat.{ℕ, zero, suc, _+_, _≤_, _<_}
 use mathlib.Core.Logic.{⊎-elim}
-use mathlib.Core.Path.{_≡_, subst}
+use mathlib.Core.Path.{_≡_, refl, subst}
 use native.Mathlib.Nat.{le-antisymm, le-of-suc-le-suc, not-suc-le-zero, eq-or-lt-of-le}
 use native.Mathlib.Numerals.{add-one}
-use Rattle.offences.specs.First.{firstBelow}
+use native.Mathlib.Omega.{arith}
+use Rattle.offences.specs.First.{_orElse_, firstBelow}
 use Rattle.offences.specs.declared.Offence.the-variants.{Clean, At}
 use Rattle.offences.specs.declared.Offence.{Offence}
 
@@ -28,3 +29,7 @@ module _ (f : ℕ → Offence) where
   -- no check is left
   pub first-done : (n i : ℕ) → i ≤ n → n ≤ i → firstBelow i f ≡ Clean → firstBelow n f ≡ Clean
   first-done n i l g h = subst (λ (m : ℕ). firstBelow m f ≡ Clean) (le-antisymm l g) h
+
+pub first-same : (f g : ℕ → Offence) (n : ℕ) → ((k : ℕ) → k < n → f k ≡ g k) → firstBelow n f ≡ firstBelow n g
+first-same f g zero same = refl
+first-same f g (suc n) same = λ i. first-same f g n (λ k h. same k (omega arith)) i orElse same n (omega arith) i

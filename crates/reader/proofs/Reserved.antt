@@ -1,6 +1,6 @@
 -- Reserved bytes are not looked at (specs/Promises). Pages that look alike have one header and one descriptor at every number, past the last
 -- returned too, where every byte is padding; and these, the length and the padding are all that is read.
-use Prim.Native.Nat.{ℕ, zero, suc, _+_, _-_, _*_}
+use Prim.Native.Nat.{ℕ, _+_, _-_, _*_}
 use mathlib.Core.Bool.{Bool, true, false, cond, not}
 use mathlib.Core.List.{List}
 use mathlib.Core.Path.{_≡_, refl, sym, ap, _∙_}
@@ -12,9 +12,9 @@ use borrow.Author.Tests.{ltb-true, ltb-false}
 use Rattle.layout.proofs.Reserved.{header-reserved, descriptor-reserved}
 use Rattle.layout.specs.Bytes.{headerIn, returnedOf}
 use Rattle.layout.specs.Reserved.{inDescriptor, Descriptors-alike}
-use Rattle.layout.specs.declared.Descriptor.{Descriptor}
 use Rattle.layout.specs.declared.Header.{Header}
-use Rattle.offences.specs.Checks.{baseOf, descriptorAt, lastBefore, checkOf, offenceAt}
+use Rattle.offences.proofs.Checks.{before-same, list-same}
+use Rattle.offences.specs.Checks.{baseOf, descriptorAt, lastBefore}
 use Rattle.offences.specs.First.{unless, _orElse_, firstBelow}
 use Rattle.request.specs.Requests.{pagesOf, refused}
 use Rattle.request.specs.declared.Request.{Request}
@@ -45,19 +45,15 @@ module _ (o : Order) (s t : List ℕ) (alike : Looks-alike o s t) where
   descriptor-same k = descriptor-reserved o (drop (baseOf k) s) (drop (baseOf k) t) (list-alike k)
 
   pub last-same : (k : ℕ) → lastBefore o s k ≡ lastBefore o t k
-  last-same zero = refl
-  last-same (suc k) = ap (λ (d : Descriptor). d .id .0) (descriptor-same k)
+  last-same k = before-same o s t k (λ j less. descriptor-same j)
 
   module _ (q : Request) where
-    offence-same : (k : ℕ) → offenceAt o s q k ≡ offenceAt o t q k
-    offence-same k = λ i. checkOf q (last-same k i) (baseOf k) (descriptor-same k i)
-
     padding-same : (k : ℕ) → paddingAt s (baseOf n) k ≡ paddingAt t (baseOf n) k
     padding-same k = ap (λ (b : ℕ). unless (eqb b 0) (baseOf n + k)) (alike .padding (baseOf n + k) (omega arith))
 
     contents-same : contentsOf o s q n ≡ contentsOf o t q (headerIn o t .returned)
     contents-same =
-        (λ i. firstBelow n (λ k. offence-same k i) orElse firstBelow (alike .long i - baseOf n) (λ k. padding-same k i))
+        (λ i. list-same o s t n (λ k less. descriptor-same k) q i orElse firstBelow (alike .long i - baseOf n) (λ k. padding-same k i))
         ∙ ap (λ (h : Header). contentsOf o t q (h .returned)) header-same
 
     offences-same : pageOffence o s q ≡ pageOffence o t q
