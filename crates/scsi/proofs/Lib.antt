@@ -3,4 +3,6 @@ pub mod Data
 pub mod Examples
 pub mod LayoutTheorem
 pub mod Once
+pub mod Reserved
 pub mod Taken
+pub mod There

@@ -1,5 +1,6 @@
--- The checks of SCSI's data and what its reader says.
+-- The checks of SCSI's data, what its reader says, and what is reserved.
 pub mod Data
 pub mod Judgement
 pub mod Layout
 pub mod Promises
+pub mod Reserved
