@@ -1,9 +1,11 @@
 -- What holds of every conversion. Each is a statement; proofs/ has the proof under the same name in lower case.
-use Prim.Native.Nat.{ℕ, _+_, _*_}
+use Prim.Native.Nat.{ℕ, _+_, _*_, _<_}
 use mathlib.Core.List.{List}
 use mathlib.Core.Path.{_≡_}
-use lib.ListN.{length}
+use lib.ListN.{length, getD}
 use Rattle.layout.specs.Bytes.{headerIn}
+use Rattle.layout.specs.Reserved.{inHeader, inDescriptor}
+use Rattle.offences.specs.Checks.{baseOf}
 use Rattle.offences.specs.declared.Offence.the-variants.{Clean}
 use Rattle.offences.specs.declared.Offence.{Offence}
 use Rattle.paper.specs.Told.{Told}
@@ -26,3 +28,11 @@ Data-bytes = (from to : Order) (s : List ℕ) → length (turned from to s) ≡ 
 
 abbrev pub Page-bytes : Type 0
 Page-bytes = (s : List ℕ) (q : Query) (p : ℕ) → ataOffence s q p ≡ Clean → length (paged p s) ≡ 512 * p
+
+-- "Reserved bytes become zero": of each byte of the header and of the descriptors all is looked at
+abbrev pub Reserved-zeroed : Type 0
+Reserved-zeroed =
+    (from to : Order) (s : List ℕ)
+    → ((at : ℕ) → at < 32 → inHeader at (getD (turned from to s) at 0) ≡ getD (turned from to s) at 0)
+    × ((k at : ℕ) → k < headerIn from s .number → at < 32
+    → inDescriptor at (getD (turned from to s) (baseOf k + at) 0) ≡ getD (turned from to s) (baseOf k + at) 0)

@@ -27,15 +27,19 @@ module _ (o : Order) (h : Header) (l : List Descriptor) where
     pub laid-header : HeaderFits h → headerIn o (laid o h l ++ rest) ≡ h
     laid-header fits = ap (headerIn o) parts ∙ header-back o h (flat (descriptorBytes o) l ++ rest) fits
 
-    pub laid-descriptor : Every DescriptorFits l → (k : ℕ) (z : Descriptor) → k < length l → descriptorAt o (laid o h l ++ rest) k ≡ getD l k z
-    laid-descriptor fits k z less =
-        let e = getD l k z in
+    -- descriptor k, and what follows it
+    pub laid-at : (k : ℕ) (z : Descriptor) → k < length l
+        → drop (baseOf k) (laid o h l ++ rest) ≡ descriptorBytes o (getD l k z) ++ after (descriptorBytes o) 32 (wide o) l k rest
+    laid-at k z less =
         let place : baseOf k ≡ length (headerBytes o h) + 32 * k = omega (arith, header-wide o h) in
-        let here : drop (baseOf k) (laid o h l ++ rest) ≡ descriptorBytes o e ++ after (descriptorBytes o) 32 (wide o) l k rest =
         (λ i. drop (place i) (parts i))
         ∙ drop-append-add (headerBytes o h) (flat (descriptorBytes o) l ++ rest) (32 * k)
-        ∙ flat-at (descriptorBytes o) 32 (wide o) l k z rest less in
-        ap (descriptorIn o) here ∙ descriptor-back o e (after (descriptorBytes o) 32 (wide o) l k rest) (every-at DescriptorFits l k z less fits)
+        ∙ flat-at (descriptorBytes o) 32 (wide o) l k z rest less
+
+    pub laid-descriptor : Every DescriptorFits l → (k : ℕ) (z : Descriptor) → k < length l → descriptorAt o (laid o h l ++ rest) k ≡ getD l k z
+    laid-descriptor fits k z less =
+        ap (descriptorIn o) (laid-at k z less)
+        ∙ descriptor-back o (getD l k z) (after (descriptorBytes o) 32 (wide o) l k rest) (every-at DescriptorFits l k z less fits)
 
 -- ## Cut
 
