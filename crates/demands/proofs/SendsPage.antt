@@ -2,23 +2,20 @@
 -- converted, is what the writer lays at the front of its buffer.
 use Prim.Native.Nat.{ℕ, _*_, _≤_}
 use mathlib.Core.Bool.{Bool, true, false, cond}
-use mathlib.Core.List.{List, _++_}
-use mathlib.Core.Path.{_≡_, refl, sym, ap, _∙_}
+use mathlib.Core.List.{List}
+use mathlib.Core.Path.{_≡_, sym, ap, _∙_}
 use native.Mathlib.Omega.{arith}
-use lib.ListN.{length, take, drop}
-use lib.Seq.{take-at}
+use lib.ListN.{length, take}
 use Rattle.agreement.proofs.Agreement.{agrees}
 use Rattle.conduct.specs.Fits.{Fits}
-use Rattle.convert.proofs.Outcomes.{or-clean, one-outcome}
-use Rattle.convert.specs.Convert.{scsiOffence, put, heard, outcome, toScsi}
-use Rattle.convert.specs.declared.Converted.the-variants as converted
-use Rattle.convert.specs.declared.Converted.{Converted}
+use Rattle.convert.proofs.Outcomes.{or-clean}
+use Rattle.convert.specs.Convert.{scsiOffence, heard, outcome, toScsi}
 use Rattle.device.specs.declared.Device.{Device}
 use Rattle.exchange.proofs.Device.{sends-its-page}
 use Rattle.exchange.proofs.Exchange.{or-both}
+use Rattle.exchange.proofs.Lent.{laid-front, front, fits-in, converts}
 use Rattle.offences.specs.declared.Offence.the-variants.{Clean}
-use Rattle.offences.specs.declared.Offence.{Offence}
-use Rattle.paper.proofs.Output.{written-done, one-output}
+use Rattle.paper.proofs.Output.{one-output}
 use Rattle.paper.specs.Answers.{numberOf}
 use Rattle.paper.specs.Output.{output, written}
 use Rattle.paper.specs.Registers.{Registers}
@@ -49,29 +46,13 @@ use Rattle.demands.proofs.Runs.{run-leaves}
 -- ## Bytes that have room
 
 module _ (bytes buf : List ℕ) (size : ℕ) (long : size ≡ length bytes) (room : size ≤ length buf) where
-  abbrev put-front : List ℕ
-  put-front = bytes ++ drop (length bytes) buf
-
-  front : take size put-front ≡ bytes
-  front = take-at bytes (drop (length bytes) buf) size (sym long)
-
-  fits-in : said Done (output size put-front) ≡ written bytes buf
-  fits-in = written-done bytes buf size long room put-front refl
-
-  converts : (f : Offence) → f ≡ Clean → (c : Converted) (out : List ℕ) → heard c out ≡ outcome f bytes buf
-      → (c ≡ converted.Done size) × (take size out ≡ bytes)
-  converts f clean c out so =
-      let here : heard (converted.Done size) put-front ≡ outcome f bytes buf =
-      (λ i. tells (fits-in i .number) (put (fits-in i .state))) ∙ ap (λ (x : Offence). outcome x bytes buf) (sym clean) in
-      let one = one-outcome _ c (converted.Done size) out put-front so here in
-      (one .0, ap (take size) (one .1) ∙ front)
-
   sends : (due : Bool) → due ≡ false → (b : Answer) (count : ℕ) (out : List ℕ)
       → said b (output count out) ≡ cond due (tells 4 (output 0 buf)) (written bytes buf)
       → (numberOf b ≡ 0) × (count ≡ size) × (take size out ≡ bytes)
   sends due ok b count out so =
-      let one = one-output _ b Done count size out put-front (so ∙ ap (λ (t : Bool). cond t (tells 4 (output 0 buf)) (written bytes buf)) ok) fits-in in
-      (ap numberOf (one .0), one .1, ap (take size) (one .2) ∙ front)
+      let told = so ∙ ap (λ (t : Bool). cond t (tells 4 (output 0 buf)) (written bytes buf)) ok in
+      let one = one-output _ b Done count size out (laid-front bytes buf size long) told (fits-in bytes buf size long room) in
+      (ap numberOf (one .0), one .1, ap (take size) (one .2) ∙ front bytes buf size long)
 
 -- ## What 12h leaves, for a SCSI request with the registers' fields
 

@@ -8,11 +8,10 @@ use native.Mathlib.Omega.{arith}
 use lib.Dec.{eqb, ltb}
 use lib.ListN.{length, getD, replicate, length-append, length-replicate, getD-replicate}
 use lib.Seq.{getD-append-add}
-use borrow.Author.Tests.{eqb-true, le-ltb, le-leb, eq-eqb, ltb-true}
+use borrow.Author.Tests.{eqb-true, le-ltb, le-leb, eq-eqb}
 use Rattle.convert.proofs.Outcomes.{unless-clean, or-clean, fits-clean, turned-laid, length-turned}
 use Rattle.convert.specs.Convert.{listIn, turned, paged, scsiOffence, fitsPages, ataOffence}
 use Rattle.layout.specs.Bytes.{headerIn, laid, returnedOf}
-use Rattle.layout.specs.declared.Descriptor.{Descriptor}
 use Rattle.layout.specs.declared.Header.{Header}
 use Rattle.offences.specs.Checks.{baseOf, descriptorAt, lastBefore}
 use Rattle.offences.specs.First.{unless, _orElse_}
@@ -28,22 +27,16 @@ use Rattle.reader.proofs.Taken.{Listed}
 use Rattle.reader.specs.Judgement as page
 use Rattle.reader.specs.Page.{pageOffence}
 use Rattle.reader.specs.declared.Slot.the-variants.{Outside, Holds}
+use Rattle.request.specs.Requests.{filterOf, reportTypeOf, pagesOf, startOf}
 use Rattle.request.specs.declared.Request.{Request}
+use Rattle.scsi.proofs.Data.{slots-alike}
 use Rattle.scsi.proofs.LayoutTheorem as scsi·theorem
 use Rattle.scsi.proofs.Taken as scsi·taken
 use Rattle.scsi.specs.Data.{wholeOf, tornOf, dataOffence}
 use Rattle.scsi.specs.Judgement as scsi
 use Rattle.words.specs.declared.Order.the-variants.{Little, Big}
-use Rattle.exchange.specs.Exchange.{Page-holds, Data-holds, Asks-as, Page-to-data, Data-to-page, There-and-back, Back-and-there}
-use Rattle.exchange.proofs.Kept.{Fits-in, bytes-fit, header-kept, descriptor-kept, fits-kept, list-kept}
-
--- what stands at a number below n, alike in both
-slots-alike : (m n : ℕ) → m ≡ n → (d e : Descriptor) (k : ℕ) → (k < n → d ≡ e) → cond (ltb k m) (Holds d) Outside ≡ cond (ltb k n) (Holds e) Outside
-slots-alike m n same d e k kept = ap (λ (x : ℕ). cond (ltb k x) (Holds d) Outside) same ∙ by-test (ltb k n) refl
-  where
-    by-test : (b : Bool) → ltb k n ≡ b → cond b (Holds d) Outside ≡ cond b (Holds e) Outside
-    by-test true y = ap Holds (kept (ltb-true k n y))
-    by-test false y = refl
+use Rattle.exchange.specs.Exchange.{Page-holds, Data-holds, Asks-as, Page-to-data, Data-to-page, forPages, There-and-back, Back-and-there}
+use Rattle.exchange.proofs.Kept.{Fits-in, bytes-fit, listed-as, header-kept, descriptor-kept, fits-kept, list-kept}
 
 -- ## A page as data
 
@@ -81,12 +74,16 @@ module _ (s : List ℕ) (q : Request) (r : Query) (n : ℕ) (is-n : headerIn Lit
   fields : (r .filter ≤ 1) × (r .report ≤ 1)
   fields = (subst (λ (x : ℕ). x ≤ 1) (alike .filter) (was .asked .0), subst (λ (x : ℕ). x ≤ 1) (alike .report) (was .asked .1))
 
-  data-list : (k : ℕ) → k < n → Listed (asked r) (lastBefore Big data-of k) (descriptorAt Big data-of k)
-  data-list k l =
-      subst (λ (t : List ℕ). Listed (asked r) (lastBefore Big t k) (descriptorAt Big t k)) data-laid
-      (list-kept Little Big s n fits [] q (asked r)
-      (filter-asked 0 r (fields .0) (fields .1) ∙ sym (alike .filter)) (report-asked 0 r (fields .0) (fields .1) ∙ sym (alike .report)) (omega (arith, alike .start))
-      (λ j h. was .list j (rw returned h)) k l)
+  data-list : (x : Request) → filterOf x ≡ filterOf q → reportTypeOf x ≡ reportTypeOf q → startOf x ≤ startOf q
+      → (k : ℕ) → k < n → Listed x (lastBefore Big data-of k) (descriptorAt Big data-of k)
+  data-list x same-filter same-type not-above k l =
+      subst (λ (t : List ℕ). Listed x (lastBefore Big t k) (descriptorAt Big t k)) data-laid
+      (list-kept Little Big s n fits [] x (λ j h. listed-as q x same-filter same-type not-above _ _ (was .list j (rw returned h))) k l)
+
+  asked-list : (k : ℕ) → k < n → Listed (asked r) (lastBefore Big data-of k) (descriptorAt Big data-of k)
+  asked-list =
+      data-list (asked r) (filter-asked 0 r (fields .0) (fields .1) ∙ sym (alike .filter)) (report-asked 0 r (fields .0) (fields .1) ∙ sym (alike .report))
+      (omega (arith, alike .start))
 
   keeps : scsi·taken.Taken Big data-of r
   keeps =
@@ -94,7 +91,7 @@ module _ (s : List ℕ) (q : Request) (r : Query) (n : ℕ) (is-n : headerIn Lit
         there = omega (arith, long);
         fields = fields;
         returned = ap (λ (h : Header). h .returned) data-header ∙ returned ∙ sym data-number;
-        list = λ k l. data-list k (rw (data-number, whole) at l);
+        list = λ k l. asked-list k (rw (data-number, whole) at l);
         most = rw data-number (omega (arith, long));
       }
 
@@ -130,9 +127,6 @@ module _ (s : List ℕ) (r : Query) (p n : ℕ) (is-n : headerIn Big s .number �
   abbrev page-of : List ℕ
   page-of = paged p s
 
-  abbrev q : Request
-  q = askedFor p r
-
   abbrev zeros : List ℕ
   zeros = replicate (512 * p - baseOf n) 0
 
@@ -164,16 +158,11 @@ module _ (s : List ℕ) (r : Query) (p n : ℕ) (is-n : headerIn Big s .number �
   page-returned : headerIn Little page-of .returned ≡ n
   page-returned = ap (λ (h : Header). h .returned) page-header ∙ data-was .returned ∙ is-n
 
-  page-number : headerIn Little page-of .number ≡ n
+  pub page-number : headerIn Little page-of .number ≡ n
   page-number = ap (λ (h : Header). h .number) page-header ∙ is-n
 
   page-descriptor : (k : ℕ) → k < n → descriptorAt Little page-of k ≡ descriptorAt Big s k
   page-descriptor k l = ap (λ (t : List ℕ). descriptorAt Little t k) (sym page-laid) ∙ descriptor-kept Big Little s n fits zeros k l
-
-  page-list : (k : ℕ) → k < n → Listed q (lastBefore Little page-of k) (descriptorAt Little page-of k)
-  page-list k l =
-      subst (λ (t : List ℕ). Listed q (lastBefore Little t k) (descriptorAt Little t k)) page-laid
-      (list-kept Big Little s n fits zeros (asked r) q refl refl (omega arith) (λ j h. data-was .list j (rw (is-n, data-whole) h)) k l)
 
   padding : (i : ℕ) → i < length page-of - baseOf n → getD page-of (baseOf n + i) 0 ≡ 0
   padding i l =
@@ -181,37 +170,49 @@ module _ (s : List ℕ) (r : Query) (p n : ℕ) (is-n : headerIn Big s .number �
       ∙ subst (λ (m : ℕ). getD (laid Little (headerIn Big s) (listIn Big s n) ++ zeros) (m + i) 0 ≡ 0) front-long
       (getD-append-add (laid Little (headerIn Big s) (listIn Big s n)) zeros i 0 ∙ getD-replicate (512 * p - baseOf n) i 0 0 (omega (arith, page-long)))
 
-  page-keeps : page·taken.Taken Little page-of q
-  page-keeps =
-      record {
-        asked = (
-          subst (λ (x : ℕ). x ≤ 1) (sym (filter-asked p r (data-was .fields .0) (data-was .fields .1))) (data-was .fields .0),
-          subst (λ (x : ℕ). x ≤ 1) (sym (report-asked p r (data-was .fields .0) (data-was .fields .1))) (data-was .fields .1),
-          omega (arith, few),
-        );
-        long = page-long;
-        returned = page-returned ∙ sym (ap (λ (m : ℕ). returnedOf m p) page-number ∙ omega (arith, few));
-        list = λ k l. page-list k (rw page-returned at l);
-        padding = subst (λ (m : ℕ). (i : ℕ) → i < length page-of - baseOf m → getD page-of (baseOf m + i) 0 ≡ 0) (sym page-returned) padding;
-      }
-
-  as-page : Page-holds page-of q (headerIn Big s) (scsi.slotOf Big s)
-  as-page =
-      record {
-        taken = page·taken.takes Little page-of q page-keeps ∙ ap (λ (h : Header). tells 0 (page.header h)) page-header;
-        elements = λ k.
-            slots-alike (headerIn Little page-of .returned) n page-returned (descriptorAt Little page-of k) (descriptorAt Big s k) k (page-descriptor k)
-            ∙ ap (λ (m : ℕ). cond (ltb k m) (Holds (descriptorAt Big s k)) Outside) (sym (ap (λ (m : ℕ). wholeOf m (length s)) is-n ∙ data-whole));
-      }
-
   page-fits : Fits-in Little page-of n
   page-fits = subst (λ (t : List ℕ). Fits-in Little t n) page-laid (fits-kept Big Little s n fits zeros)
 
-  page-clean : pageOffence Little page-of q ≡ Clean
-  page-clean = page·theorem.heard-clean Little page-of q _ (sym (as-page .taken)) .0
+  -- for a request whose rules the list keeps
+  module _ (q : Request) (pages : pagesOf q ≡ p) (low : (filterOf q ≤ 1) × (reportTypeOf q ≤ 1))
+      (list : (k : ℕ) → k < n → Listed q (lastBefore Big s k) (descriptorAt Big s k)) where
+    page-list : (k : ℕ) → k < n → Listed q (lastBefore Little page-of k) (descriptorAt Little page-of k)
+    page-list k l =
+        subst (λ (t : List ℕ). Listed q (lastBefore Little t k) (descriptorAt Little t k)) page-laid
+        (list-kept Big Little s n fits zeros q list k l)
+
+    page-keeps : page·taken.Taken Little page-of q
+    page-keeps =
+        record {
+          asked = (low .0, low .1, omega (arith, few, pages));
+          long = page-long ∙ ap (λ (m : ℕ). 512 * m) (sym pages);
+          returned = page-returned ∙ sym (ap (λ (m : ℕ). returnedOf m (pagesOf q)) page-number ∙ omega (arith, few, pages));
+          list = λ k l. page-list k (rw page-returned at l);
+          padding = subst (λ (m : ℕ). (i : ℕ) → i < length page-of - baseOf m → getD page-of (baseOf m + i) 0 ≡ 0) (sym page-returned) padding;
+        }
+
+    as-page : Page-holds page-of q (headerIn Big s) (scsi.slotOf Big s)
+    as-page =
+        record {
+          taken = page·taken.takes Little page-of q page-keeps ∙ ap (λ (h : Header). tells 0 (page.header h)) page-header;
+          elements = λ k.
+              slots-alike (headerIn Little page-of .returned) n page-returned (descriptorAt Little page-of k) (descriptorAt Big s k) k (page-descriptor k)
+              ∙ ap (λ (m : ℕ). cond (ltb k m) (Holds (descriptorAt Big s k)) Outside) (sym (ap (λ (m : ℕ). wholeOf m (length s)) is-n ∙ data-whole));
+        }
+
+  own-page : Page-holds page-of (askedFor p r) (headerIn Big s) (scsi.slotOf Big s)
+  own-page =
+      as-page (askedFor p r) refl (
+        subst (λ (x : ℕ). x ≤ 1) (sym (filter-asked p r (data-was .fields .0) (data-was .fields .1))) (data-was .fields .0),
+        subst (λ (x : ℕ). x ≤ 1) (sym (report-asked p r (data-was .fields .0) (data-was .fields .1))) (data-was .fields .1),
+      )
+      (λ k l. listed-as (asked r) (askedFor p r) refl refl (omega arith) _ _ (data-was .list k (rw (is-n, data-whole) l)))
+
+  page-clean : pageOffence Little page-of (askedFor p r) ≡ Clean
+  page-clean = page·theorem.heard-clean Little page-of (askedFor p r) _ (sym (own-page .taken)) .0
 
 pub data-to-page : Data-to-page
-data-to-page s r p bytes clean = as-page s r p (headerIn Big s .number) refl (bytes-fit Big s (headerIn Big s .number) bytes) clean
+data-to-page s r p bytes clean = own-page s r p (headerIn Big s .number) refl (bytes-fit Big s (headerIn Big s .number) bytes) clean
 
 -- ## There and back
 
@@ -229,7 +230,10 @@ there-and-back s q r p bytes alike clean few =
     let fitting : fitsPages (wholeOf (headerIn Big t .number) (length t)) (headerIn Big t .number) p ≡ true =
     rw (number, eq-eqb _ _ whole-t, le-leb (n + 1) (16 * p) few) in
     let ok : ataOffence t r p ≡ Clean = or-both _ _ (data-clean s q r n refl fits alike clean) (ap (λ (b : Bool). unless b 4) fitting) in
-    let back = as-page t r p n number (data-fits s q r n refl fits alike clean) ok in (
+    let asks = was s q r n refl fits alike clean .asked in
+    let back =
+    as-page t r p n number (data-fits s q r n refl fits alike clean) ok (forPages p q) refl (asks .0, asks .1)
+    (data-list s q r n refl fits alike clean (forPages p q) refl refl (omega arith)) in (
       ok,
       record {
         taken = back .taken ∙ ap (λ (h : Header). tells 0 (page.header h)) (data-header s q r n refl fits alike clean);
@@ -249,7 +253,7 @@ back-and-there s r p bytes low clean =
       report = report-asked p r (was .fields .0) (was .fields .1);
       start = omega (arith, start-asked p r low);
     } in
-    let there = as-page s r p n refl fits clean in
+    let there = own-page s r p n refl fits clean in
     let number = page-number s r p n refl fits clean in
     let same : eqb (headerIn Little t .returned) (headerIn Little t .number) ≡ true = eq-eqb _ _ (page-returned s r p n refl fits clean ∙ sym number) in
     let ok : scsiOffence t (askedFor p r) ≡ Clean = or-both _ _ (page-clean s r p n refl fits clean) (ap (λ (b : Bool). unless b 4) same) in

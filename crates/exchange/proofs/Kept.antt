@@ -28,6 +28,19 @@ pub record Fits-in (o : Order) (s : List ℕ) (n : ℕ) : Type 0 where
 pub bytes-fit : (o : Order) (s : List ℕ) (n : ℕ) → Bytes s → Fits-in o s n
 bytes-fit o s n e = record { header = header-fits o s e; list = λ k l. descriptor-fits o (drop (baseOf k) s) (bytes-drop (baseOf k) s e) }
 
+-- a descriptor that keeps the rules of one request keeps those of another with its filter and report type, and a start that is not above
+pub listed-as : (p q : Request) → filterOf q ≡ filterOf p → reportTypeOf q ≡ reportTypeOf p → startOf q ≤ startOf p
+    → (last : ℕ) (d : Descriptor) → Listed p last d → Listed q last d
+listed-as p q same-filter same-type not-above last d was =
+    record {
+      some = was .some;
+      started = omega (arith, was .started);
+      rises = was .rises;
+      earned = was .earned;
+      typed = λ e. was .typed (sym same-type ∙ e);
+      filtered = λ e. was .filtered (sym same-filter ∙ e);
+    }
+
 module _ (from to : Order) (s : List ℕ) (n : ℕ) (fits : Fits-in from s n) (rest : List ℕ) where
   abbrev t : List ℕ
   t = laid to (headerIn from s) (listIn from s n) ++ rest
@@ -51,18 +64,8 @@ module _ (from to : Order) (s : List ℕ) (n : ℕ) (fits : Fits-in from s n) (r
     list = λ k l. subst DescriptorFits (sym (descriptor-kept k l)) (fits .list k l);
   }
 
-  -- a list that keeps the rules of one request keeps those of another with its filter and report type, and a start that is not above
-  pub list-kept : (p q : Request) → filterOf q ≡ filterOf p → reportTypeOf q ≡ reportTypeOf p → startOf q ≤ startOf p
-      → ((k : ℕ) → k < n → Listed p (lastBefore from s k) (descriptorAt from s k)) → (k : ℕ) → k < n → Listed q (lastBefore to t k) (descriptorAt to t k)
-  list-kept p q same-filter same-type below list k l =
-      let was = list k l in
-      let here : Listed q (lastBefore from s k) (descriptorAt from s k) =
-      record {
-        some = was .some;
-        started = omega (arith, was .started);
-        rises = was .rises;
-        earned = was .earned;
-        typed = λ e. was .typed (sym same-type ∙ e);
-        filtered = λ e. was .filtered (sym same-filter ∙ e);
-      } in
-      subst (λ (m : ℕ). Listed q m (descriptorAt to t k)) (sym (last-kept k l)) (subst (λ (x : Descriptor). Listed q (lastBefore from s k) x) (sym (descriptor-kept k l)) here)
+  pub list-kept : (q : Request) → ((k : ℕ) → k < n → Listed q (lastBefore from s k) (descriptorAt from s k))
+      → (k : ℕ) → k < n → Listed q (lastBefore to t k) (descriptorAt to t k)
+  list-kept q list k l =
+      subst (λ (m : ℕ). Listed q m (descriptorAt to t k)) (sym (last-kept k l))
+      (subst (λ (x : Descriptor). Listed q (lastBefore from s k) x) (sym (descriptor-kept k l)) (list k l))

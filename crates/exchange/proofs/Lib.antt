@@ -2,3 +2,4 @@
 pub mod Device
 pub mod Exchange
 pub mod Kept
+pub mod Lent

@@ -60,14 +60,18 @@ Data-to-page =
     (s : List ℕ) (r : Query) (p : ℕ) → Bytes s → ataOffence s r p ≡ Clean
     → Page-holds (paged p s) (askedFor p r) (headerIn Big s) (scsi.slotOf Big s)
 
--- ## "There and back"
+-- ## "there and back"
 
--- from a page, for any pages that its list fits
+-- the same request, for some pages
+abbrev pub forPages : ℕ → Request → Request
+forPages p q = record { feature = q .feature; count = record { 0 = p }; lba = q .lba }
+
+-- from a page, for any pages that its list fits, and whichever SCSI request it goes by
 abbrev pub There-and-back : Type 0
 There-and-back =
     (s : List ℕ) (q : Request) (r : Query) (p : ℕ) → Bytes s → Asks-as q r → scsiOffence s q ≡ Clean → headerIn Little s .number + 1 ≤ 16 * p
     → (ataOffence (turned Little Big s) r p ≡ Clean)
-    × Page-holds (paged p (turned Little Big s)) (askedFor p r) (headerIn Little s) (page.slotOf Little s)
+    × Page-holds (paged p (turned Little Big s)) (forPages p q) (headerIn Little s) (page.slotOf Little s)
 
 -- and from data
 abbrev pub Back-and-there : Type 0

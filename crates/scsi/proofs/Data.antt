@@ -1,11 +1,11 @@
 -- What of a list is there, the checks and the answer: a law for each way out.
 use Prim.Native.Nat.{ℕ, _%_, _≤_, _<_}
-use mathlib.Core.Bool.{Bool, true, false, not}
+use mathlib.Core.Bool.{Bool, true, false, cond, not}
 use mathlib.Core.List.{List}
-use mathlib.Core.Path.{_≡_, sym, ap, _∙_}
-use lib.Dec.{eqb}
+use mathlib.Core.Path.{_≡_, refl, sym, ap, _∙_}
+use lib.Dec.{eqb, ltb}
 use lib.ListN.{length}
-use borrow.Author.Tests.{le-leb, lt-leb, lt-ltb, le-ltb, eq-eqb, ne-eqb}
+use borrow.Author.Tests.{le-leb, lt-leb, lt-ltb, le-ltb, ltb-true, eq-eqb, ne-eqb}
 use Rattle.layout.specs.Bytes.{headerIn}
 use Rattle.layout.specs.declared.Descriptor.{Descriptor}
 use Rattle.layout.specs.declared.Header.{Header}
@@ -79,6 +79,14 @@ module _ (o : Order) (s : List ℕ) (q : Query) where
             is-t ∙ rw (is-f, is-torn, is-whole, is-h) (sym (rw (le-leb 32 (length s) long, sym is-b ∙ no, eq-eqb _ _ right)))
 
 -- ## A descriptor
+
+-- what stands at a number below n, alike in both
+pub slots-alike : (m n : ℕ) → m ≡ n → (d e : Descriptor) (k : ℕ) → (k < n → d ≡ e) → cond (ltb k m) (Holds d) Outside ≡ cond (ltb k n) (Holds e) Outside
+slots-alike m n same d e k kept = ap (λ (x : ℕ). cond (ltb k x) (Holds d) Outside) same ∙ by-test (ltb k n) refl
+  where
+    by-test : (b : Bool) → ltb k n ≡ b → cond b (Holds d) Outside ≡ cond b (Holds e) Outside
+    by-test true y = ap Holds (kept (ltb-true k n y))
+    by-test false y = refl
 
 module _ (o : Order) (s : List ℕ) (k : ℕ) (h : Header) (is-h : h ≡ headerIn o s) (whole : ℕ) (is-whole : whole ≡ wholeOf (h .number) (length s)) where
   there : whole ≡ wholeOf (headerIn o s .number) (length s)

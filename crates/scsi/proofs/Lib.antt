@@ -1,4 +1,4 @@
--- What is proved of the reader of SCSI's data.
+-- What is proved of the reader of SCSI data.
 pub mod Data
 pub mod Examples
 pub mod LayoutTheorem

@@ -1,12 +1,11 @@
 -- Reserved bytes are not looked at (specs/Promises). Data that looks alike has one header and the same whole descriptors; and these and the
 -- length are all that is read.
 use Prim.Native.Nat.{ℕ, _<_}
-use mathlib.Core.Bool.{Bool, true, false, cond, not}
+use mathlib.Core.Bool.{not}
 use mathlib.Core.List.{List}
-use mathlib.Core.Path.{_≡_, refl, ap, _∙_}
-use lib.Dec.{eqb, leb, ltb}
+use mathlib.Core.Path.{_≡_, _∙_}
+use lib.Dec.{eqb, leb}
 use lib.ListN.{length, drop}
-use borrow.Author.Tests.{ltb-true}
 use Rattle.layout.proofs.Reserved.{header-reserved, descriptor-reserved}
 use Rattle.layout.specs.Bytes.{headerIn}
 use Rattle.offences.proofs.Checks.{list-same}
@@ -14,12 +13,12 @@ use Rattle.offences.specs.Checks.{baseOf, descriptorAt}
 use Rattle.offences.specs.First.{unless, _orElse_}
 use Rattle.query.specs.Queries.{dueFour, asked}
 use Rattle.query.specs.declared.Query.{Query}
-use Rattle.reader.specs.declared.Slot.the-variants.{Outside, Holds}
 use Rattle.words.specs.declared.Order.{Order}
 use Rattle.scsi.specs.Data.{wholeOf, tornOf, contentsOf, dataOffence}
 use Rattle.scsi.specs.Judgement.{answerOf, readOf, slotOf}
 use Rattle.scsi.specs.Promises.{Reserved-unseen}
 use Rattle.scsi.specs.Reserved.{Looks-alike}
+use Rattle.scsi.proofs.Data.{slots-alike}
 
 module _ (o : Order) (s t : List ℕ) (alike : Looks-alike o s t) where
   abbrev n : ℕ
@@ -54,11 +53,9 @@ module _ (o : Order) (s t : List ℕ) (alike : Looks-alike o s t) where
     read-same = λ i. answerOf (offences-same i) (header-same i) (whole-same i) (tornOf (header-same i .number) (alike .long i))
 
   slot-same : (k : ℕ) → slotOf o s k ≡ slotOf o t k
-  slot-same k = held (ltb k whole) refl ∙ (λ i. cond (ltb k (whole-same i)) (Holds (descriptorAt o t k)) Outside)
-    where
-      held : (b : Bool) → ltb k whole ≡ b → cond b (Holds (descriptorAt o s k)) Outside ≡ cond b (Holds (descriptorAt o t k)) Outside
-      held true e = ap Holds (descriptor-same k (ltb-true k whole e))
-      held false e = refl
+  slot-same k =
+      slots-alike whole (wholeOf (headerIn o t .number) (length t)) whole-same (descriptorAt o s k) (descriptorAt o t k) k
+      (λ less. descriptor-same k (rw whole-same less))
 
 pub reserved-unseen : Reserved-unseen
 reserved-unseen o s t alike = (read-same o s t alike, slot-same o s t alike)
