@@ -23,7 +23,7 @@ use Rattle.words.specs.declared.Order.the-variants.{Big}
 use Rattle.writing.proofs.Puts.{puts-one, puts-more}
 use Rattle.writing.specs.Private.{Puts}
 use Rattle.contents.specs.Contents.{listText, refusedLine}
-use Rattle.contents.specs.DockContents.{dataFor, scsiReadingOf}
+use Rattle.contents.specs.DockContents.{scsiReadingFor, scsiReadingOf}
 use Rattle.contents.specs.Private.{slotAt}
 use Rattle.contents.specs.Promises.{Enough-for-data}
 use Rattle.contents.proofs.Contents.{length-list}
@@ -31,27 +31,27 @@ use Rattle.contents.proofs.Contents.{length-list}
 -- ## The text
 
 pub read-puts : (s : List ℕ) (h : Header) (whole : ℕ) (torn : Bool) (d x y : List ℕ) (at m r : ℕ) → Puts d at (listText h (slotAt Big s) whole) x m
-    → y ≡ stored x m (tallyLine whole (h .number) torn) → r ≡ ended x m (tallyLine whole (h .number) torn) → Puts d at (dataFor s (reading h whole torn)) y r
+    → y ≡ stored x m (tallyLine whole (h .number) torn) → r ≡ ended x m (tallyLine whole (h .number) torn) → Puts d at (scsiReadingFor s (reading h whole torn)) y r
 read-puts s h whole torn d x y at m r one is-y is-r =
     let T : List ℕ = tallyLine whole (h .number) torn in
     puts-more d x at m (listText h (slotOf Big s) whole) T y r (puts-one x y m r T is-y is-r) one
 
 module _ (s : List ℕ) (answer : Judgement) (d x : List ℕ) (at r : ℕ) where
-  pub data-accepted : (g : Reading) → answer ≡ Accepted g → Puts d at (dataFor s (reading (g .header) (g .whole) (g .torn))) x r
-      → Puts d at (dataFor s (heard answer .state)) x r
+  pub data-accepted : (g : Reading) → answer ≡ Accepted g → Puts d at (scsiReadingFor s (reading (g .header) (g .whole) (g .torn))) x r
+      → Puts d at (scsiReadingFor s (heard answer .state)) x r
   data-accepted g e so = rw e so
 
-  pub data-refused : (p : ℕ) → answer ≡ Refused p → x ≡ stored d at (refusedLine p) → r ≡ ended d at (refusedLine p) → Puts d at (dataFor s (heard answer .state)) x r
+  pub data-refused : (p : ℕ) → answer ≡ Refused p → x ≡ stored d at (refusedLine p) → r ≡ ended d at (refusedLine p) → Puts d at (scsiReadingFor s (heard answer .state)) x r
   data-refused p e is-x is-r = rw e (puts-one d x at r (refusedLine p) is-x is-r)
 
 pub data-puts : (bytes kept : List ℕ) (q : Query) (answer : Judgement) (d x : List ℕ) (at r : ℕ) → kept ≡ take 65536 bytes
-    → heard answer ≡ readOf Big kept q → Puts d at (dataFor kept (heard answer .state)) x r → Puts d at (scsiReadingOf bytes q) x r
+    → heard answer ≡ readOf Big kept q → Puts d at (scsiReadingFor kept (heard answer .state)) x r → Puts d at (scsiReadingOf bytes q) x r
 unfolding scsiReadingOf
 data-puts bytes kept q answer d x at r is-kept is-answer so = rw (is-answer, is-kept) at so
 
 -- ## How long: 65,536 bytes have 2,047 whole descriptors
 
-length-data : (s : List ℕ) (f : Offence) (h : Header) (whole : ℕ) (torn : Bool) → whole ≤ 2047 → length (dataFor s (answerOf f h whole torn .state)) ≤ 80000
+length-data : (s : List ℕ) (f : Offence) (h : Header) (whole : ℕ) (torn : Bool) → whole ≤ 2047 → length (scsiReadingFor s (answerOf f h whole torn .state)) ≤ 80000
 length-data s Clean h whole torn few =
     let L : List ℕ = listText h (slotOf Big s) whole in
     let T : List ℕ = tallyLine whole (h .number) torn in

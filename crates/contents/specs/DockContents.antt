@@ -10,10 +10,10 @@ use Rattle.contents.specs.Contents.{listText, refusedLine}
 
 -- "`9 at PLACE`, or `0`, the header's line and the descriptors' lines as `read` has them, then `cut K of N`, or `torn K of N` where a descriptor is
 -- cut through"
-abbrev pub dataFor : List ℕ → Values → List ℕ
-dataFor s (reading h whole torn) = listText h (slotOf Big s) whole ++ tallyLine whole (h .number) torn
-dataFor s (place p) = refusedLine p
+abbrev pub scsiReadingFor : List ℕ → Values → List ℕ
+scsiReadingFor s (reading h whole torn) = listText h (slotOf Big s) whole ++ tallyLine whole (h .number) torn
+scsiReadingFor s (place p) = refusedLine p
 
 -- the kept page has at most 65,536 bytes
 unfoldable pub scsiReadingOf : List ℕ → Query → List ℕ
-scsiReadingOf bytes q = dataFor (take 65536 bytes) (readOf Big (take 65536 bytes) q .state)
+scsiReadingOf bytes q = scsiReadingFor (take 65536 bytes) (readOf Big (take 65536 bytes) q .state)

@@ -3,7 +3,7 @@ ghost use mathlib.Core.Path.{_≡_};
 ghost use Rattle.scsi.specs.Judgement.{reading, heard};
 ghost use Rattle.writing.specs.Private as writing·private;
 ghost use Rattle.writing.specs.Writing.{storedIn, endedIn};
-ghost use Rattle.contents.specs.DockContents.{dataFor, scsiReadingOf};
+ghost use Rattle.contents.specs.DockContents.{scsiReadingFor, scsiReadingOf};
 use crate::put_list;
 use query::Query;
 use scsi::Judgement;
@@ -12,7 +12,7 @@ use words::Order;
 
 // What is there of the list, and how much of it that is.
 fn put_read(out: &mut [u8], at: usize, bytes: &[u8], r: Reading) -> usize
-    ensures { λ e. ⌜ writing·private.Puts (now (out .entry)) at (dataFor (now (bytes .entry)) (reading (r .header) (r .whole) (r .torn))) (now (out .exit)) e ⌝ }
+    ensures { λ e. ⌜ writing·private.Puts (now (out .entry)) at (scsiReadingFor (now (bytes .entry)) (reading (r .header) (r .whole) (r .torn))) (now (out .exit)) e ⌝ }
 {
     let h = r.header;
     let end = put_list(out, at, bytes, h, r.whole, Order::Big);
@@ -20,7 +20,7 @@ fn put_read(out: &mut [u8], at: usize, bytes: &[u8], r: Reading) -> usize
 }
 
 fn put_judged(out: &mut [u8], at: usize, bytes: &[u8], answer: Judgement) -> usize
-    ensures { λ r. ⌜ writing·private.Puts (now (out .entry)) at (dataFor (now (bytes .entry)) (heard answer .state)) (now (out .exit)) r ⌝ }
+    ensures { λ r. ⌜ writing·private.Puts (now (out .entry)) at (scsiReadingFor (now (bytes .entry)) (heard answer .state)) (now (out .exit)) r ⌝ }
 {
     match answer {
         Judgement::Accepted(r) => put_read(out, at, bytes, r),

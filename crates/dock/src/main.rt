@@ -1,4 +1,4 @@
-// Lists SCSI's data: that of each file that an argument names, after a line with its name, or without arguments that on standard input. If
+// Lists SCSI data: that of each file that an argument names, after a line with its name, or without arguments that on standard input. If
 // reading fails, it says so on standard error and lists nothing.
 use libc::STDIN_FILENO;
 use libc::STDOUT_FILENO;

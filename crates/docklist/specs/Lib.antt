@@ -1,4 +1,4 @@
--- The listing of SCSI's data.
+-- The listing of SCSI data.
 
 pub mod Docklist
 pub mod Promises

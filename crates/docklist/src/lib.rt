@@ -1,4 +1,4 @@
-// The listing of SCSI's data: a line for the header, one for each descriptor that is there whole, and what is missing; or the place of the first
+// The listing of SCSI data: a line for the header, one for each descriptor that is there whole, and what is missing; or the place of the first
 // offence.
 ghost use mathlib.Core.Path.{_≡_};
 ghost use Rattle.io.specs.Counts.{Counts};

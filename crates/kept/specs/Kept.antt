@@ -39,7 +39,7 @@ replaced kept written page = cond (leb (length written) (length page)) (length w
 abbrev pub keptWith : ℕ → List ℕ → List ℕ → ℕ
 keptWith kept written page = cond (eqb (length written) 0) kept (replaced kept written page)
 
--- request 2026-03: after 0 "these bytes are kept, in the kept page's place, though there be none"; "A refusal keeps what was kept"
+-- after 0 "these bytes are kept, in the kept page's place, also where there are none"; "A refusal keeps what was kept"
 abbrev pub keptData : ℕ → ℕ → List ℕ → List ℕ → ℕ
 keptData number kept written page = cond (eqb number 0) (replaced kept written page) kept
 

@@ -63,7 +63,7 @@ pub fn keep(page: &mut [u8], kept: usize, written: &[u8]) -> usize
     length
 }
 
-// Keeps the bytes that an answer wrote, though there be none, if its number is 0 and there is room; and returns how long the kept page then is.
+// Keeps the bytes that an answer wrote, also where there are none, if its number is 0 and there is room; and returns how long the kept page then is.
 pub fn keep_data(page: &mut [u8], kept: usize, number: u8, written: &[u8]) -> usize
     ensures { λ r. ⌜ (r ≡ keptData number kept (now (written .entry)) (now (page .entry))) × (now (page .exit) ≡ pageData number (now (written .entry)) (now (page .entry))) ⌝ }
 {

@@ -93,7 +93,7 @@ fn is_plain(d: Descriptor, request: Request, last: ElementId) -> bool
     request.takes_health(d.health)
 }
 
-// The descriptor at a place, whose bytes are there: in the order of ATA pages none is tested for.
+// The descriptor at a place, whose bytes are there, so that none is tested for.
 fn whole_at(page: &[u8], at: usize, o: Order) -> Descriptor
     requires { ⌜ at + 32 ≤ length (now page) ⌝ }
     ensures { λ r. ⌜ r ≡ descriptorIn o (drop at (now (page .entry))) ⌝ }

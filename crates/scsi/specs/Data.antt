@@ -1,4 +1,4 @@
--- Request 2026-03: SCSI's status data, in either byte order: what of its list is there, and its checks.
+-- Request 2026-03: SCSI data, in either byte order: what of its list is there, and its checks.
 use Prim.Native.Nat.{ℕ, _-_, _/_, _%_, min}
 use mathlib.Core.Bool.{Bool, not, _&&_}
 use mathlib.Core.List.{List}

@@ -1,4 +1,4 @@
--- What the reader of SCSI's data says on paper, and the descriptor at a number.
+-- What the reader of SCSI data says on paper, and the descriptor at a number.
 use Prim.Native.Nat.{ℕ}
 use mathlib.Core.Bool.{Bool, cond}
 use mathlib.Core.List.{List}

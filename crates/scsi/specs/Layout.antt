@@ -1,4 +1,4 @@
--- The layout of SCSI's data as the answer to a request: a list of rules, in the order in which a breach is reported, each with its place.
+-- The layout of SCSI data as the answer to a request: a list of rules, in the order in which a breach is reported, each with its place.
 use Prim.Native.Nat.{ℕ, _≤_}
 use mathlib.Core.List.{List, [], _∷_, _++_}
 use mathlib.Core.Path.{_≡_}
@@ -11,6 +11,8 @@ use Rattle.reader.specs.Layout.{Rule, rule, below, rulesAt}
 use Rattle.words.specs.declared.Order.{Order}
 use Rattle.scsi.specs.Data.{wholeOf}
 
+-- none of: "length below 32 or a request with a filter or report type due 4 (0), returned not N (4), the ATA reader's descriptor offences in its
+-- order, then the first byte past the list"; of the descriptors, those that are there whole
 abbrev pub dataRules : Order → List ℕ → Query → List Rule
 dataRules o s q =
     let h = headerIn o s in

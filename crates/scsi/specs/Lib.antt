@@ -1,4 +1,4 @@
--- The checks of SCSI's data, what its reader says, and what is reserved.
+-- The checks of SCSI data, what its reader says, and what is reserved.
 pub mod Data
 pub mod Judgement
 pub mod Layout

@@ -11,13 +11,17 @@ use Rattle.paper.specs.Output.{Output, output, written}
 use Rattle.paper.specs.Told.{Told, tells}
 use Rattle.query.specs.Queries.{dueFour, asked}
 use Rattle.query.specs.declared.Query.{Query}
+use Rattle.request.specs.declared.Request.{Request}
 use Rattle.words.specs.declared.Order.the-variants.{Big}
 use Rattle.words.specs.declared.Order.{Order}
 use Rattle.status.specs.Page.{listOf, headed}
 
 -- "N and returned both count the whole list, cut or not"
+abbrev pub headerFor : Device → Request → Header
+headerFor d r = let n = length (listOf d r) in headed n n (d .cells .note) (d .table .limit) (removedNumber d)
+
 abbrev pub sentHeader : Device → Query → Header
-sentHeader d q = let n = length (listOf d (asked q)) in headed n n (d .cells .note) (d .table .limit) (removedNumber d)
+sentHeader d q = headerFor d (asked q)
 
 -- "the same header and descriptors ..; nothing follows the last descriptor"
 unfoldable pub dataOf : Order → Device → Query → List ℕ

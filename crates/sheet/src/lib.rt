@@ -1,4 +1,4 @@
-// The text of a listing, of a page or of SCSI's data, in a lent buffer: the whole of it, or nothing where it does not fit.
+// The text of a listing, of a page or of SCSI data, in a lent buffer: the whole of it, or nothing where it does not fit.
 ghost use mathlib.Core.Path.{_≡_};
 ghost use lib.Dec.{leb};
 ghost use lib.ListN.{length};
