@@ -6,20 +6,12 @@
 static uint8_t input[65537]; // A byte more than may be converted, so that a longer input is seen.
 static uint8_t output[65536];
 
-static uint16_t number(const char *word)
-{
-    uint16_t value = 0;
-    for (; *word; word++)
-        value = 10 * value + *word - '0';
-    return value;
-}
-
 static struct outcome convert(size_t length, const char *pages)
 {
     if (length > 65536)
         return (struct outcome){9, 65536};
     if (pages)
-        return to_ata(output, sizeof output, input, length, 0, 0, 0, number(pages));
+        return to_ata(output, sizeof output, input, length, 0, 0, 0, decimal(pages));
     return to_scsi(output, sizeof output, input, length, 0, length / 512, 0);
 }
 

@@ -72,21 +72,13 @@ static int write_data(const char *name, size_t size)
     return write_file(name, data, size);
 }
 
-static size_t number(const char *word)
-{
-    size_t value = 0;
-    for (; *word; word++)
-        value = 10 * value + *word - '0';
-    return value;
-}
-
 int main(int count, char **words)
 {
     int trouble = 0;
     if (count != 3)
         return 2;
-    pages = number(words[1]);
-    elements = number(words[2]);
+    pages = decimal(words[1]);
+    elements = decimal(words[2]);
     make(0, 0, 0);
     trouble |= write_page("older");
     trouble |= write_data("data", 32 + 32 * elements);

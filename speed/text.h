@@ -1,4 +1,4 @@
-// Words and numbers as text: each is stored from a place on, and answers where it ends.
+// Words and numbers as text: each is stored from a place on, and answers where it ends. And a number from its digits.
 #include "libc.h"
 
 static inline char *put_words(char *to, const char *words)
@@ -26,6 +26,15 @@ static inline char *put_decimal(char *to, uint64_t number)
     size_t size = digits + sizeof digits - first;
     memcpy(to, first, size);
     return to + size;
+}
+
+// The number of a word of digits.
+static inline size_t decimal(const char *word)
+{
+    size_t number = 0;
+    for (; *word; word++)
+        number = 10 * number + *word - '0';
+    return number;
 }
 
 // Words and a number, as a line.

@@ -114,7 +114,7 @@ or-clean Clean b e = (refl, e)
 or-clean (At p) b e = absurd (clean-not p e)
 
 -- a page that is not refused: the list is there whole
-page-whole : (s : List ℕ) (q : Request) → scsiOffence s q ≡ Clean → baseOf (headerIn Little s .number) ≤ length s
+pub page-whole : (s : List ℕ) (q : Request) → scsiOffence s q ≡ Clean → baseOf (headerIn Little s .number) ≤ length s
 page-whole s q clean =
     let n = headerIn Little s .number in
     let both = or-clean (pageOffence Little s q) (unless (eqb (headerIn Little s .returned) n) 4) clean in

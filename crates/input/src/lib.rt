@@ -1,4 +1,4 @@
-// What a program reads: a file or standard input, to its end or until the buffer is full.
+// What a program reads: a file or standard input, to its end or until the buffer is full; and the name of such a file.
 ghost use Rattle.io.specs.Counts.{Counts};
 use libc::STDOUT_FILENO;
 
@@ -46,12 +46,12 @@ pub fn read_file(i: usize, buf: &mut [u8]) -> Input
             failed: true,
         };
     }
-    let page = read_whole(fd, buf);
-    if page.failed {
+    let whole = read_whole(fd, buf);
+    if whole.failed {
         os::fail(&path[..length]);
     }
     libc::close(fd);
-    page
+    whole
 }
 
 // Writes the name itself, and what ends it.

@@ -42,20 +42,6 @@ fn answer(outcome: Converted, out: &[u8]) {
     }
 }
 
-// A page as the answer to the listing's request.
-fn to_scsi(page: &[u8]) {
-    let pages = PageCount((page.len() / 512 % 65536) as u16);
-    let mut out = room();
-    let outcome = convert::to_scsi(page, request::request_for(pages), &mut out);
-    answer(outcome, &out);
-}
-
-fn to_ata(bytes: &[u8], pages: PageCount) {
-    let mut out = room();
-    let outcome = convert::to_ata(bytes, query::plain(), pages, &mut out);
-    answer(outcome, &out);
-}
-
 fn digit(word: &[u8], place: usize) -> u16 {
     (slices::byte_at(word, place) % 16) as u16
 }
@@ -71,14 +57,19 @@ fn number(word: &[u8]) -> u16 {
     digit(word, 0) % 10 * 100 + digit(word, 1) % 10 * 10 + digit(word, 2) % 10
 }
 
-fn turn(bytes: &[u8]) {
-    if os::arg_count() < 2 {
-        to_scsi(bytes);
-        return;
-    }
+fn to_scsi(input: &[u8]) {
+    let mut out = room();
+    let outcome = turning::to_scsi(input, &mut out);
+    answer(outcome, &out);
+}
+
+fn to_ata(input: &[u8]) {
     let mut word = io::buffer();
     let length = os::arg(1, &mut word);
-    to_ata(bytes, PageCount(number(&word[..length])));
+    let pages = PageCount(number(&word[..length]));
+    let mut out = room();
+    let outcome = turning::to_ata(input, pages, &mut out);
+    answer(outcome, &out);
 }
 
 fn main() {
@@ -89,9 +80,9 @@ fn main() {
         return;
     }
     let n = read.count;
-    if 65536 < n {
-        refuse(65536);
-        return;
+    if os::arg_count() < 2 {
+        to_scsi(&buf[..n]);
+    } else {
+        to_ata(&buf[..n]);
     }
-    turn(&buf[..n]);
 }

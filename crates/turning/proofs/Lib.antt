@@ -1,0 +1,2 @@
+-- What is proved of a file's conversion.
+pub mod Turning

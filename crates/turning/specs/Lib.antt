@@ -1,0 +1,3 @@
+-- A file's conversion.
+pub mod Promises
+pub mod Turning
