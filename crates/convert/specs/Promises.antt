@@ -29,7 +29,7 @@ Data-bytes = (from to : Order) (s : List ℕ) → length (turned from to s) ≡ 
 abbrev pub Page-bytes : Type 0
 Page-bytes = (s : List ℕ) (q : Query) (p : ℕ) → ataOffence s q p ≡ Clean → length (paged p s) ≡ 512 * p
 
--- "Reserved bytes become zero": of each byte of the header and of the descriptors all is looked at
+-- "Reserved bytes become zero": of each byte of the header and of the descriptors all is looked at. A page is these, and zeros
 abbrev pub Reserved-zeroed : Type 0
 Reserved-zeroed =
     (from to : Order) (s : List ℕ)

@@ -51,7 +51,7 @@ module _ (bytes buf : List ℕ) (size : ℕ) (long : size ≡ length bytes) (roo
       → (numberOf b ≡ 0) × (count ≡ size) × (take size out ≡ bytes)
   sends due ok b count out so =
       let told = so ∙ ap (λ (t : Bool). cond t (tells 4 (output 0 buf)) (written bytes buf)) ok in
-      let one = one-output _ b Done count size out (laid-front bytes buf size long) told (fits-in bytes buf size long room) in
+      let one = one-output _ b Done count size out (laid-front bytes buf) told (fits-in bytes buf size long room) in
       (ap numberOf (one .0), one .1, ap (take size) (one .2) ∙ front bytes buf size long)
 
 -- ## What 12h leaves, for a SCSI request with the registers' fields

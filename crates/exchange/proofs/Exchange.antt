@@ -35,7 +35,7 @@ use Rattle.scsi.proofs.Taken as scsi·taken
 use Rattle.scsi.specs.Data.{wholeOf, tornOf, dataOffence}
 use Rattle.scsi.specs.Judgement as scsi
 use Rattle.words.specs.declared.Order.the-variants.{Little, Big}
-use Rattle.exchange.specs.Exchange.{Page-holds, Data-holds, Asks-as, Page-to-data, Data-to-page, forPages, There-and-back, Back-and-there}
+use Rattle.exchange.specs.Exchange.{Page-holds, Data-holds, Asks-as, Page-to-data, Data-to-page, withPages, There-and-back, Back-and-there}
 use Rattle.exchange.proofs.Kept.{Fits-in, bytes-fit, listed-as, header-kept, descriptor-kept, fits-kept, list-kept}
 
 -- ## A page as data
@@ -232,8 +232,8 @@ there-and-back s q r p bytes alike clean few =
     let ok : ataOffence t r p ≡ Clean = or-both _ _ (data-clean s q r n refl fits alike clean) (ap (λ (b : Bool). unless b 4) fitting) in
     let asks = was s q r n refl fits alike clean .asked in
     let back =
-    as-page t r p n number (data-fits s q r n refl fits alike clean) ok (forPages p q) refl (asks .0, asks .1)
-    (data-list s q r n refl fits alike clean (forPages p q) refl refl (omega arith)) in (
+    as-page t r p n number (data-fits s q r n refl fits alike clean) ok (withPages p q) refl (asks .0, asks .1)
+    (data-list s q r n refl fits alike clean (withPages p q) refl refl (omega arith)) in (
       ok,
       record {
         taken = back .taken ∙ ap (λ (h : Header). tells 0 (page.header h)) (data-header s q r n refl fits alike clean);

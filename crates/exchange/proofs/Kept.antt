@@ -1,7 +1,7 @@
 -- What a conversion keeps, in either direction: the header's numbers and each descriptor, and so the rules of the list.
-use Prim.Native.Nat.{ℕ, zero, suc, _+_, _≤_, _<_}
+use Prim.Native.Nat.{ℕ, _+_, _≤_, _<_}
 use mathlib.Core.List.{List, _++_}
-use mathlib.Core.Path.{_≡_, refl, sym, ap, _∙_, subst}
+use mathlib.Core.Path.{_≡_, sym, _∙_, subst}
 use native.Mathlib.Omega.{arith}
 use lib.ListN.{drop}
 use Rattle.convert.proofs.Turned.{length-list, list-at}
@@ -10,6 +10,7 @@ use Rattle.layout.proofs.Fits.{header-fits, descriptor-fits}
 use Rattle.layout.specs.Bytes.{headerIn, laid}
 use Rattle.layout.specs.Promises.{HeaderFits, DescriptorFits}
 use Rattle.layout.specs.declared.Descriptor.{Descriptor}
+use Rattle.offences.proofs.Checks.{before-same}
 use Rattle.offences.proofs.Laid.{laid-header, laid-descriptor}
 use Rattle.offences.specs.Checks.{baseOf, descriptorAt, lastBefore}
 use Rattle.reader.proofs.Taken.{Listed}
@@ -55,8 +56,7 @@ module _ (from to : Order) (s : List ℕ) (n : ℕ) (fits : Fits-in from s n) (r
       ∙ list-at from s n k l
 
   last-kept : (k : ℕ) → k < n → lastBefore to t k ≡ lastBefore from s k
-  last-kept zero l = refl
-  last-kept (suc k) l = ap (λ (d : Descriptor). d .id .0) (descriptor-kept k (omega arith))
+  last-kept k l = before-same to from t s k (λ j h. descriptor-kept j (omega arith))
 
   pub fits-kept : Fits-in to t n
   fits-kept = record {

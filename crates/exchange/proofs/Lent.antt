@@ -24,36 +24,37 @@ use Rattle.query.specs.Queries.{askedFor}
 use Rattle.reader.specs.Judgement as page
 use Rattle.scsi.specs.Judgement as scsi
 use Rattle.words.specs.declared.Order.the-variants.{Little, Big}
-use Rattle.exchange.specs.Exchange.{Page-holds, Data-holds, forPages}
+use Rattle.exchange.specs.Exchange.{Page-holds, Data-holds, withPages}
 use Rattle.exchange.specs.Lent.{Page-turned-back, Data-turned-back}
 use Rattle.exchange.proofs.Exchange.{page-number, there-and-back, back-and-there}
 use Rattle.exchange.proofs.Kept.{bytes-fit}
 
 -- ## Bytes that have room
 
-module _ (bytes buf : List ℕ) (size : ℕ) (long : size ≡ length bytes) where
+module _ (bytes buf : List ℕ) where
   abbrev pub laid-front : List ℕ
   laid-front = bytes ++ drop (length bytes) buf
 
-  pub front : take size laid-front ≡ bytes
-  front = take-at bytes (drop (length bytes) buf) size (sym long)
+  module _ (size : ℕ) (long : size ≡ length bytes) where
+    pub front : take size laid-front ≡ bytes
+    front = take-at bytes (drop (length bytes) buf) size (sym long)
 
-  module _ (room : size ≤ length buf) where
-    pub fits-in : said answers.Done (output size laid-front) ≡ written bytes buf
-    fits-in = written-done bytes buf size long room laid-front refl
+    module _ (room : size ≤ length buf) where
+      pub fits-in : said answers.Done (output size laid-front) ≡ written bytes buf
+      fits-in = written-done bytes buf size long room laid-front refl
 
-    pub converts : (f : Offence) → f ≡ Clean → (c : Converted) (out : List ℕ) → heard c out ≡ outcome f bytes buf → (c ≡ Done size) × (take size out ≡ bytes)
-    converts f clean c out so =
-        let here : heard (Done size) laid-front ≡ outcome f bytes buf =
-        (λ i. tells (fits-in i .number) (put (fits-in i .state))) ∙ ap (λ (x : Offence). outcome x bytes buf) (sym clean) in
-        let one = one-outcome _ c (Done size) out laid-front so here in
-        (one .0, ap (take size) (one .1) ∙ front)
+      pub converts : (f : Offence) → f ≡ Clean → (c : Converted) (out : List ℕ) → heard c out ≡ outcome f bytes buf → (c ≡ Done size) × (take size out ≡ bytes)
+      converts f clean c out so =
+          let here : heard (Done size) laid-front ≡ outcome f bytes buf =
+          (λ i. tells (fits-in i .number) (put (fits-in i .state))) ∙ ap (λ (x : Offence). outcome x bytes buf) (sym clean) in
+          let one = one-outcome _ c (Done size) out laid-front so here in
+          (one .0, ap (take size) (one .1) ∙ front)
 
 -- ## What was answered 0
 
 module _ (bytes buf out : List ℕ) (size : ℕ) where
   abbrev told : Bool → Told Output
-  told t = cond t (tells 7 (output 0 buf)) (tells 0 (output (length bytes) (bytes ++ drop (length bytes) buf)))
+  told t = cond t (tells 7 (output 0 buf)) (tells 0 (output (length bytes) (laid-front bytes buf)))
 
   put-in : Outcome → Output
   put-in (put o) = o
@@ -63,10 +64,10 @@ module _ (bytes buf out : List ℕ) (size : ℕ) where
   unfolding put-in
   by-test true e = let no : _≡_ {A = ℕ} 0 7 = ap (λ (t : Told Outcome). t .number) e in absurd (omega arith)
   by-test false e =
-      let same : output size out ≡ output (length bytes) (bytes ++ drop (length bytes) buf) = ap (λ (t : Told Outcome). put-in (t .state)) e in
+      let same : output size out ≡ output (length bytes) (laid-front bytes buf) = ap (λ (t : Told Outcome). put-in (t .state)) e in
       (λ i. take (same i .count) (same i .buffer)) ∙ front bytes buf (length bytes) refl
 
-  pub converted : (f : Offence) → heard (Done size) out ≡ outcome f bytes buf → (f ≡ Clean) × (take size out ≡ bytes)
+  converted : (f : Offence) → heard (Done size) out ≡ outcome f bytes buf → (f ≡ Clean) × (take size out ≡ bytes)
   converted (At p) so = let no : _≡_ {A = ℕ} 0 9 = ap (λ (t : Told Outcome). t .number) so in absurd (omega arith)
   converted Clean so = (refl, by-test (ltb (length buf) (length bytes)) so)
 
@@ -80,7 +81,7 @@ page-turned-back s q room out size bytes first r p space back c alike second few
     let so : heard c back ≡ outcome (ataOffence there r p) (paged p there) space =
     second ∙ (λ i. outcome (ataOffence (is-data i) r p) (paged p (is-data i)) space) in
     let (done, is-page) = converts (paged p there) space (512 * p) (sym (page-bytes there r p ok)) wide _ ok c back so in
-    (done, subst (λ (t : List ℕ). Page-holds t (forPages p q) (headerIn Little s) (page.slotOf Little s)) (sym is-page) holds)
+    (done, subst (λ (t : List ℕ). Page-holds t (withPages p q) (headerIn Little s) (page.slotOf Little s)) (sym is-page) holds)
 
 pub data-turned-back : Data-turned-back
 data-turned-back s r p room out size bytes low first space back c second wide =

@@ -62,16 +62,16 @@ Data-to-page =
 
 -- ## "there and back"
 
--- the same request, for some pages
-abbrev pub forPages : ℕ → Request → Request
-forPages p q = record { feature = q .feature; count = record { 0 = p }; lba = q .lba }
+-- the same request with another count of pages
+abbrev pub withPages : ℕ → Request → Request
+withPages p q = record { feature = q .feature; count = record { 0 = p }; lba = q .lba }
 
--- from a page, for any pages that its list fits, and whichever SCSI request it goes by
+-- from a page, for any pages that its list fits, and whichever such SCSI request it goes by
 abbrev pub There-and-back : Type 0
 There-and-back =
     (s : List ℕ) (q : Request) (r : Query) (p : ℕ) → Bytes s → Asks-as q r → scsiOffence s q ≡ Clean → headerIn Little s .number + 1 ≤ 16 * p
     → (ataOffence (turned Little Big s) r p ≡ Clean)
-    × Page-holds (paged p (turned Little Big s)) (forPages p q) (headerIn Little s) (page.slotOf Little s)
+    × Page-holds (paged p (turned Little Big s)) (withPages p q) (headerIn Little s) (page.slotOf Little s)
 
 -- and from data
 abbrev pub Back-and-there : Type 0

@@ -103,15 +103,15 @@ module _ (o : Order) (s : List ℕ) (q : Request) (count : ℕ) where
 
 -- ## The same descriptors below a number
 
-module _ (o : Order) (s t : List ℕ) where
+module _ (o p : Order) (s t : List ℕ) where
   abbrev Same-below : ℕ → Type 0
-  Same-below n = (k : ℕ) → k < n → descriptorAt o s k ≡ descriptorAt o t k
+  Same-below n = (k : ℕ) → k < n → descriptorAt o s k ≡ descriptorAt p t k
 
-  pub before-same : (k : ℕ) → Same-below k → lastBefore o s k ≡ lastBefore o t k
+  pub before-same : (k : ℕ) → Same-below k → lastBefore o s k ≡ lastBefore p t k
   before-same zero same = refl
   before-same (suc k) same = ap (λ (d : Descriptor). d .id .0) (same k (omega arith))
 
-  pub list-same : (n : ℕ) → Same-below n → (q : Request) → firstBelow n (offenceAt o s q) ≡ firstBelow n (offenceAt o t q)
+  pub list-same : (n : ℕ) → Same-below n → (q : Request) → firstBelow n (offenceAt o s q) ≡ firstBelow n (offenceAt p t q)
   list-same n same q =
-      first-same (offenceAt o s q) (offenceAt o t q) n
+      first-same (offenceAt o s q) (offenceAt p t q) n
       (λ k less i. checkOf q (before-same k (λ j h. same j (omega arith)) i) (baseOf k) (same k less i))

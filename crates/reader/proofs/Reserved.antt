@@ -45,7 +45,7 @@ module _ (o : Order) (s t : List ℕ) (alike : Looks-alike o s t) where
   descriptor-same k = descriptor-reserved o (drop (baseOf k) s) (drop (baseOf k) t) (list-alike k)
 
   pub last-same : (k : ℕ) → lastBefore o s k ≡ lastBefore o t k
-  last-same k = before-same o s t k (λ j less. descriptor-same j)
+  last-same k = before-same o o s t k (λ j less. descriptor-same j)
 
   module _ (q : Request) where
     padding-same : (k : ℕ) → paddingAt s (baseOf n) k ≡ paddingAt t (baseOf n) k
@@ -53,7 +53,7 @@ module _ (o : Order) (s t : List ℕ) (alike : Looks-alike o s t) where
 
     contents-same : contentsOf o s q n ≡ contentsOf o t q (headerIn o t .returned)
     contents-same =
-        (λ i. list-same o s t n (λ k less. descriptor-same k) q i orElse firstBelow (alike .long i - baseOf n) (λ k. padding-same k i))
+        (λ i. list-same o o s t n (λ k less. descriptor-same k) q i orElse firstBelow (alike .long i - baseOf n) (λ k. padding-same k i))
         ∙ ap (λ (h : Header). contentsOf o t q (h .returned)) header-same
 
     offences-same : pageOffence o s q ≡ pageOffence o t q

@@ -39,7 +39,7 @@ module _ (o : Order) (s t : List ℕ) (alike : Looks-alike o s t) where
   module _ (q : Query) where
     contents-same : contentsOf o s q n whole ≡ contentsOf o t q (headerIn o t .number) (wholeOf (headerIn o t .number) (length t))
     contents-same =
-        (λ i. list-same o s t whole descriptor-same (asked q) i orElse unless (leb (alike .long i) (baseOf n)) (baseOf n))
+        (λ i. list-same o o s t whole descriptor-same (asked q) i orElse unless (leb (alike .long i) (baseOf n)) (baseOf n))
         ∙ (λ i. contentsOf o t q (header-same i .number) (whole-same i))
 
     offences-same : dataOffence o s q ≡ dataOffence o t q

@@ -1,4 +1,4 @@
--- What holds of every file's conversion; that no second answer fits, and that a refusal leaves every byte, is said of any conversion
+-- What holds of every file's conversion; that no second answer fits, and that a refusal leaves every byte, is said of any outcome
 -- (convert/specs/Promises). It is a statement; proofs/ has the proof under the same name in lower case.
 use Prim.Native.Nat.{ℕ, _≤_}
 use mathlib.Core.List.{List}

@@ -1,22 +1,24 @@
 -- Request 2026-03, `./recorder convert`: what a file is converted to, and the lent buffer.
 use Prim.Native.Nat.{ℕ}
-use mathlib.Core.Bool.{cond}
 use mathlib.Core.List.{List}
-use lib.Dec.{ltb}
+use lib.Dec.{leb}
 use lib.ListN.{length}
-use Rattle.convert.specs.Convert.{Outcome, place, toScsi, toAta}
-use Rattle.paper.specs.Told.{Told, tells}
+use Rattle.convert.specs.Convert.{turned, paged, scsiOffence, ataOffence, Outcome, outcome}
+use Rattle.offences.specs.First.{unless, _orElse_}
+use Rattle.offences.specs.declared.Offence.{Offence}
+use Rattle.paper.specs.Told.{Told}
 use Rattle.query.specs.Queries.{plain}
 use Rattle.request.specs.Requests.{requestOf}
+use Rattle.words.specs.declared.Order.the-variants.{Little, Big}
 
 -- "Input above 65,536 bytes is refused at 65536"
-abbrev pub bounded : List ℕ → List ℕ → Told Outcome → Told Outcome
-bounded s buf t = cond (ltb 65536 (length s)) (tells 9 (place 65536 buf)) t
+abbrev pub within : List ℕ → Offence
+within s = unless (leb (length s) 65536) 65536
 
 -- "turns an ATA page (request as the listing's) into SCSI data"
 abbrev pub scsiOf : List ℕ → List ℕ → Told Outcome
-scsiOf s buf = bounded s buf (toScsi s (requestOf s) buf)
+scsiOf s buf = outcome (within s orElse scsiOffence s (requestOf s)) (turned Little Big s) buf
 
 -- "SCSI data into an ATA page"
 abbrev pub ataOf : List ℕ → ℕ → List ℕ → Told Outcome
-ataOf s pages buf = bounded s buf (toAta s plain pages buf)
+ataOf s pages buf = outcome (within s orElse ataOffence s plain pages) (paged pages s) buf

@@ -14,7 +14,7 @@ fn is_long(input: &[u8]) -> bool
     65536 < input.len()
 }
 
-// The page that the input is.
+// The page that the input is, as SCSI data.
 pub fn to_scsi(input: &[u8], buf: &mut [u8]) -> Converted
     ensures { λ r. ⌜ heard r (now (buf .exit)) ≡ scsiOf (now (input .entry)) (now (buf .entry)) ⌝ }
 {
