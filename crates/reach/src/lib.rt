@@ -41,7 +41,7 @@ fn id_before(page: &[u8], k: u32) -> ElementId
 }
 
 // How far one page reaches: to its last identifier if it was cut short.
-fn reach(page: &[u8]) -> Bound
+pub fn reach(page: &[u8]) -> Bound
     ensures { λ r. ⌜ r ≡ reachOf (now (page .entry)) ⌝ }
 {
     let h = Header::read(page, Order::Little);

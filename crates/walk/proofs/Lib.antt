@@ -1,0 +1,2 @@
+-- What is proved of a walk's definitions, and of its functions.
+pub mod Moves

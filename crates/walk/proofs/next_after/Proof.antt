@@ -1,0 +1,13 @@
+-- `walk::next_after`.
+use borrow.Author.Needs.{needs}
+use Rattle.walk.proofs.Moves.{after-highest, after-lower}
+use Rattle.walk.proofs.next_after.Statement.{statement}
+use Rattle.walk.proofs.next_after.Tie as tie
+
+pub next-after-spec : {M : Type 1} → statement M
+next-after-spec =
+    tie.close
+    (tie.spec
+    (λ c. search (after-highest))
+    (λ c. search needs)
+    (λ c. search (after-lower)))
