@@ -53,6 +53,17 @@ dock() {
     }'
 }
 
+# walk ELEMENTS: all of them, by pages of one.
+walk() {
+    elements "$1"
+    awk -v n="$1" 'BEGIN {
+        for (i = 0; i < n; i += 15) {
+            start = i ? 2 * i + 1 : 0
+            printf "command unlocked 12 0 1 %x 200\nnext 0 1 %x\n", start, start
+        }
+    }'
+}
+
 # make_inputs SIZE PAGES ELEMENTS, then of the scripts: ELEMENTS REMOVED DESCRIPTORS
 make_inputs() {
     mkdir "$work/$1" || die "cannot write to $work"
@@ -61,6 +72,7 @@ make_inputs() {
     pages "$4" "$2" > "$work/$1/pages"
     read_back "$2" "$6" > "$work/$1/read"
     dock "$4" "$2" > "$work/$1/dock"
+    walk "$4" > "$work/$1/walk"
     echo "$2" > "$work/$1/page-count"
 }
 
@@ -108,7 +120,7 @@ run_work() {
         'compare equal') both diff compare /dev/null older older ;;
         'compare mixed') both diff compare /dev/null mixed mixed-half ;;
         'compare tenth' | 'compare half' | 'compare all' | 'compare gone') both diff compare /dev/null older "$2" ;;
-        'bench removal' | 'bench pages' | 'bench read' | 'bench dock') both bench bench "$2" ;;
+        'bench removal' | 'bench pages' | 'bench read' | 'bench dock' | 'bench walk') both bench bench "$2" ;;
         *) die "works.txt: no such work: $1 $2" ;;
     esac
 }

@@ -58,7 +58,7 @@ module _ (d : Device) (s : Security) (r : Registers) (buf : List ℕ) (is-12 : r
   unrefused : refused q ≡ false
   unrefused = shown-accepted d s q buf shown-0
 
-  page-left : take (512 * pagesOf q) (lent d s r buf) ≡ pageOf d q
+  pub page-left : take (512 * pagesOf q) (lent d s r buf) ≡ pageOf d q
   page-left = ap (take (512 * pagesOf q)) (shown-alike d s r buf is-12 .1) ∙ shown-front d s q buf shown-0
 
 -- ## The listing's request

@@ -5,3 +5,4 @@ pub mod Runs
 pub mod SendsBack
 pub mod SendsPage
 pub mod Starts
+pub mod Walks

@@ -6,3 +6,4 @@ pub mod Runs
 pub mod SendsBack
 pub mod SendsPage
 pub mod Starts
+pub mod Walks

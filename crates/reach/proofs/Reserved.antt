@@ -31,7 +31,7 @@ module _ (s s′ : List ℕ) (alike : Looks-alike Little s s′) where
   unfolding accepted
   accepted-same q = λ i. eqb (read-same Little s s′ alike q i .number) 0
 
-  reach-same : reachOf s ≡ reachOf s′
+  pub reach-same : reachOf s ≡ reachOf s′
   unfolding reachOf
   reach-same = λ i.
       let h = header-same Little s s′ alike i in

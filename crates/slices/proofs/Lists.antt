@@ -119,6 +119,10 @@ module _ {A : Type 0} (P : A → Type 0) where
       subst⁻¹ (Every P) (map-append f (upTo n) (n ∷ []))
       (every-append (map f (upTo n)) (f n ∷ []) (every-below f n (λ i h. all i (omega arith))) (all n (omega arith), tt))
 
+  pub every-so : (Q : A → Type 0) → ((x : A) → P x → Q x) → (l : List A) → Every P l → Every Q l
+  every-so Q so [] e = tt
+  every-so Q so (x ∷ xs) (p, e) = (so x p, every-so Q so xs e)
+
   pub every-same : (n : ℕ) (a : A) → P a → Every P (replicate n a)
   every-same zero a q = tt
   every-same (suc n) a q = (q, every-same n a q)

@@ -34,9 +34,9 @@ Refuses-as-reader =
     → (nextOf s q ≡ tells 9 (place p) → reader.readOf Little s q ≡ tells 9 (reader.place p))
     × (reader.readOf Little s q ≡ tells 9 (reader.place p) → nextOf s q ≡ tells 9 (place p))
 
--- "It ends where N equals returned", and where the last identifier is FFFF_FFFFh
+-- "It ends where N equals returned", and after FFFF_FFFFh, above which no identifier is
 abbrev pub Ends : List ℕ → Type 0
-Ends s = let h = headerIn Little s in (h .number ≡ h .returned) ⊎ (lastBefore Little s (h .returned) ≡ 0xFFFF_FFFF)
+Ends s = let h = headerIn Little s in (h .number ≡ h .returned) ⊎ (0xFFFF_FFFF ≤ lastBefore Little s (h .returned))
 
 abbrev pub Ends-exactly : Type 0
 Ends-exactly =

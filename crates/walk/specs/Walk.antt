@@ -1,7 +1,7 @@
 -- Document 02, 2026-04: a whole walk, over whatever pages come.
-use Prim.Native.Nat.{ℕ}
+use Prim.Native.Nat.{ℕ, zero, suc}
 use mathlib.Core.Bool.{Bool, true, false}
-use mathlib.Core.List.{List, [], _∷_}
+use mathlib.Core.List.{List, [], _∷_, _++_}
 use Rattle.layout.specs.Bytes.{headerIn}
 use Rattle.layout.specs.declared.Descriptor.{Descriptor}
 use Rattle.paper.specs.declared.ElementId.{ElementId}
@@ -10,7 +10,7 @@ use Rattle.reader.specs.Judgement.{slotOf}
 use Rattle.reader.specs.declared.Slot.the-variants.{Outside, Holds}
 use Rattle.reader.specs.declared.Slot.{Slot}
 use Rattle.request.specs.declared.Request.{Request}
-use Rattle.slices.specs.Lists.{upTo, flat}
+use Rattle.slices.specs.Lists.{flat}
 use Rattle.words.specs.declared.Order.the-variants.{Little}
 use Rattle.walk.specs.Next.{Values, ask, end, place, nextOf}
 
@@ -59,9 +59,13 @@ abbrev pub held : Slot → List Descriptor
 held Outside = []
 held (Holds d) = d ∷ []
 
--- what the reader has of a page, number by number
+-- what the reader has of a page at its first n numbers
+abbrev pub heldBelow : List ℕ → ℕ → List Descriptor
+heldBelow s zero = []
+heldBelow s (suc n) = heldBelow s n ++ held (slotOf Little s n)
+
 unfoldable pub elementsIn : List ℕ → List Descriptor
-elementsIn s = flat (λ (k : ℕ). held (slotOf Little s k)) (upTo (headerIn Little s .returned))
+elementsIn s = heldBelow s (headerIn Little s .returned)
 
 -- of all its pages, one after the other
 abbrev pub listed : Walked → List Descriptor

@@ -1,0 +1,6 @@
+-- What is proved of a walk over a device.
+pub mod Changed
+pub mod Counts
+pub mod Lists
+pub mod Pages
+pub mod Tour

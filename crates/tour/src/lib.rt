@@ -1,0 +1,1 @@
+// A walk over a device: what holds of it; no function.
