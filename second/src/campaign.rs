@@ -8,7 +8,7 @@ use crate::cases::placements::{double, single, Placement};
 use crate::cases::random_dock::{random_dock, random_pages};
 use crate::cases::random_page::random_page;
 use crate::cases::random_pair::random_pair;
-use crate::cases::random_scsi::random_scsi_script;
+use crate::cases::random_walk::random_walk_script;
 use crate::cases::rng::Rng;
 use crate::cases::script_text::Text;
 use crate::own::{in_rows, own_answers, own_comparison, own_conversion, own_listing};
@@ -17,8 +17,8 @@ use crate::rules::convert::{input_to_ata, input_to_scsi};
 use crate::rules::listing::{list, list_scsi};
 use crate::rules::script::{meaning, Call, Line};
 
-/// Lines of a random script, SCSI's calls not counted: many calls for each start
-/// of a program.
+/// Lines of a random script, the calls of later requests not counted: many calls
+/// for each start of a program.
 const LINES: usize = 2000;
 /// Placements in one script.
 const BATCH: usize = 60;
@@ -70,7 +70,7 @@ fn side_by_side(recorder: Recorder, seconds: u64) -> io::Result<u64> {
 
 /// The script that a seed stands for.
 pub fn seeded_script(seed: u64) -> Vec<u8> {
-    random_scsi_script(seed, LINES)
+    random_walk_script(seed, LINES)
 }
 
 /// The page that a seed stands for: small ones mostly.

@@ -1,9 +1,18 @@
-//! Document 01's bench examples, run on the bench, and some of request 2026-03.
+//! Document 01's bench examples, run on the bench, and some of requests 2026-03 and
+//! 2026-04.
 
 use crate::cases::docks_size::example;
 use crate::cases::pages_size::g1;
+use crate::cases::script_text::{other, row_of, storage};
+use crate::cases::walks::{walk, Asked};
+use crate::rules::answer::Answer;
 use crate::rules::bench::run;
+use crate::rules::device::Device;
+use crate::rules::layout::Descriptor;
 use crate::rules::listing::{list, list_scsi};
+use crate::rules::reader::read;
+use crate::rules::request::Registers;
+use crate::rules::table::Element;
 
 const MAKE_A: &str = "element 1 1 20 3e8 0
 element 3 1 10 5dc 0
@@ -237,4 +246,123 @@ fn scsi_listed() {
     assert_eq!(list_scsi(&example().length(33).bytes()).text, torn);
     let refused = "refused 9 at 64\n";
     assert_eq!(list_scsi(&example().length(65).bytes()).text, refused);
+}
+
+/// What the bench says of `script` after a page of one with elements 1 to `number`.
+fn after_page(number: u32, script: &str) -> String {
+    let mut text = String::new();
+    for identifier in 1..=number {
+        text += &format!("element {:x} 1 0 64 0\n", identifier);
+    }
+    text += "make 0\ncommand unlocked 12 0 1 0 200\n";
+    text += script;
+    let answers = run(text.as_bytes());
+    answers
+        .lines()
+        .last()
+        .map_or_else(String::new, String::from)
+}
+
+/// Request 2026-04: fifteen elements fill a page, the sixteenth is one to ask for.
+#[test]
+fn next_after_a_page() {
+    assert_eq!(
+        last_answer("command unlocked 12 0 1 0 200\nnext 0 1 0\n"),
+        "end"
+    );
+    assert_eq!(after_page(15, "next 0 1 0\n"), "end");
+    assert_eq!(after_page(16, "next 0 1 0\n"), "ask 00000010");
+    let second = "command unlocked 12 0 1 10 200\nnext 0 1 10\n";
+    assert_eq!(after_page(16, second), "end");
+    assert_eq!(after_page(128, "next 0 1 0\n"), "ask 00000010");
+    let two_pages = "command unlocked 12 0 2 0 400\nnext 0 2 0\n";
+    assert_eq!(after_page(128, two_pages), "ask 00000020");
+}
+
+/// The 15th descriptor stands at 1E0h, its identifier at 1E4h to 1E7h.
+#[test]
+fn next_after_a_lying_page() {
+    let after = |pokes: &str| after_page(16, &format!("{}next 0 1 0\n", pokes));
+    let high = "poke 1e5 ff\npoke 1e6 ff\npoke 1e7 ff\n";
+    assert_eq!(after(high), "ask FFFFFF10");
+    assert_eq!(after(&format!("{}poke 1e4 fe\n", high)), "ask FFFFFFFF");
+    assert_eq!(after(&format!("{}poke 1e4 ff\n", high)), "end");
+}
+
+#[test]
+fn next_refused() {
+    let after = |script: &str| after_page(16, script);
+    assert_eq!(after("next 0 2 0\n"), "9 at 0");
+    assert_eq!(after("next 8000 1 0\n"), "9 at 0");
+    assert_eq!(after("poke 4 10\nnext 0 1 0\n"), "9 at 4");
+    assert_eq!(after("next 0 1 2\n"), "9 at 36");
+    assert_eq!(after("next 4000 1 0\n"), "9 at 47");
+    assert_eq!(after("poke 0 e\npoke 4 e\nnext 0 1 0\n"), "9 at 484");
+    assert_eq!(
+        run(b"next 0 1 0\nlength 200\nnext 0 1 0\n"),
+        "9 at 0\nlength 512\nend\n"
+    );
+}
+
+/// Devices whose lists fill a page or not, with gaps, and up to FFFF_FFFFh.
+fn walked_devices() -> Result<Vec<Device>, Answer> {
+    let mut tables = Vec::new();
+    for number in [1, 14, 15, 16, 30, 31, 46, 127, 128] {
+        tables.push(row_of(number));
+    }
+    let mixed = |k: u32| match k % 3 {
+        0 => other(k << 12, 0x02),
+        _ => storage(k << 12, (k * 5 % 0xD0) as u8, 100),
+    };
+    tables.push((1..=100).map(mixed).collect());
+    let high: Vec<Element> = (0..32)
+        .map(|k| storage(u32::MAX - 31 + k, 0x70, 9))
+        .collect();
+    tables.push(high);
+    tables.iter().map(|table| Device::make(table, 0)).collect()
+}
+
+/// The descriptors of the page that a device writes for a request.
+fn listed(device: &Device, (feature, count, lba): Asked) -> Vec<Descriptor> {
+    let registers = Registers::new(feature, count, lba);
+    let mut page = vec![0; 512 * usize::from(count)];
+    device.status(&registers, &mut page);
+    match read(&page, &registers) {
+        Ok(reading) => reading.descriptors,
+        Err(place) => panic!("9 at {}", place),
+    }
+}
+
+/// "such a walk with any mix of page counts from 1 lists each matching element
+/// exactly once, in order", as one request for nine pages does, which hold 143.
+fn check_walk(device: &Device, feature: u16, counts: &[u16], start: u64) {
+    let whole = listed(device, (feature, 9, start));
+    // One that does not end would have more requests than elements.
+    let requests: Vec<Asked> = walk(device, feature, counts, start).take(200).collect();
+    let mut walked: Vec<Descriptor> = Vec::new();
+    for (turn, &asked) in requests.iter().enumerate() {
+        let last = walked.last();
+        let due = last.map_or(start, |one| u64::from(one.identifier) + 1);
+        assert_eq!(asked, (feature, counts[turn % counts.len()], due));
+        walked.extend(listed(device, asked));
+    }
+    assert_eq!(walked, whole);
+    if counts == [1] {
+        let pages = (whole.len() + 14) / 15;
+        assert_eq!(requests.len(), pages.max(1));
+    }
+}
+
+#[test]
+fn whole_walks() -> Result<(), Answer> {
+    for device in walked_devices()? {
+        for feature in [0x0000, 0x0100, 0x4000, 0x4100] {
+            for start in [0, 2, 0x5001, 0xFFFF_FFF0, 0xFFFF_FFFF, 0x1_0000_0000] {
+                for counts in [&[1][..], &[1, 2], &[2, 1, 1], &[3], &[4, 1], &[9]] {
+                    check_walk(&device, feature, counts, start);
+                }
+            }
+        }
+    }
+    Ok(())
 }

@@ -3,10 +3,11 @@
 use super::draft::Case;
 use super::random_script::random_script;
 use super::random_scsi::random_scsi_script;
+use super::random_walk::random_walk_script;
 use super::{scripts_command, scripts_convert, scripts_disturbed, scripts_example};
 use super::{scripts_grade, scripts_kept, scripts_lines, scripts_reader};
 use super::{scripts_removal, scripts_scsi, scripts_scsi_read, scripts_scsi_write};
-use super::{scripts_status, scripts_table, scripts_unload, scripts_words};
+use super::{scripts_status, scripts_table, scripts_unload, scripts_walk, scripts_words};
 
 /// All scripts, in the order in which they are run.
 pub fn script_cases() -> Vec<Case> {
@@ -28,6 +29,8 @@ pub fn script_cases() -> Vec<Case> {
     cases.extend(scripts_scsi_read::cases());
     cases.extend(scripts_convert::cases());
     cases.extend(seeded_scsi());
+    cases.extend(scripts_walk::cases());
+    cases.push(seeded_walk());
     cases
 }
 
@@ -51,4 +54,10 @@ fn seeded_scsi() -> Vec<Case> {
         cases.push(Case::new(&format!("scsi-seed-{:02}", seed), data));
     }
     cases
+}
+
+/// A script with the calls of request 2026-04, from a seed whose walks go on after
+/// their first page.
+fn seeded_walk() -> Case {
+    Case::new("walk-seed-51", random_walk_script(51, 100))
 }

@@ -5,7 +5,7 @@ use std::collections::BTreeMap;
 
 use super::draft::Draft;
 use super::random_page::{change, random_health, random_list};
-use super::random_script::Walk;
+use super::random_script::Session;
 use super::rng::Rng;
 use crate::rules::layout::{self, Order, ROW};
 use crate::rules::request::REMOVED;
@@ -26,15 +26,15 @@ pub fn random_pair(rng: &mut Rng, most: u64) -> (Vec<u8>, Vec<u8>) {
 fn session(rng: &mut Rng) -> (Vec<u8>, Vec<u8>) {
     let least = rng.pick(&[1, 1, 14]);
     let pages = rng.pick(&[1, 1, 1, 2, 9]);
-    let mut walk = Walk::new(rng.next());
-    while walk.elements() < least {
-        walk.make();
+    let mut session = Session::new(rng.next());
+    while session.elements() < least {
+        session.make();
     }
-    let older = walk.list_pages(pages);
+    let older = session.list_pages(pages);
     for _ in 0..rng.below(100) {
-        walk.turn();
+        session.turn();
     }
-    (older, walk.list_pages(pages))
+    (older, session.list_pages(pages))
 }
 
 fn changed_list(rng: &mut Rng, most: u64) -> (Vec<u8>, Vec<u8>) {

@@ -11,7 +11,7 @@ use crate::rules::layout::descriptor;
 use crate::rules::script::MOST_LENGTH;
 use crate::rules::table::Element;
 
-pub struct Walk {
+pub struct Session {
     rng: Rng,
     bench: Bench,
     script: Vec<u8>,
@@ -22,11 +22,11 @@ pub struct Walk {
 
 /// A script of about `lines` lines.
 pub fn random_script(seed: u64, lines: usize) -> Vec<u8> {
-    let mut walk = Walk::new(seed);
-    while walk.lines < lines {
-        walk.turn();
+    let mut session = Session::new(seed);
+    while session.lines < lines {
+        session.turn();
     }
-    walk.script
+    session.script
 }
 
 const NAMED: [u8; 13] = [
@@ -64,9 +64,9 @@ const NOISE: [&str; 14] = [
     "poke 10000 1",
 ];
 
-impl Walk {
-    pub fn new(seed: u64) -> Walk {
-        Walk {
+impl Session {
+    pub fn new(seed: u64) -> Session {
+        Session {
             rng: Rng::new(seed),
             bench: Bench::new(),
             script: Vec::new(),

@@ -1,6 +1,8 @@
 //! A script under construction.
 
 use super::draft::{Case, Draft};
+use super::walks::{walk, Asked};
+use crate::rules::bench::after;
 use crate::rules::table::Element;
 
 /// The text of a script; each method adds lines.
@@ -170,6 +172,26 @@ impl Text {
 
     pub fn read(&mut self, feature: u16, count: u16, lba: u64) {
         self.line(&format!("read {:x} {:x} {:x}", feature, count, lba));
+    }
+
+    pub fn next(&mut self, feature: u16, count: u16, lba: u64) {
+        self.line(&format!("next {:x} {:x} {:x}", feature, count, lba));
+    }
+
+    /// A request for a page, and what follows it.
+    pub fn ask(&mut self, (feature, count, lba): Asked) {
+        let length = 512 * usize::from(count);
+        self.command(0x12, feature, count, lba, length);
+        self.next(feature, count, lba);
+    }
+
+    /// A whole walk over the device that the script has made.
+    pub fn walk(&mut self, feature: u16, counts: &[u16], start: u64) {
+        if let Some(device) = after(&self.bytes).device {
+            for asked in walk(&device, feature, counts, start) {
+                self.ask(asked);
+            }
+        }
     }
 
     /// SCSI data for filter, report type and start, cut at an allocation length.

@@ -10,6 +10,7 @@ use super::reader::{read, Reading};
 use super::request::{Registers, Request};
 use super::script::{meaning, Call, Command, Line};
 use super::table::{Element, MOST_ELEMENTS};
+use super::walk::{next, Next};
 
 /// What a lent buffer holds before the call.
 pub const FILLING: u8 = 0xA5;
@@ -63,6 +64,7 @@ impl Bench {
             Call::Length(length) => self.set_length(length),
             Call::Poke { place, byte } => self.poke(place, byte),
             Call::Read(registers) => self.read(&registers),
+            Call::Next(registers) => self.next(&registers),
             Call::ScsiRead(request) => self.scsiread(&request),
             Call::ToScsi(call) => self.toscsi(&call),
             Call::ToAta(call) => self.toata(&call),
@@ -200,6 +202,15 @@ impl Bench {
     fn read(&mut self, registers: &Registers) {
         match read(&self.page, registers) {
             Ok(reading) => self.show_reading(&reading),
+            Err(place) => self.answer(Answer::PageRefused { place }),
+        }
+    }
+
+    /// The walk's call on the kept page.
+    fn next(&mut self, registers: &Registers) {
+        match next(&self.page, registers) {
+            Ok(Next::Ask(start)) => self.say(&format!("ask {:08X}", start)),
+            Ok(Next::End) => self.say("end"),
             Err(place) => self.answer(Answer::PageRefused { place }),
         }
     }

@@ -1,4 +1,4 @@
-//! The rules of document 01 and of requests 2026-01 to 2026-03, and the bench
+//! The rules of document 01 and of requests 2026-01 to 2026-04, and the bench
 //! language over them.
 
 pub mod answer;
@@ -17,3 +17,4 @@ pub mod request;
 pub mod script;
 pub mod scsi;
 pub mod table;
+pub mod walk;

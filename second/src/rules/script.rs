@@ -55,6 +55,7 @@ pub enum Call {
     Length(usize),
     Poke { place: usize, byte: u8 },
     Read(Registers),
+    Next(Registers),
     Scsi(Scsi),
     ScsiRead(ScsiRequest),
     ToScsi(ToScsi),
@@ -117,6 +118,7 @@ fn call_of(name: &[u8], words: &[&[u8]]) -> Option<Call> {
             byte: number8(byte)?,
         }),
         (b"read", [feature, count, lba]) => Some(Call::Read(registers_of(feature, count, lba)?)),
+        (b"next", [feature, count, lba]) => Some(Call::Next(registers_of(feature, count, lba)?)),
         _ => scsi_call_of(name, words),
     }
 }
