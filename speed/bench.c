@@ -302,10 +302,29 @@ static void print_data_reading(const uint64_t *n)
     to = put_tally(to, page, kept);
 }
 
+static void print_next(const uint64_t *n)
+{
+    ssize_t offence = check(page, kept, n[0], n[1], n[2] & LBA_BITS);
+    if (offence >= 0) {
+        say_number("9 at ", offence);
+        return;
+    }
+    uint32_t returned = returned_of(page, LITTLE);
+    uint32_t last = id_of(page + 32 * returned, LITTLE); // That of the last descriptor, if there is one.
+    if (returned == number_of(page, LITTLE) || last == 0xFFFFFFFF) {
+        say("end");
+        return;
+    }
+    begin();
+    to = put_words(to, "ask ");
+    to = put_hex(to, last + 1, 8);
+    *to++ = '\n';
+}
+
 // ---- The calls
 
 enum name {
-    ELEMENT, MAKE, COMMAND, STEP, ERROR, CUT, COMRESET, HARDRESET, SOFTRESET, GRADE, CELLS, LENGTH, POKE, READ,
+    ELEMENT, MAKE, COMMAND, STEP, ERROR, CUT, COMRESET, HARDRESET, SOFTRESET, GRADE, CELLS, LENGTH, POKE, READ, NEXT,
     SCSI, SCSIREAD, TOSCSI, TOATA, NAMES
 };
 
@@ -330,6 +349,7 @@ static const struct {
     [LENGTH] = {"length", 0, 1, {0x10000}},
     [POKE] = {"poke", 0, 2, {0x10000, 0xFF}},
     [READ] = {"read", 0, 3, {0xFFFF, 0xFFFF, ~0ull}},
+    [NEXT] = {"next", 0, 3, {0xFFFF, 0xFFFF, ~0ull}},
     [SCSI] = {"scsi", 1, 5, {0xFF, 0xFF, 0xFFFFFFFF, 0xFFFFFFFF, 0x10000}},
     [SCSIREAD] = {"scsiread", 0, 3, {0xFF, 0xFF, 0xFFFFFFFF}},
     [TOSCSI] = {"toscsi", 0, 4, {0xFFFF, 0xFFFF, ~0ull, 0x10000}},
@@ -371,6 +391,9 @@ static void call(enum name name, enum security security, const uint64_t *n)
         break;
     case READ:
         print_reading(n);
+        break;
+    case NEXT:
+        print_next(n);
         break;
     case SCSI:
         send(n);
