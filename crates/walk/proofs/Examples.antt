@@ -21,7 +21,7 @@ request feature count lba = record { feature = feature; count = record { 0 = cou
 -- a header, and the elements above a number, storage, health 10h
 abbrev page : ℕ → ℕ → ℕ → List ℕ
 page number returned above =
-    (number ∷ zeros 3) ++ (returned ∷ zeros 27) ++ flat (λ (k : ℕ). zeros 4 ++ (above + k + 1 ∷ zeros 9) ++ (1 ∷ 0x10 ∷ zeros 16)) (upTo returned)
+    (number ∷ zeros 3) ++ (returned ∷ zeros 27) ++ flat (λ (k : ℕ). zeros 4 ++ ((above + k + 1) ∷ zeros 9) ++ (1 ∷ 0x10 ∷ zeros 16)) (upTo returned)
 
 -- the last identifier of 15 is FFFF_FFxxh
 abbrev high : ℕ → List ℕ
