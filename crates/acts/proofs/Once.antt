@@ -2,7 +2,7 @@
 use mathlib.Core.Path.{_≡_, refl, sym, ap, _∙_}
 use Rattle.docking.proofs.Once.{dockedOf, docked-undone}
 use Rattle.paper.proofs.Once.{answerOf, answer-number}
-use Rattle.acts.specs.Acts.{Saying, nothing, notACall, noDevice, outside, longNow, answered, commanded, cells, reads, readsScsi, docked, heard, Act}
+use Rattle.acts.specs.Acts.{Saying, nothing, notACall, noDevice, outside, longNow, answered, commanded, cells, reads, walks, readsScsi, docked, heard, Act}
 use Rattle.acts.specs.Promises.{One-act}
 use Rattle.acts.specs.declared.Reply.the-variants as replies
 use Rattle.acts.specs.declared.Reply.{Reply}
@@ -17,6 +17,7 @@ replyOf (answered n) = replies.Answer (answerOf n)
 replyOf (commanded n room count) = replies.Command (record { answer = answerOf n; room = room; count = count })
 replyOf cells = replies.Cells
 replyOf (reads q) = replies.Read q
+replyOf (walks q) = replies.Next q
 replyOf (readsScsi q) = replies.ReadScsi q
 replyOf (docked a) = replies.Dock (dockedOf a)
 
@@ -30,6 +31,7 @@ undone (replies.Answer a) = ap replies.Answer (answer-number a)
 undone (replies.Command l) = λ i. replies.Command (record { answer = answer-number (l .answer) i; room = l .room; count = l .count })
 undone replies.Cells = refl
 undone (replies.Read q) = refl
+undone (replies.Next q) = refl
 undone (replies.ReadScsi q) = refl
 undone (replies.Dock d) = ap replies.Dock (docked-undone d)
 

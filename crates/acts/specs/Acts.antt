@@ -47,6 +47,7 @@ pub data Saying : Type 0 where
   commanded : ℕ → ℕ → ℕ → Saying
   cells : Saying
   reads : Request → Saying
+  walks : Request → Saying
   readsScsi : Query → Saying
   -- that of a call for a SCSI host
   docked : dock.Answered → Saying
@@ -61,6 +62,7 @@ heard (replies.Answer a) = answered (numberOf a)
 heard (replies.Command l) = commanded (numberOf (l .answer)) (l .room) (l .count)
 heard replies.Cells = cells
 heard (replies.Read q) = reads q
+heard (replies.Next q) = walks q
 heard (replies.ReadScsi q) = readsScsi q
 heard (replies.Dock d) = docked (dock.heard d)
 
@@ -110,6 +112,7 @@ abbrev pub pageSaying : PageCall → ℕ → ℕ → Saying
 pageSaying (calls.Length n) before after = longNow after
 pageSaying (calls.Poke p) before after = pokeSaying p before
 pageSaying (calls.Read q) before after = reads q
+pageSaying (calls.Next q) before after = walks q
 pageSaying (calls.ReadScsi q) before after = readsScsi q
 
 abbrev pub afterPage : Bench → PageCall → List ℕ → Act

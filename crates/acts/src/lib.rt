@@ -37,6 +37,7 @@ pub enum Reply {
     Command(Lent),
     Cells,
     Read(Request),
+    Next(Request),
     ReadScsi(Query),
     Dock(Docked),
 }
@@ -102,6 +103,7 @@ fn page_reply(call: PageCall, kept: usize, after: usize) -> Reply
         PageCall::Length(_) => Reply::Length(after),
         PageCall::Poke(p) => poke_reply(p, kept),
         PageCall::Read(request) => Reply::Read(request),
+        PageCall::Next(request) => Reply::Next(request),
         PageCall::ReadScsi(query) => Reply::ReadScsi(query),
     }
 }

@@ -9,7 +9,7 @@ use Rattle.offer.specs.Elements as elements
 use Rattle.registers.specs.Registers.{most64, most16, stateOf, askedAt}
 use Rattle.arguments.specs.declared.Line.the-variants.{NotACall, Element, Make, Command, Grade, Page}
 use Rattle.arguments.specs.declared.Line.{Line}
-use Rattle.arguments.specs.declared.PageCall.the-variants.{Length, Poke, Read}
+use Rattle.arguments.specs.declared.PageCall.the-variants.{Length, Poke, Read, Next}
 
 -- "ID, START and ALLOCATION 32 .. FILTER, TYPE, HEALTH, CODE and BYTE 8, FLAG 1, LENGTH and PLACE up to 10000h"; those of 16 bits and of 64 stand
 -- in `registers`
@@ -80,3 +80,7 @@ pokeOf l =
 -- `read FEATURE COUNT LBA`
 unfoldable pub readOf : List ℕ → Line
 readOf l = cond (askedAt l 1 .fits) (Page (Read (askedAt l 1 .request))) NotACall
+
+-- `next FEATURE COUNT LBA`
+unfoldable pub nextOf : List ℕ → Line
+nextOf l = cond (askedAt l 1 .fits) (Page (Next (askedAt l 1 .request))) NotACall

@@ -109,3 +109,11 @@ pub fn read_call(line: &[u8]) -> Line
     let request = asked.request;
     fitting(asked.fits, Line::Page(PageCall::Read(request)))
 }
+
+pub fn next_call(line: &[u8]) -> Line
+    ensures { λ r. ⌜ r ≡ spec.nextOf (now (line .entry)) ⌝ }
+{
+    let asked = registers::asked_at(line, 1);
+    let request = asked.request;
+    fitting(asked.fits, Line::Page(PageCall::Next(request)))
+}

@@ -10,6 +10,7 @@ pub use calls::element_call;
 pub use calls::grade_call;
 pub use calls::length_call;
 pub use calls::make_call;
+pub use calls::next_call;
 pub use calls::poke_call;
 pub use calls::read_call;
 pub use dock_calls::scsi_call;
@@ -84,6 +85,7 @@ pub enum PageCall {
     Length(usize),
     Poke(Poke),
     Read(Request),
+    Next(Request),
     ReadScsi(Query),
 }
 

@@ -2,4 +2,5 @@
 pub mod Contents
 pub mod DockContents
 pub mod Examples
+pub mod NextContents
 pub mod Reserved

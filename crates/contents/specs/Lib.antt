@@ -2,5 +2,6 @@
 
 pub mod Contents
 pub mod DockContents
+pub mod NextContents
 pub mod Private
 pub mod Promises

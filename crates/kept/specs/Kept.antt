@@ -22,13 +22,16 @@ abbrev pub keptAfter : PageCall → ℕ → List ℕ → ℕ
 keptAfter (calls.Length n) kept page = min n (length page)
 keptAfter (calls.Poke p) kept page = kept
 keptAfter (calls.Read q) kept page = kept
+keptAfter (calls.Next q) kept page = kept
 keptAfter (calls.ReadScsi q) kept page = kept
 
--- what then stands there; "`read FEATURE COUNT LBA` runs the reader on it" and changes nothing, nor does `scsiread FILTER TYPE START`
+-- what then stands there; "`read FEATURE COUNT LBA` runs the reader on it" and changes nothing, nor do `next FEATURE COUNT LBA` and
+-- `scsiread FILTER TYPE START`
 abbrev pub pageAfter : PageCall → ℕ → List ℕ → List ℕ
 pageAfter (calls.Length n) kept page = lengthened kept (min n (length page)) page
 pageAfter (calls.Poke p) kept page = poked kept p page
 pageAfter (calls.Read q) kept page = page
+pageAfter (calls.Next q) kept page = page
 pageAfter (calls.ReadScsi q) kept page = page
 
 -- how long it is with some bytes in its place, if there is room for them

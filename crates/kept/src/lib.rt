@@ -37,6 +37,7 @@ pub fn call(page: &mut [u8], kept: usize, call: PageCall) -> usize
             kept
         }
         PageCall::Read(_) => kept,
+        PageCall::Next(_) => kept,
         PageCall::ReadScsi(_) => kept,
     }
 }

@@ -6,11 +6,12 @@ use mathlib.Core.Path.{_≡_, refl, sym}
 use native.Mathlib.Omega.{arith}
 use lib.ListN.{length, length-append}
 use borrow.Author.Tests.{le-leb, lt-leb}
-use Rattle.acts.specs.Acts.{Saying, nothing, notACall, noDevice, outside, longNow, answered, commanded, cells, reads, readsScsi, docked, heard}
+use Rattle.acts.specs.Acts.{Saying, nothing, notACall, noDevice, outside, longNow, answered, commanded, cells, reads, walks, readsScsi, docked, heard}
 use Rattle.acts.specs.declared.Reply.the-variants as replies
 use Rattle.acts.specs.declared.Reply.{Reply}
 use Rattle.contents.proofs.Contents.{length-reading}
 use Rattle.contents.proofs.DockContents.{enough-for-data}
+use Rattle.contents.proofs.NextContents.{length-next}
 use Rattle.device.specs.declared.Device.{Device}
 use Rattle.inventory.proofs.Inventory.{length-cells}
 use Rattle.slices.specs.Lists.{stored, ended}
@@ -53,6 +54,7 @@ enough (answered n) d page lent = omega (arith, length-answer n)
 enough (commanded n room count) d page lent = length-lent n room count lent
 enough cells d page lent = omega (arith, length-cells d)
 enough (reads q) d page lent = omega (arith, length-reading page q)
+enough (walks q) d page lent = omega (arith, length-next page q)
 enough (readsScsi q) d page lent = omega (arith, enough-for-data page q)
 enough (docked a) d page lent = length-docked a lent
 

@@ -4,9 +4,10 @@ use mathlib.Core.Bool.{cond}
 use mathlib.Core.List.{List, [], _++_}
 use lib.Dec.{eqb}
 use lib.ListN.{take}
-use Rattle.acts.specs.Acts.{Saying, nothing, notACall, noDevice, outside, longNow, answered, commanded, cells, reads, readsScsi, docked}
+use Rattle.acts.specs.Acts.{Saying, nothing, notACall, noDevice, outside, longNow, answered, commanded, cells, reads, walks, readsScsi, docked}
 use Rattle.contents.specs.Contents.{refusedLine, readingOf}
 use Rattle.contents.specs.DockContents.{scsiReadingOf}
+use Rattle.contents.specs.NextContents.{nextText}
 use Rattle.device.specs.declared.Device.{Device}
 use Rattle.docking.specs.Dock.{Kind, scsi, toscsi, toata, Answered}
 use Rattle.dump.specs.Dump.{pageText, dataText, touchedText}
@@ -76,5 +77,6 @@ textOf (answered n) d page lent = answerLine n
 textOf (commanded n room count) d page lent = lentText n room count lent
 textOf cells d page lent = cellsOf d
 textOf (reads q) d page lent = readingOf page q
+textOf (walks q) d page lent = nextText page q
 textOf (readsScsi q) d page lent = scsiReadingOf page q
 textOf (docked a) d page lent = dockText a lent

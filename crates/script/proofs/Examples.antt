@@ -4,13 +4,13 @@ use mathlib.Core.Bool.{false}
 use mathlib.Core.List.{_++_}
 use mathlib.Core.Path.{_≡_, refl}
 use lib.ListN.{replicate}
-use Rattle.arguments.specs.Calls.{elementOf, makeOf, commandOf, gradeOf, lengthOf}
+use Rattle.arguments.specs.Calls.{elementOf, makeOf, commandOf, gradeOf, lengthOf, nextOf}
 use Rattle.arguments.specs.DockCalls.{queriedIn, scsiOf, scsireadOf, toscsiOf, toataOf}
 use Rattle.arguments.specs.declared.Bare.the-variants.{Step}
 use Rattle.arguments.specs.declared.DockCall.the-variants.{Send, ToScsi, ToAta}
 use Rattle.arguments.specs.declared.Line.the-variants.{Passed, NotACall, Element, Make, Command, Bare, Grade, Page, Dock}
 use Rattle.arguments.specs.declared.Line.{Line}
-use Rattle.arguments.specs.declared.PageCall.the-variants.{Length, ReadScsi}
+use Rattle.arguments.specs.declared.PageCall.the-variants.{Length, Next, ReadScsi}
 use Rattle.lines.specs.Numbers.{fieldOf, fieldAt}
 use Rattle.lines.specs.Parts.{wordAt, same, named}
 use Rattle.paper.specs.declared.Security.the-variants.{Unlocked}
@@ -29,6 +29,7 @@ Examples =
     × (Says "grade aBcD CF" (Grade (record { id = record { 0 = 0xABCD }; health = 0xCF })))
     × (Says "length 0000000000010000" (Page (Length 0x1_0000)))
     × (Says "length 10001" NotACall)
+    × (Says "next 100 1 10010" (Page (Next (record { feature = 0x100; count = record { 0 = 1 }; lba = record { 0 = 0x1_0010 } }))))
     × (Says "scsi 1 2 30004 ffffffff 10000"
     (Dock (record { call = Send (record { query = record { filter = 1; report = 2; start = record { 0 = 0x3_0004 } }; allocation = 0xFFFF_FFFF }); length = 0x1_0000 })))
     × (Says "scsiread ff 0 ffffffff" (Page (ReadScsi (record { filter = 0xFF; report = 0; start = record { 0 = 0xFFFF_FFFF } }))))
@@ -46,5 +47,5 @@ Examples =
     × (lineOf (ascii "step" ++ replicate 197 32) ≡ NotACall)
 
 pub examples : Examples
-unfolding stateOf askedAt elementOf makeOf commandOf gradeOf lengthOf queriedIn scsiOf scsireadOf toscsiOf toataOf dockCall pageCall resetCall eventCall deviceCall lineOf fieldOf fieldAt wordAt same named
-examples = (refl, refl, refl, refl, refl, refl, refl, refl, refl, refl, refl, refl, refl, refl, refl, refl, refl, refl, refl)
+unfolding stateOf askedAt elementOf makeOf commandOf gradeOf lengthOf nextOf queriedIn scsiOf scsireadOf toscsiOf toataOf dockCall pageCall resetCall eventCall deviceCall lineOf fieldOf fieldAt wordAt same named
+examples = (refl, refl, refl, refl, refl, refl, refl, refl, refl, refl, refl, refl, refl, refl, refl, refl, refl, refl, refl, refl)

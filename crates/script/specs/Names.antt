@@ -4,7 +4,7 @@ use mathlib.Core.Bool.{cond}
 use mathlib.Core.List.{List}
 use lib.Dec.{ltb}
 use lib.ListN.{take}
-use Rattle.arguments.specs.Calls.{elementOf, makeOf, commandOf, gradeOf, lengthOf, pokeOf, readOf}
+use Rattle.arguments.specs.Calls.{elementOf, makeOf, commandOf, gradeOf, lengthOf, pokeOf, readOf, nextOf}
 use Rattle.arguments.specs.DockCalls.{scsiOf, scsireadOf, toscsiOf, toataOf}
 use Rattle.arguments.specs.declared.Bare.the-variants.{Step, Error, Cut, Comreset, Hardreset, Softreset}
 use Rattle.arguments.specs.declared.Line.the-variants.{Passed, NotACall, Bare, Cells}
@@ -27,7 +27,8 @@ pageCall l =
     cond (named (ascii "length") 2 l) (lengthOf l)
     (cond (named (ascii "poke") 3 l) (pokeOf l)
     (cond (named (ascii "read") 4 l) (readOf l)
-    (dockCall l)))
+    (cond (named (ascii "next") 4 l) (nextOf l)
+    (dockCall l))))
 
 unfoldable pub resetCall : List ℕ → Line
 resetCall l =

@@ -8,6 +8,7 @@ use arguments::element_call;
 use arguments::grade_call;
 use arguments::length_call;
 use arguments::make_call;
+use arguments::next_call;
 use arguments::poke_call;
 use arguments::read_call;
 use arguments::scsi_call;
@@ -48,6 +49,9 @@ fn page_call(line: &[u8]) -> Line
     }
     if is_named(line, b"read", 4) {
         return read_call(line);
+    }
+    if is_named(line, b"next", 4) {
+        return next_call(line);
     }
     dock_call(line)
 }

@@ -13,6 +13,8 @@ page-reply-spec =
     (λ c κs. search needs)
     (λ c. search needs)
     (λ c. search needs)
+    (λ c. search needs)
+    (λ c. search (at-call))
     (λ c. search (at-call))
     (λ c. search (at-call))
     (λ c. search (at-call))
