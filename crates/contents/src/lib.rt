@@ -1,4 +1,5 @@
-// What the bench says of the page or the SCSI data that it reads: what it holds, or where it is refused; stored straight into a lent buffer.
+// What the bench says of the page or the SCSI data that it reads: what it holds, where it is refused, or how a walk goes on; stored straight into
+// a lent buffer.
 mod dock;
 mod next;
 
