@@ -60,7 +60,7 @@ walked-to-end there es limit a d made z q ts ok answers enough =
     (ends, omega (arith, few, nine))
   where
     ids : ascending 0 (identifiers (d .table)) ≡ true
-    ids = listed-starts there es limit a d (made .0) z .0 z .1 .startable .ids
+    ids = listed-starts there es limit a d (made .0) .0 z .1 .startable .ids
 
     shows-then : (t : Turn) → Answers-then d t → Shows-then (d .table) t
     shows-then t then =

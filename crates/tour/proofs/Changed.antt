@@ -54,17 +54,19 @@ module _ (built : Table) where
       (omega (arith, fewer .0, later), omega (arith, fewer .1, later, ahead-shown x (then .same) (startOf q)))
 
   reads-then : ascending 0 (identifiers built) ≡ true → (t : Turn) → Shows-then built t → Reads t
-  reads-then asc t then =
-      (then .shows .some,
-      λ q ok.
-      ap (λ (s : List ℕ). reader.readOf Little s q .number) (then .shows .page q ok)
-      ∙ ap (λ (u : Told reader.Values). u .number) (agrees (then .device) q (then .fits) (rw (then .same) asc) ok .0))
+  reads-then asc t then = (
+    then .shows .some,
+    λ q ok.
+        ap (λ (s : List ℕ). reader.readOf Little s q .number) (then .shows .page q ok)
+        ∙ ap (λ (u : Told reader.Values). u .number) (agrees (then .device) q (then .fits) (rw (then .same) asc) ok .0),
+  )
 
 pub ends-anyway : Ends-anyway
 ends-anyway built asc q ts ok shows enough =
     let n : ℕ = size built in
     let falls = every-so (Shows-then built) (Falls (ahead built)) (ahead-falls built asc) ts shows in
     let reads = every-so (Shows-then built) Reads (reads-then built asc) ts shows in
-    let all : ahead built (startOf q) ≤ most n = ahead-all built (startOf q) in
-    (ends (ahead built) q ts (most n) falls reads ok (most-some n .0) all (most-within n (length ts) enough),
-    within-most n (length (walk q ts .rounds)) (bounded (ahead built) q ts (most n) falls (most-some n .0) all))
+    let all : ahead built (startOf q) ≤ most n = ahead-all built (startOf q) in (
+      ends (ahead built) q ts (most n) falls reads ok (most-some n .0) all (most-within n (length ts) enough),
+      within-most n (length (walk q ts .rounds)) (bounded (ahead built) q ts (most n) falls (most-some n .0) all),
+    )

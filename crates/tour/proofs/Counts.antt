@@ -27,4 +27,3 @@ within-most (suc n) k less = rw (ne-eqb (suc n) 0 (λ e. omega (arith, e))) (ome
 pub needs-most : (n k : ℕ) → 1 ≤ k → n ≤ 15 * k → requestsFor n ≤ k
 needs-most zero k some less = some
 needs-most (suc n) k some less = rw (ne-eqb (suc n) 0 (λ e. omega (arith, e))) (omega arith)
-

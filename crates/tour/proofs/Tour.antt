@@ -73,10 +73,13 @@ module _ (d : Device) (fits : Fits d) (asc : ascending 0 (identifiers (d .table)
     where
       L : List Descriptor
       L = listOf d q
+
       R : ℕ
       R = roomOf (pagesOf q)
+
       is-page : t .came q ≡ pageOf d q
       is-page = show .page q ok
+
       elements : elementsIn (t .came q) ≡ take R L
       elements = ap elementsIn is-page ∙ elements-here d fits asc q ok
 
@@ -112,8 +115,10 @@ module _ (d : Device) (fits : Fits d) (asc : ascending 0 (identifiers (d .table)
     where
       L : List Descriptor
       L = listOf d q
+
       R : ℕ
       R = roomOf (pagesOf q)
+
       is-page : t .came q ≡ pageOf d q
       is-page = show .page q ok
 
