@@ -1,4 +1,4 @@
--- Laws of a walk's next start as a line: one for each way out of a function, and how long it is.
+-- Laws of the line of `next`: one for each way out of a function, and how long it is.
 use Prim.Native.Nat.{ℕ, _≤_}
 use mathlib.Core.List.{List}
 use mathlib.Core.Path.{_≡_, sym, ap, _∙_}

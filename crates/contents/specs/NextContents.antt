@@ -1,4 +1,4 @@
--- docs/BENCH.md, `next`: what a walk asks after the kept page.
+-- docs/BENCH.md, `next`: how a walk goes on after the kept page.
 use Prim.Native.Nat.{ℕ}
 use mathlib.Core.List.{List, _++_}
 use lib.ListN.{take}
@@ -13,6 +13,7 @@ use Rattle.contents.specs.Contents.{refusedLine}
 abbrev pub askLine : ElementId → List ℕ
 askLine id = ascii "ask " ++ digits 16 8 (id .0) ++ ascii "\n"
 
+-- "`9 at PLACE` (decimal), .. or `end`"
 abbrev pub moveLine : Values → List ℕ
 moveLine (ask id) = askLine id
 moveLine end = ascii "end\n"

@@ -1,4 +1,4 @@
-// What the bench says of a walk's next start.
+// What the bench says of a walk: how it goes on after the page that it reads.
 ghost use mathlib.Core.Path.{_≡_};
 ghost use Rattle.slices.specs.Lists.{stored, ended};
 ghost use Rattle.walk.specs.Next.{heard};
@@ -16,7 +16,8 @@ fn ask_line(id: ElementId) -> [u8; 13]
 }
 
 fn put_move(out: &mut [u8], at: usize, next: Move) -> usize
-    ensures { λ r. ⌜ (now (out .exit) ≡ stored (now (out .entry)) at (moveLine (heard next .state))) × (r ≡ ended (now (out .entry)) at (moveLine (heard next .state))) ⌝ }
+    ensures { λ _. ⌜ now (out .exit) ≡ stored (now (out .entry)) at (moveLine (heard next .state)) ⌝ }
+    ensures { λ r. ⌜ r ≡ ended (now (out .entry)) at (moveLine (heard next .state)) ⌝ }
 {
     match next {
         Move::Ask(id) => {

@@ -5,7 +5,7 @@ use mathlib.Core.Path.{_≡_, refl, sym}
 use native.Mathlib.Omega.{arith}
 use lib.Dec.{leb, ltb, eqb}
 use borrow.Author.Tests.{le-leb, lt-leb, lt-ltb, le-ltb, eq-eqb, ne-eqb, leb-false, ltb-false, eqb-false}
-use Rattle.request.specs.Requests.{filterOf, reportTypeOf, pagesOf, refused, takesType, takesHealth}
+use Rattle.request.specs.Requests.{filterOf, reportTypeOf, pagesOf, fieldsRefused, refused, takesType, takesHealth}
 use Rattle.request.specs.declared.Request.{Request}
 
 -- ## Which requests are due 4
@@ -58,3 +58,9 @@ accepted q e =
     let first = or-false-both (leb 2 (filterOf q) || ltb 1 (reportTypeOf q)) (eqb (pagesOf q) 0) e in
     let two = or-false-both (leb 2 (filterOf q)) (ltb 1 (reportTypeOf q)) (first .0) in
     (omega (arith, leb-false 2 (filterOf q) (two .0)), ltb-false 1 (reportTypeOf q) (two .1), omega (arith, eqb-false (pagesOf q) 0 (first .1)))
+
+-- nor is another with its FEATURE, a page at least and a start that is an identifier
+pub asked-again : (q p : Request) → p .feature ≡ q .feature → p .lba .0 ≤ 0xFFFF_FFFF → 1 ≤ pagesOf p → refused q ≡ false → refused p ≡ false
+unfolding refused
+asked-again q p same low some e =
+    rw (same, or-false-both (fieldsRefused q) (eqb (pagesOf q) 0) e .0, ne-eqb (pagesOf p) 0 (λ none. omega (arith, none, some)))

@@ -4,12 +4,12 @@ use mathlib.Core.Bool.{Bool, true, false, _&&_}
 use mathlib.Core.List.{List, map}
 use mathlib.Core.Logic.{inl, inr}
 use mathlib.Core.Path.{_≡_, refl, sym, ap, _∙_}
-use native.Mathlib.Nat.{min-comm, min-le-left, min-le-right, min-eq-right}
+use native.Mathlib.Nat.{min-comm, min-le-left, min-le-right, min-eq-left, min-eq-right}
 use native.Mathlib.Omega.{arith}
 use lib.Dec.{leb}
 use lib.ListN.{length, getD, take, drop, length-drop}
 use lib.Seq.{take-suc}
-use borrow.Author.Tests.{le-leb, leb-true, leb-false}
+use borrow.Author.Tests.{eq-eqb, le-leb, leb-true, leb-false}
 use Rattle.agreement.proofs.Agreement.{none, list-fits, header-here, descriptor-here, agrees}
 use Rattle.conduct.specs.Fits.{Fits}
 use Rattle.device.specs.declared.Device.{Device}
@@ -18,9 +18,12 @@ use Rattle.layout.specs.Promises.{DescriptorFits}
 use Rattle.layout.specs.declared.Descriptor.{Descriptor}
 use Rattle.layout.specs.declared.Header.{Header}
 use Rattle.offences.specs.Checks.{lastBefore}
+use Rattle.paper.specs.Told.{Told}
 use Rattle.paper.specs.declared.ElementId.{ElementId}
 use Rattle.paper.specs.declared.PageCount.{PageCount}
-use Rattle.request.proofs.Requests.{accepted}
+use Rattle.reach.specs.Opening.{accepted}
+use Rattle.reader.specs.Judgement as reader
+use Rattle.request.proofs.Requests as requests
 use Rattle.request.specs.Requests.{filterOf, reportTypeOf, pagesOf, startOf, refused, takesType, takesHealth}
 use Rattle.request.specs.declared.Request.{Request}
 use Rattle.slices.proofs.Lists.{every-at, take-min}
@@ -33,7 +36,8 @@ use Rattle.view.specs.Shown.{asks}
 use Rattle.walk.proofs.Pages.{led-last}
 use Rattle.walk.proofs.Walks.{start-next, start-climbs}
 use Rattle.walk.specs.Promises.{Ends, Leads}
-use Rattle.walk.specs.Walk.{nextRequest, heldBelow, elementsIn}
+use Rattle.walk.specs.Next.{nextRequest}
+use Rattle.walk.specs.Walk.{round, heldBelow, elementsIn}
 use Rattle.words.specs.declared.Order.the-variants.{Little}
 use Rattle.tour.proofs.Lists.{from, rises, keeps-rest, keeps-both, narrows}
 
@@ -62,7 +66,7 @@ module _ (d : Device) (fits : Fits d) (asc : ascending 0 (identifiers (d .table)
   returned-here = ap (λ (h : Header). h .returned) (header-here d q fits asc ok)
 
   pub some-room : 15 ≤ R
-  some-room = omega (arith, accepted q ok .2)
+  some-room = omega (arith, requests.accepted q ok .2)
 
   -- "each page is read by the reader": its first elements
   held-here : (k : ℕ) → k ≤ n → heldBelow page k ≡ take k L
@@ -71,13 +75,18 @@ module _ (d : Device) (fits : Fits d) (asc : ascending 0 (identifiers (d .table)
       let there : k < n = omega (arith, less) in
       rw (held-here k (omega (arith, less)), agrees d q fits asc ok .1 k there) (sym (take-suc L k none (omega (arith, there, min-le-left (length L) R))))
 
-  pub elements-here : elementsIn page ≡ take R L
+  pub is-taken : accepted page q ≡ true
+  unfolding accepted
+  is-taken = eq-eqb (reader.readOf Little page q .number) 0 (ap (λ (t : Told reader.Values). t .number) (agrees d q fits asc ok .0))
+
+  pub elements-here : elementsIn (round q page) ≡ take R L
   unfolding elementsIn
   elements-here =
-      ap (heldBelow page) returned-here
+      rw is-taken
+      (ap (heldBelow page) returned-here
       ∙ held-here n (omega arith)
       ∙ ap (λ (k : ℕ). take k L) (min-comm (length L) R)
-      ∙ take-min R L
+      ∙ take-min R L)
 
   list-up : ascending 0 (map idOf L) ≡ true
   list-up = list-ascends d q asc
@@ -102,6 +111,10 @@ module _ (d : Device) (fits : Fits d) (asc : ascending 0 (identifiers (d .table)
         let up = rises idOf 0 L (R - 1) none (omega (arith, cut, back)) list-up in
         let fit : idOf (getD L (suc (R - 1)) none) < 2 ^ 32 = every-at DescriptorFits L (suc (R - 1)) none (omega (arith, cut, back)) (list-fits d q fits) .id in
         omega (arith, up, fit)
+
+  -- where it is not, N equals returned
+  pub whole-here : length L ≤ R → headerIn Little page .number ≡ headerIn Little page .returned
+  whole-here all = number-here ∙ sym (returned-here ∙ min-eq-left all)
 
   -- where it ends, the list was not cut short
   pub ends-whole : Ends page → length L ≤ R

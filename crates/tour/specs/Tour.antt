@@ -8,6 +8,7 @@ use lib.Dec.{eqb}
 use lib.ListN.{length}
 use Rattle.conduct.specs.Fits.{Fits}
 use Rattle.device.specs.declared.Device.{Device}
+use Rattle.layout.specs.Bytes.{headerIn}
 use Rattle.layout.specs.declared.Descriptor.{Descriptor}
 use Rattle.request.specs.Requests.{pagesOf, refused}
 use Rattle.request.specs.declared.Request.{Request}
@@ -15,56 +16,58 @@ use Rattle.slices.specs.Lists.{Every}
 use Rattle.status.specs.Page.{listOf, pageOf}
 use Rattle.table.specs.Elements.{identifiers, size, ascending}
 use Rattle.table.specs.declared.Table.{Table}
-use Rattle.walk.specs.Walk.{Turn, Walked, walk, listed}
+use Rattle.walk.specs.Promises.{Last}
+use Rattle.walk.specs.Walk.{Came, Round, ended, Walked, walk, listed}
+use Rattle.words.specs.declared.Order.the-variants.{Little}
 
 -- ## What comes
 
--- "page counts from 1"; whatever is asked, the page that the device fills for it
-pub record Shows (d : Device) (t : Turn) : Type 0 where
-  pub some : 1 ≤ t .count .0
-  pub page : (q : Request) → refused q ≡ false → t .came q ≡ pageOf d q
+-- a round whose request is not due 4, so its page count is "from 1", and whose page the device fills
+pub record Shows (d : Device) (r : Round) : Type 0 where
+  pub asked : refused (r .request) ≡ false
+  pub page : r .page ≡ pageOf d (r .request)
 
 -- ## How many requests
 
--- for n elements: 15 in a page, the last perhaps with fewer; one request where there is none
+-- for n elements, by pages of one: 15 to each, the last perhaps with fewer; one request where there is none
 abbrev pub requestsFor : ℕ → ℕ
 requestsFor n = cond (eqb n 0) 1 ((n + 14) / 15)
 
 -- ## "if nothing changes the device between"
 
--- a walk of a first request
+-- a walk whose first request was q
 pub record Lists-whole (d : Device) (q : Request) (w : Walked) : Type 0 where
-  pub ends : w .ended ≡ true
-  -- "each matching element": what the device lists for the first request
+  pub ends : w .stand ≡ ended
+  -- "each matching element": what the device lists for the first request; "exactly once, in order" (`Lists-in-order`)
   pub whole : listed w ≡ listOf d q
-  -- "exactly once, in order"
-  pub in-order : ascending 0 (map (λ (x : Descriptor). x .id .0) (listed w)) ≡ true
+  -- "It ends where N equals returned."
+  pub last : Last (λ (r : Round). headerIn Little (r .page) .number ≡ headerIn Little (r .page) .returned) (w .rounds)
+  -- as many requests at most, and as many where each is for one page
   pub few : length (w .rounds) ≤ requestsFor (length (listOf d q))
+  pub met : Every (λ (r : Round). pagesOf (r .request) ≡ 1) (w .rounds) → length (w .rounds) ≡ requestsFor (length (listOf d q))
 
 abbrev pub Walks-whole : Type 0
 Walks-whole =
     (d : Device) → Fits d → ascending 0 (identifiers (d .table)) ≡ true
-    → (q : Request) (ts : List Turn) → refused q ≡ false → Every (Shows d) ts → requestsFor (length (listOf d q)) ≤ length ts
-    → Lists-whole d q (walk q ts)
+    → (q : Request) (cs : List Came) → Every (Shows d) (walk q cs .rounds) → requestsFor (length (listOf d q)) ≤ length cs
+    → Lists-whole d q (walk q cs)
 
--- no fewer requests do for pages of one
-abbrev pub Takes-as-many : Type 0
-Takes-as-many =
-    (d : Device) → Fits d → ascending 0 (identifiers (d .table)) ≡ true
-    → (q : Request) (ts : List Turn) → refused q ≡ false → pagesOf q ≡ 1 → Every (λ (t : Turn). Shows d t × (t .count .0 ≡ 1)) ts
-    → requestsFor (length (listOf d q)) ≤ length ts → length (walk q ts .rounds) ≡ requestsFor (length (listOf d q))
+-- ## Whatever comes
 
--- ## If it does change: all but its table as built
+-- no identifier is listed twice, and they ascend
+abbrev pub Lists-in-order : Type 0
+Lists-in-order = (q : Request) (cs : List Came) → ascending 0 (map (λ (x : Descriptor). x .id .0) (listed (walk q cs))) ≡ true
 
-pub record Shows-then (built : Table) (t : Turn) : Type 0 where
+-- a round with a device that may have changed, all but its table as built
+pub record Shows-then (built : Table) (r : Round) : Type 0 where
   pub device : Device
   pub fits : Fits device
   pub same : device .table ≡ built
-  pub shows : Shows device t
+  pub shows : Shows device r
 
 -- the walk still ends
 abbrev pub Ends-anyway : Type 0
 Ends-anyway =
     (built : Table) → ascending 0 (identifiers built) ≡ true
-    → (q : Request) (ts : List Turn) → refused q ≡ false → Every (Shows-then built) ts → requestsFor (size built) ≤ length ts
-    → (walk q ts .ended ≡ true) × (length (walk q ts .rounds) ≤ requestsFor (size built))
+    → (q : Request) (cs : List Came) → Every (Shows-then built) (walk q cs .rounds) → requestsFor (size built) ≤ length cs
+    → (walk q cs .stand ≡ ended) × (length (walk q cs .rounds) ≤ requestsFor (size built))

@@ -8,12 +8,13 @@ use lib.ListN.{set}
 use Rattle.layout.specs.Examples.{zeros, pageG1}
 use Rattle.layout.specs.declared.Descriptor.{Descriptor}
 use Rattle.paper.specs.Told.{tells}
+use Rattle.reach.specs.Opening.{accepted}
 use Rattle.reach.specs.Pages.{reachOf}
 use Rattle.request.specs.Requests.{startOf, refused, takesHealth}
 use Rattle.request.specs.declared.Request.{Request}
 use Rattle.slices.specs.Lists.{upTo, flat}
 use Rattle.walk.specs.Next.{ask, end, place, nextOf}
-use Rattle.walk.specs.Walk.{Turn, Round, Walked, walk, elementsIn, listed}
+use Rattle.walk.specs.Walk.{Came, Round, ended, stopped, waits, Walked, walk, elementsIn, listed}
 
 abbrev request : ℕ → ℕ → ℕ → Request
 request feature count lba = record { feature = feature; count = record { 0 = count }; lba = record { 0 = lba } }
@@ -46,8 +47,8 @@ refusals = (refl, refl, refl)
 
 -- ## Sixteen elements by pages of one
 
-abbrev turn : Turn
-turn = record { came = λ (q : Request). cond (leb (startOf q) 1) (page 16 15 0) (page 1 1 15 ++ zeros 448); count = record { 0 = 1 } }
+abbrev came : List ℕ → Came
+came s = record { page = s; next = record { 0 = 1 } }
 
 abbrev starts : Walked → List ℕ
 starts w = map (λ (r : Round). startOf (r .request)) (w .rounds)
@@ -55,11 +56,17 @@ starts w = map (λ (r : Round). startOf (r .request)) (w .rounds)
 abbrev ids : Walked → List ℕ
 ids w = map (λ (x : Descriptor). x .id .0) (listed w)
 
-pub walks : let w = walk (request 0 1 1) (turn ∷ turn ∷ turn ∷ []) in (w .ended ≡ true) × (starts w ≡ 1 ∷ 16 ∷ []) × (ids w ≡ map (λ (k : ℕ). k + 1) (upTo 16))
-unfolding walk elementsIn nextOf reachOf refused takesHealth
+-- whole; a page that comes after the end is not looked at
+pub walks : let w = walk (request 0 1 1) (came (page 16 15 0) ∷ came (page 1 1 15 ++ zeros 448) ∷ came [] ∷ []) in
+    (w .stand ≡ ended) × (starts w ≡ 1 ∷ 16 ∷ []) × (ids w ≡ map (λ (k : ℕ). k + 1) (upTo 16))
+unfolding walk elementsIn accepted nextOf reachOf refused takesHealth
 walks = (refl, refl, refl)
 
--- broken off, where no more pages come
-pub breaks : walk (request 0 1 1) (turn ∷ []) .ended ≡ false
-unfolding walk elementsIn nextOf reachOf refused takesHealth
-breaks = refl
+-- a second page that is the first again is refused, and not listed; and none
+pub breaks : let w = walk (request 0 1 1) (came (page 16 15 0) ∷ came (page 16 15 0) ∷ []) in (w .stand ≡ stopped 36) × (ids w ≡ map (λ (k : ℕ). k + 1) (upTo 15))
+unfolding walk elementsIn accepted nextOf reachOf refused takesHealth
+breaks = (refl, refl)
+
+pub waiting : let w = walk (request 0 1 1) (came (page 16 15 0) ∷ []) in (w .stand ≡ waits) × (ids w ≡ map (λ (k : ℕ). k + 1) (upTo 15))
+unfolding walk elementsIn accepted nextOf reachOf refused takesHealth
+waiting = (refl, refl)

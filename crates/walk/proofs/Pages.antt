@@ -1,13 +1,13 @@
 -- Where a page leads (specs/Promises): by what the reader says of it, and whether it was cut short.
 use Prim.Native.Nat.{ℕ, zero, suc, _+_, _-_, _≤_, _<_}
-use mathlib.Core.Bool.{Bool, true, false}
-use mathlib.Core.List.{List, _++_}
+use mathlib.Core.Bool.{Bool, true, false, cond}
+use mathlib.Core.List.{List, [], _++_}
 use mathlib.Core.Logic.{inl, inr}
 use mathlib.Core.Path.{_≡_, refl, sym, ap, subst, _∙_}
 use native.Mathlib.Nat.{min-le-left}
 use native.Mathlib.Omega.{arith}
-use lib.Dec.{ltb}
-use borrow.Author.Tests.{lt-ltb, eq-eqb, ltb-true, ltb-false}
+use lib.Dec.{eqb, ltb}
+use borrow.Author.Tests.{lt-ltb, eq-eqb, eqb-true, ltb-true, ltb-false}
 use Rattle.layout.specs.Bytes.{headerIn, roomOf}
 use Rattle.layout.specs.declared.Descriptor.{Descriptor}
 use Rattle.layout.specs.declared.Header.{Header}
@@ -23,6 +23,7 @@ use Rattle.reach.specs.Opening.{accepted}
 use Rattle.reach.specs.Pages.{countOf, reachOf}
 use Rattle.reach.specs.declared.Bound.the-variants.{Whole, UpTo}
 use Rattle.reach.specs.declared.Bound.{Bound}
+use Rattle.reader.proofs.Ignored.{ignored-unread}
 use Rattle.reader.proofs.LayoutTheorem.{heard-at}
 use Rattle.reader.proofs.Reserved.{header-same, read-same, reserved-unseen}
 use Rattle.reader.proofs.Taken.{Taken, taken}
@@ -31,20 +32,21 @@ use Rattle.reader.specs.Page.{pageOffence}
 use Rattle.reader.specs.Reserved.{Looks-alike}
 use Rattle.reader.specs.declared.Slot.the-variants.{Outside, Holds}
 use Rattle.reader.specs.declared.Slot.{Slot}
-use Rattle.request.specs.Requests.{pagesOf}
+use Rattle.request.proofs.Requests.{asked-again}
+use Rattle.request.specs.Requests.{pagesOf, refused}
 use Rattle.request.specs.declared.Request.{Request}
 use Rattle.words.specs.declared.Order.the-variants.{Little}
-use Rattle.walk.specs.Next.{Values, ask, end, place, after, onward, nextFor, nextOf}
-use Rattle.walk.specs.Promises.{Refuses-as-reader, Ends, Ends-exactly, Leads, Asks-exactly, Reserved-unasked}
-use Rattle.walk.specs.Walk.{held, heldBelow, elementsIn}
+use Rattle.walk.specs.Next.{Values, ask, end, place, after, onward, nextFor, nextOf, nextRequest}
+use Rattle.walk.specs.Promises.{Refuses-as-reader, Ends, Ends-exactly, Leads, Asks-exactly, Next-asked, Ignored-unasked, Reserved-unasked}
+use Rattle.walk.specs.Walk.{round, held, heldBelow, elementsIn}
 
 -- ## The ways that a page leads
 
 -- the first offence, its list that is whole or was cut short, and whether the last identifier is the highest
 pub data Way (s : List ℕ) (q : Request) : Type 0 where
   refuses : (p : ℕ) → reader.readOf Little s q ≡ tells 9 (reader.place p) → nextOf s q ≡ tells 9 (place p) → Way s q
-  whole : reader.readOf Little s q .number ≡ 0 → headerIn Little s .number ≡ headerIn Little s .returned → nextOf s q ≡ tells 0 end → Way s q
-  highest : reader.readOf Little s q .number ≡ 0 → 0xFFFF_FFFF ≤ lastBefore Little s (headerIn Little s .returned) → nextOf s q ≡ tells 0 end → Way s q
+  whole : accepted s q ≡ true → headerIn Little s .number ≡ headerIn Little s .returned → nextOf s q ≡ tells 0 end → Way s q
+  highest : accepted s q ≡ true → 0xFFFF_FFFF ≤ lastBefore Little s (headerIn Little s .returned) → nextOf s q ≡ tells 0 end → Way s q
   leads : (id : ElementId) → Leads s q id → nextOf s q ≡ tells 0 (ask id) → Way s q
 
 module _ (s : List ℕ) (q : Request) where
@@ -65,6 +67,10 @@ module _ (s : List ℕ) (q : Request) where
     read-0 : reader.readOf Little s q .number ≡ 0
     read-0 = ap (λ (t : Told reader.Values). t .number) (read-by Clean clean)
 
+    is-taken : accepted s q ≡ true
+    unfolding accepted
+    is-taken = eq-eqb (reader.readOf Little s q .number) 0 read-0
+
     page : Taken Little s q
     page = taken Little s q read-0
 
@@ -77,8 +83,8 @@ module _ (s : List ℕ) (q : Request) where
 
       -- "16p - 1 is at least 15"
       some : 15 ≤ h .returned
-      unfolding accepted countOf
-      some = omega (arith, cut-bounds s q (eq-eqb _ _ read-0) cut .0, page .asked .2)
+      unfolding countOf
+      some = omega (arith, cut-bounds s q is-taken cut .0, page .asked .2)
 
       final : Descriptor
       final = descriptorAt Little s (h .returned - 1)
@@ -94,12 +100,12 @@ module _ (s : List ℕ) (q : Request) where
       final-last = before-some s (h .returned) (λ e. omega (arith, e, some)) (descriptorAt Little s (h .returned - 1)) refl
 
       by-last : (b : Bool) → ltb last 0xFFFF_FFFF ≡ b → Way s q
-      by-last false e = highest read-0 (ltb-false _ _ e) (next-after ∙ rw e)
+      by-last false e = highest is-taken (ltb-false _ _ e) (next-after ∙ rw e)
       by-last true e =
           leads
           (record { 0 = last + 1 })
           (record {
-            taken = read-0;
+            taken = is-taken;
             cut = cut;
             some = some;
             last = final;
@@ -113,7 +119,7 @@ module _ (s : List ℕ) (q : Request) where
     by-cut true e = by-last (ltb-true _ _ e) (ltb last 0xFFFF_FFFF) refl
     by-cut false e =
         let all : h .number ≤ h .returned = ltb-false _ _ e in
-        whole read-0 (omega (arith, all, page .returned, min-le-left (h .number) (roomOf (pagesOf q)))) (next-reach Whole (reach-whole s h refl all))
+        whole is-taken (omega (arith, all, page .returned, min-le-left (h .number) (roomOf (pagesOf q)))) (next-reach Whole (reach-whole s h refl all))
 
   by-offence : (a : Offence) → pageOffence Little s q ≡ a → Way s q
   by-offence Clean e = by-cut e (ltb (h .returned) (h .number)) refl
@@ -184,17 +190,23 @@ refuses-as-reader s q p = (by-way (way s q), λ e. next-by s q (At p) (heard-at 
     by-way (highest is-0 high is-next) e = absurd (omega (arith, one-number s q 0 9 end (place p) is-next e))
     by-way (leads id l is-next) e = absurd (omega (arith, one-number s q 0 9 (ask id) (place p) is-next e))
 
+-- a page that is taken is not refused
+pub unstopped : (s : List ℕ) (q : Request) (p : ℕ) → accepted s q ≡ true → reader.readOf Little s q ≡ tells 9 (reader.place p) → ⊥
+unfolding accepted
+unstopped s q p ok is-9 =
+    let no : _≡_ {A = ℕ} 9 0 = sym (ap (λ (t : Told reader.Values). t .number) is-9) ∙ eqb-true (reader.readOf Little s q .number) 0 ok in
+    omega arith
+
 pub ends-exactly : Ends-exactly
 unfolding tag
-ends-exactly s q is-0 = by-way (way s q)
+ends-exactly s q ok = by-way (way s q)
   where
     on : (id : ElementId) → Leads s q id → Ends s → ⊥
     on id l (inl all) = omega (arith, all, l .cut)
     on id l (inr high) = omega (arith, high, l .low, led-last s q id l)
 
     by-way : Way s q → (nextOf s q ≡ tells 0 end → Ends s) × (Ends s → nextOf s q ≡ tells 0 end)
-    by-way (refuses r is-read is-next) =
-        absurd (let no : _≡_ {A = ℕ} 9 0 = sym (ap (λ (t : Told reader.Values). t .number) is-read) ∙ is-0 in omega arith)
+    by-way (refuses r is-read is-next) = absurd (unstopped s q r ok is-read)
     by-way (whole _ all is-next) = (λ e. inl all, λ ends. is-next)
     by-way (highest _ high is-next) = (λ e. inr high, λ ends. is-next)
     by-way (leads id l is-next) = (λ e. absurd (let no : _≡_ {A = ℕ} 0 1 = one-tag s q 0 0 (ask id) end is-next e in omega arith), λ ends. absurd (on id l ends))
@@ -205,34 +217,57 @@ asks-exactly s q id = (to (way s q), from (way s q))
   where
     to : Way s q → nextOf s q ≡ tells 0 (ask id) → Leads s q id
     to (refuses r is-read is-next) e = absurd (omega (arith, one-number s q 9 0 (place r) (ask id) is-next e))
-    to (whole is-0 all is-next) e = absurd (let no : _≡_ {A = ℕ} 1 0 = one-tag s q 0 0 end (ask id) is-next e in omega arith)
-    to (highest is-0 high is-next) e = absurd (let no : _≡_ {A = ℕ} 1 0 = one-tag s q 0 0 end (ask id) is-next e in omega arith)
+    to (whole _ all is-next) e = absurd (let no : _≡_ {A = ℕ} 1 0 = one-tag s q 0 0 end (ask id) is-next e in omega arith)
+    to (highest _ high is-next) e = absurd (let no : _≡_ {A = ℕ} 1 0 = one-tag s q 0 0 end (ask id) is-next e in omega arith)
     to (leads id′ l is-next) e = subst (Leads s q) (one-start s q id′ id is-next e) l
 
     from : Way s q → Leads s q id → nextOf s q ≡ tells 0 (ask id)
-    from (refuses r is-read is-next) l =
-        absurd (let no : _≡_ {A = ℕ} 9 0 = sym (ap (λ (t : Told reader.Values). t .number) is-read) ∙ l .taken in omega arith)
-    from (whole is-0 all is-next) l = absurd (omega (arith, all, l .cut))
-    from (highest is-0 high is-next) l = absurd (omega (arith, high, l .low, led-last s q id l))
+    from (refuses r is-read is-next) l = absurd (unstopped s q r (l .taken) is-read)
+    from (whole _ all is-next) l = absurd (omega (arith, all, l .cut))
+    from (highest _ high is-next) l = absurd (omega (arith, high, l .low, led-last s q id l))
     from (leads id′ l′ is-next) l =
         is-next ∙ ap (λ (n : ℕ). tells 0 (ask (record { 0 = n }))) (led-last s q id′ l′ ∙ sym (led-last s q id l))
 
-module _ (s t : List ℕ) (alike : Looks-alike Little s t) where
-  next-same : (q : Request) → nextOf s q ≡ nextOf t q
-  unfolding nextOf
-  next-same q = λ i. by-reader (read-same Little s t alike q i .state) i
-    where
-      by-reader : (v : reader.Values) → nextFor s v ≡ nextFor t v
-      by-reader (reader.header g) = ap (λ (b : Bound). tells 0 (onward b)) (reach-same s t alike)
-      by-reader (reader.place p) = refl
+-- ## The request of a page that is taken, and the next
 
+pub page-taken : (s : List ℕ) (q : Request) → accepted s q ≡ true → Taken Little s q
+unfolding accepted
+page-taken s q ok = taken Little s q (eqb-true (reader.readOf Little s q .number) 0 ok)
+
+pub page-asked : (s : List ℕ) (q : Request) → accepted s q ≡ true → refused q ≡ false
+unfolding accepted
+page-asked s q ok = by-test (refused q) refl
+  where
+    by-test : (b : Bool) → refused q ≡ b → refused q ≡ false
+    by-test true e = absurd (let no : _≡_ {A = ℕ} 9 0 = rw e at (eqb-true (reader.readOf Little s q .number) 0 ok) in omega arith)
+    by-test false e = e
+
+pub next-asked : Next-asked
+next-asked s q id pages l some = asked-again q (nextRequest q id pages) refl (l .low) some (page-asked s q (l .taken))
+
+-- ## What is not looked at
+
+next-read : (s t : List ℕ) (p q : Request) → reachOf s ≡ reachOf t → reader.readOf Little s p ≡ reader.readOf Little t q → nextOf s p ≡ nextOf t q
+unfolding nextOf
+next-read s t p q same-reach same-read = λ i. by-reader (same-read i .state) i
+  where
+    by-reader : (v : reader.Values) → nextFor s v ≡ nextFor t v
+    by-reader (reader.header g) = ap (λ (b : Bound). tells 0 (onward b)) same-reach
+    by-reader (reader.place p) = refl
+
+pub ignored-unasked : Ignored-unasked
+ignored-unasked s p q same = next-read s s p q refl (ignored-unread Little s p q same)
+
+module _ (s t : List ℕ) (alike : Looks-alike Little s t) (q : Request) where
   below-same : (n : ℕ) → heldBelow s n ≡ heldBelow t n
   below-same zero = refl
   below-same (suc n) = λ i. below-same n i ++ held (reserved-unseen Little s t alike .1 n i)
 
-  elements-same : elementsIn s ≡ elementsIn t
-  unfolding elementsIn
-  elements-same = below-same (headerIn Little s .returned) ∙ ap (λ (h : Header). heldBelow t (h .returned)) (header-same Little s t alike)
+  elements-same : elementsIn (round q s) ≡ elementsIn (round q t)
+  unfolding elementsIn accepted
+  elements-same =
+      (λ i. cond (eqb (read-same Little s t alike q i .number) 0) (below-same (headerIn Little s .returned) i) [])
+      ∙ ap (λ (h : Header). cond (accepted t q) (heldBelow t (h .returned)) []) (header-same Little s t alike)
 
 pub reserved-unasked : Reserved-unasked
-reserved-unasked s t alike = (next-same s t alike, elements-same s t alike)
+reserved-unasked s t alike q = (next-read s t q q (reach-same s t alike) (read-same Little s t alike q), elements-same s t alike q)

@@ -1,10 +1,12 @@
--- Document 02, 2026-04: "The pit tablet sends one request at a time and starts the next at the last identifier plus one." What it does after a page.
+-- Document 02, 2026-04: "The pit tablet sends one request at a time and starts the next at the last identifier plus one." What it does after a
+-- page, and its next request.
 use Prim.Native.Nat.{ℕ, _+_}
 use mathlib.Core.Bool.{cond}
 use mathlib.Core.List.{List}
 use lib.Dec.{ltb}
 use Rattle.paper.specs.Told.{Told, tells}
 use Rattle.paper.specs.declared.ElementId.{ElementId}
+use Rattle.paper.specs.declared.PageCount.{PageCount}
 use Rattle.reach.specs.Pages.{reachOf}
 use Rattle.reach.specs.declared.Bound.the-variants.{Whole, UpTo}
 use Rattle.reach.specs.declared.Bound.{Bound}
@@ -13,6 +15,8 @@ use Rattle.request.specs.declared.Request.{Request}
 use Rattle.words.specs.declared.Order.the-variants.{Little}
 use Rattle.walk.specs.declared.Move.the-variants.{Ask, End, Refused}
 use Rattle.walk.specs.declared.Move.{Move}
+
+-- ## After a page
 
 -- what goes with the number: the next start, the walk's end, or a place
 pub data Values : Type 0 where
@@ -41,3 +45,9 @@ nextFor s (reader.place p) = tells 9 (place p)
 -- of a page, as the answer to a request: first the reader's word
 unfoldable pub nextOf : List ℕ → Request → Told Values
 nextOf s q = nextFor s (reader.readOf Little s q .state)
+
+-- ## The next request
+
+-- it has the same FEATURE, so the same filter and report type, and any page count
+abbrev pub nextRequest : Request → ElementId → PageCount → Request
+nextRequest q start pages = record { feature = q .feature; count = pages; lba = record { 0 = start .0 } }

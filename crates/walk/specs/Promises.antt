@@ -1,6 +1,6 @@
 -- What holds of every page and of every walk, whatever pages come. Each is a statement; proofs/ has the proof under the same name in lower case.
-use Prim.Native.Nat.{ℕ, suc, _+_, _≤_, _<_}
-use mathlib.Core.Bool.{true}
+use Prim.Native.Nat.{ℕ, suc, _+_, _/_, _≤_, _<_}
+use mathlib.Core.Bool.{true, false}
 use mathlib.Core.List.{List, [], _∷_}
 use mathlib.Core.Logic.{_⊎_}
 use mathlib.Core.Path.{_≡_}
@@ -10,15 +10,17 @@ use Rattle.layout.specs.declared.Descriptor.{Descriptor}
 use Rattle.offences.specs.Checks.{lastBefore}
 use Rattle.paper.specs.Told.{tells}
 use Rattle.paper.specs.declared.ElementId.{ElementId}
+use Rattle.paper.specs.declared.PageCount.{PageCount}
+use Rattle.reach.specs.Opening.{accepted}
 use Rattle.reader.specs.Judgement as reader
 use Rattle.reader.specs.Reserved.{Looks-alike}
 use Rattle.reader.specs.declared.Slot.the-variants.{Holds}
-use Rattle.request.specs.Requests.{startOf}
+use Rattle.request.specs.Requests.{Same-fields, startOf, refused}
 use Rattle.request.specs.declared.Request.{Request}
 use Rattle.slices.specs.Lists.{Every}
 use Rattle.words.specs.declared.Order.the-variants.{Little}
-use Rattle.walk.specs.Next.{ask, end, place, heard, nextOf}
-use Rattle.walk.specs.Walk.{Turn, Round, walk, elementsIn}
+use Rattle.walk.specs.Next.{ask, end, place, heard, nextOf, nextRequest}
+use Rattle.walk.specs.Walk.{Came, Round, round, ended, followed, walk, elementsIn}
 use Rattle.walk.specs.declared.Move.{Move}
 
 -- ## After a page
@@ -40,13 +42,12 @@ Ends s = let h = headerIn Little s in (h .number ≡ h .returned) ⊎ (0xFFFF_FF
 
 abbrev pub Ends-exactly : Type 0
 Ends-exactly =
-    (s : List ℕ) (q : Request) → reader.readOf Little s q .number ≡ 0
-    → (nextOf s q ≡ tells 0 end → Ends s) × (Ends s → nextOf s q ≡ tells 0 end)
+    (s : List ℕ) (q : Request) → accepted s q ≡ true → (nextOf s q ≡ tells 0 end → Ends s) × (Ends s → nextOf s q ≡ tells 0 end)
 
 -- a page that leads to a start
 pub record Leads (s : List ℕ) (q : Request) (id : ElementId) : Type 0 where
   -- the reader takes it, and it was cut short
-  pub taken : reader.readOf Little s q .number ≡ 0
+  pub taken : accepted s q ≡ true
   pub cut : headerIn Little s .returned < headerIn Little s .number
   -- so it has a last descriptor: "16p - 1 is at least 15"
   pub some : 15 ≤ headerIn Little s .returned
@@ -59,18 +60,34 @@ pub record Leads (s : List ℕ) (q : Request) (id : ElementId) : Type 0 where
 abbrev pub Asks-exactly : Type 0
 Asks-exactly = (s : List ℕ) (q : Request) (id : ElementId) → (nextOf s q ≡ tells 0 (ask id) → Leads s q id) × (Leads s q id → nextOf s q ≡ tells 0 (ask id))
 
+-- the next request is then not due 4, for any "page counts from 1"
+abbrev pub Next-asked : Type 0
+Next-asked = (s : List ℕ) (q : Request) (id : ElementId) (pages : PageCount) → Leads s q id → 1 ≤ pages .0 → refused (nextRequest q id pages) ≡ false
+
+-- "the other bits ignored"
+abbrev pub Ignored-unasked : Type 0
+Ignored-unasked = (s : List ℕ) (p q : Request) → Same-fields p q → nextOf s p ≡ nextOf s q
+
 -- "Reserved bytes are not looked at": pages that look alike lead alike, and list the same
 abbrev pub Reserved-unasked : Type 0
-Reserved-unasked = (s t : List ℕ) → Looks-alike Little s t → ((q : Request) → nextOf s q ≡ nextOf t q) × (elementsIn s ≡ elementsIn t)
+Reserved-unasked =
+    (s t : List ℕ) → Looks-alike Little s t → (q : Request) → (nextOf s q ≡ nextOf t q) × (elementsIn (round q s) ≡ elementsIn (round q t))
 
 -- ## A whole walk
 
--- a round after another: the page before led to its start, and it asks by the same filter and report type
+-- it goes by what the call answers
+abbrev pub Goes-by-next : Type 0
+Goes-by-next =
+    (q : Request) (c : Came) (cs : List Came) (m : Move) → heard m ≡ nextOf (c .page) q
+    → walk q (c ∷ cs) ≡ followed (round q (c .page)) (heard m .state) (λ id. walk (nextRequest q id (c .next)) cs)
+
+-- a round after another: the page before led to its start
 pub record Follows (before after : Round) : Type 0 where
   pub id : ElementId
   pub led : Leads (before .page) (before .request) id
+  pub pages : PageCount
+  pub next : after .request ≡ nextRequest (before .request) id pages
   pub start : startOf (after .request) ≡ id .0
-  pub feature : after .request .feature ≡ before .request .feature
 
 abbrev pub Chained : Round → List Round → Type 0
 Chained r [] = Unit {0}
@@ -82,14 +99,20 @@ Linked (r ∷ rs) = Chained r rs
 
 -- every request but the first starts at the last identifier plus one
 abbrev pub Starts-follow : Type 0
-Starts-follow = (q : Request) (ts : List Turn) → Linked (walk q ts .rounds)
+Starts-follow = (q : Request) (cs : List Came) → Linked (walk q cs .rounds)
 
--- a walk that came to its end has read each of its pages
-abbrev pub Reads-each : Type 0
-Reads-each =
-    (q : Request) (ts : List Turn) → walk q ts .ended ≡ true
-    → Every (λ (r : Round). reader.readOf Little (r .page) (r .request) .number ≡ 0) (walk q ts .rounds)
+-- of the last of some, which there is
+abbrev pub Last : (Round → Type 0) → List Round → Type 0
+Last P [] = ⊥
+Last P (r ∷ []) = P r
+Last P (r ∷ t ∷ ts) = Last P (t ∷ ts)
 
--- however long pages go on to come, it sends no more requests: each page that leads on has 15 of the 2^32 - 1 identifiers
+-- a walk that has ended has read each of its pages, and ended at the last
+abbrev pub Ends-last : Type 0
+Ends-last =
+    (q : Request) (cs : List Came) → walk q cs .stand ≡ ended
+    → Every (λ (r : Round). accepted (r .page) (r .request) ≡ true) (walk q cs .rounds) × Last (λ (r : Round). Ends (r .page)) (walk q cs .rounds)
+
+-- however many pages come, it does not go on for ever: one that leads on has 15 identifiers at least below the next start
 abbrev pub Always-stops : Type 0
-Always-stops = (q : Request) (ts : List Turn) → length (walk q ts .rounds) ≤ 286_331_153
+Always-stops = (q : Request) (cs : List Came) → length (walk q cs .rounds) ≤ 0xFFFF_FFFF / 15

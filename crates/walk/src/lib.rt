@@ -1,8 +1,10 @@
-// A host's walk over small pages: what it asks next, by the page that came and the request that the page answers.
+// A host's walk over small pages: what it does after a page, by the page that came and the request that it answers, and its next request.
 ghost use mathlib.Core.Path.{_≡_};
 ghost use Rattle.paper.specs.Told.{tells};
-ghost use Rattle.walk.specs.Next.{heard, after, nextOf};
+ghost use Rattle.walk.specs.Next.{heard, after, nextOf, nextRequest};
 use paper::ElementId;
+use paper::Lba;
+use paper::PageCount;
 use reach::Bound;
 use reader::Judgement;
 use request::Request;
@@ -15,7 +17,7 @@ pub enum Move {
 }
 
 // At the last identifier plus one, if there is one.
-fn next_after(last: ElementId) -> Move
+fn move_after(last: ElementId) -> Move
     ensures { λ r. ⌜ heard r ≡ tells 0 (after last) ⌝ }
 {
     if last.0 == 0xFFFF_FFFF {
@@ -34,5 +36,16 @@ pub fn next(page: &[u8], request: Request) -> Move
     let Bound::UpTo(last) = reach::reach(page) else {
         return Move::End;
     };
-    next_after(last)
+    move_after(last)
+}
+
+// The request after one, from a start on and for so many pages.
+pub fn next_request(request: Request, start: ElementId, pages: PageCount) -> Request
+    ensures { λ r. ⌜ r ≡ nextRequest request start pages ⌝ }
+{
+    Request {
+        feature: request.feature,
+        count: pages,
+        lba: Lba(start.0 as u64),
+    }
 }

@@ -1,4 +1,4 @@
--- `contents::ask_line`.
+-- `contents::next::ask_line`.
 use borrow.Author.Needs.{needs}
 use Rattle.contents.proofs.NextContents.{ask-laid}
 use Rattle.contents.proofs.next.ask_line.Statement.{statement}

@@ -1,4 +1,4 @@
--- `contents::put_move`.
+-- `contents::next::put_move`.
 use borrow.Author.Needs.{needs}
 use Rattle.contents.proofs.NextContents.{move-stored, move-ended}
 use Rattle.contents.proofs.next.put_move.Statement.{statement}
@@ -19,8 +19,8 @@ put-move-spec =
     (λ c. search needs)
     (λ c κs. search needs)
     (λ c. search needs)
-    (λ c. search (move-stored, move-ended))
+    (λ c. (search (move-stored), search (move-ended)))
     (λ c. search needs)
-    (λ c. search (move-stored, move-ended))
+    (λ c. (search (move-stored), search (move-ended)))
     (λ c. search needs)
-    (λ c. search (move-stored, move-ended)))
+    (λ c. (search (move-stored), search (move-ended))))
