@@ -1,20 +1,16 @@
--- The reading of document 01's page G1, and of pages and SCSI data at the edges, and where a walk goes on; computed from the definitions.
-use Prim.Native.Nat.{ℕ, suc}
+-- The reading of document 01's page G1, and of pages and SCSI data at the edges, computed from the definitions.
+use Prim.Native.Nat.{ℕ}
 use mathlib.Core.Bool.{true}
 use mathlib.Core.List.{List, [], _∷_, _++_}
 use mathlib.Core.Path.{_≡_, refl}
 use Rattle.layout.specs.Bytes.{allOnes}
 use Rattle.layout.specs.Examples.{zeros, pageG1}
 use Rattle.query.specs.Queries.{dueFour}
-use Rattle.reach.specs.Pages.{reachOf}
 use Rattle.request.specs.Requests.{refused, takesHealth}
 use Rattle.request.specs.declared.Request.{Request}
-use Rattle.slices.specs.Lists.{upTo, flat}
 use Rattle.text.specs.Text.{ascii}
-use Rattle.walk.specs.Next.{nextOf}
 use Rattle.contents.specs.Contents.{heldLine, readingOf}
 use Rattle.contents.specs.DockContents.{scsiReadingOf}
-use Rattle.contents.specs.NextContents.{nextText}
 
 -- `read FEATURE 1 0`
 abbrev asked : ℕ → Request
@@ -33,25 +29,6 @@ pub refusals : (readingOf [] (asked 0) ≡ ascii "9 at 0\n") × (readingOf pageG
     × (readingOf (1 ∷ zeros 511) (asked 0) ≡ ascii "9 at 4\n") × (readingOf (zeros 511 ++ (1 ∷ [])) (asked 0) ≡ ascii "9 at 511\n")
 unfolding readingOf refused takesHealth
 refusals = (refl, refl, refl, refl)
-
--- ## A walk
-
--- `next 0 1 0`
-abbrev onward : List ℕ → List ℕ
-onward s = nextText s (asked 0)
-
-abbrev element : List ℕ → List ℕ
-element id = zeros 4 ++ id ++ zeros 24
-
--- a page that was cut after 15 of 16 elements: 1 to 14, and a last one
-abbrev cut : List ℕ → List ℕ
-cut last = (16 ∷ zeros 3) ++ (15 ∷ zeros 27) ++ flat (λ (k : ℕ). element (suc k ∷ zeros 3)) (upTo 14) ++ element last
-
--- no page, a whole one, one that was cut, and one whose last identifier is the highest
-pub walk : (onward [] ≡ ascii "9 at 0\n") × (onward pageG1 ≡ ascii "end\n") × (onward (cut (0xFF ∷ 0xFF ∷ 1 ∷ 0xAB ∷ [])) ≡ ascii "ask AB020000\n")
-    × (onward (cut (0xFF ∷ 0xFF ∷ 0xFF ∷ 0xFF ∷ [])) ≡ ascii "end\n")
-unfolding nextText nextOf reachOf refused takesHealth
-walk = (refl, refl, refl, refl)
 
 -- ## SCSI data
 

@@ -2,5 +2,4 @@
 pub mod Contents
 pub mod DockContents
 pub mod Examples
-pub mod NextContents
 pub mod Reserved

@@ -2,6 +2,5 @@
 
 pub mod Contents
 pub mod DockContents
-pub mod NextContents
 pub mod Private
 pub mod Promises

@@ -1,7 +1,5 @@
-// What the bench says of the page or the SCSI data that it reads: what it holds, where it is refused, or how a walk goes on; stored straight into
-// a lent buffer.
+// What the bench says of the page or the SCSI data that it reads: what it holds, or where it is refused; stored straight into a lent buffer.
 mod dock;
-mod next;
 
 ghost use mathlib.Core.Path.{_≡_};
 ghost use Rattle.reader.specs.Judgement.{heard};
@@ -12,7 +10,6 @@ ghost use Rattle.contents.specs.Private as private;
 pub use dock::put_scsi_reading;
 use layout::Descriptor;
 use layout::Header;
-pub use next::put_next;
 use reader::Judgement;
 use reader::Slot;
 use request::Request;

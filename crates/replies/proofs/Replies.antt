@@ -11,9 +11,9 @@ use Rattle.acts.specs.declared.Reply.the-variants as replies
 use Rattle.acts.specs.declared.Reply.{Reply}
 use Rattle.contents.proofs.Contents.{length-reading}
 use Rattle.contents.proofs.DockContents.{enough-for-data}
-use Rattle.contents.proofs.NextContents.{length-next}
 use Rattle.device.specs.declared.Device.{Device}
 use Rattle.inventory.proofs.Inventory.{length-cells}
+use Rattle.moves.proofs.Moves.{length-next}
 use Rattle.slices.specs.Lists.{stored, ended}
 use Rattle.text.proofs.Digits.{length-decimal}
 use Rattle.writing.proofs.Puts.{puts-none, puts-one, puts-in, none-stored-in, none-ended-in, whole-stored-in, whole-ended-in}

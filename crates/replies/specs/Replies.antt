@@ -7,11 +7,11 @@ use lib.ListN.{take}
 use Rattle.acts.specs.Acts.{Saying, nothing, notACall, noDevice, outside, longNow, answered, commanded, cells, reads, walks, readsScsi, docked}
 use Rattle.contents.specs.Contents.{refusedLine, readingOf}
 use Rattle.contents.specs.DockContents.{scsiReadingOf}
-use Rattle.contents.specs.NextContents.{nextText}
 use Rattle.device.specs.declared.Device.{Device}
 use Rattle.docking.specs.Dock.{Kind, scsi, toscsi, toata, Answered}
 use Rattle.dump.specs.Dump.{pageText, dataText, touchedText}
 use Rattle.inventory.specs.Inventory.{cellsOf}
+use Rattle.moves.specs.Moves.{nextText}
 use Rattle.paper.specs.Answers.{senseOf}
 use Rattle.paper.specs.declared.Sense.{Sense}
 use Rattle.paper.specs.declared.Sensed.the-variants.{None, Codes}

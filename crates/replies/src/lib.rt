@@ -140,7 +140,7 @@ fn put_text(out: &mut [u8], reply: Reply, d: Device, page: &[u8], lent: &[u8]) -
         Reply::Command(said) => put_lent(out, said, lent),
         Reply::Cells => inventory::put_cells(out, 0, d),
         Reply::Read(request) => contents::put_reading(out, 0, page, request),
-        Reply::Next(request) => contents::put_next(out, 0, page, request),
+        Reply::Next(request) => moves::put(out, 0, page, request),
         Reply::ReadScsi(query) => contents::put_scsi_reading(out, 0, page, query),
         Reply::Dock(docked) => put_docked(out, docked, lent),
     }

@@ -62,6 +62,7 @@ ends-anyway built asc q cs shows enough =
     let rs : List Round = walk q cs .rounds in
     let falls = every-so (Shows-then built) (Falls (ahead built)) (ahead-falls built asc) rs shows in
     let reads = every-so (Shows-then built) Reads (reads-then built asc) rs shows in
-    let all : ahead built (startOf q) ≤ most n = ahead-all built (startOf q) in
-    (ends (ahead built) q cs (most n) (most-some n .0) all (most-within n (length cs) enough) falls reads,
-    within-most n (length rs) (bounded (ahead built) q cs (most n) (most-some n .0) all falls))
+    let all : ahead built (startOf q) ≤ most n = ahead-all built (startOf q) in (
+      ends (ahead built) q cs (most n) (most-some n .0) all (most-within n (length cs) enough) falls reads,
+      within-most n (length rs) (bounded (ahead built) q cs (most n) (most-some n .0) all falls),
+    )

@@ -77,8 +77,10 @@ module _ (d : Device) (fits : Fits d) (asc : ascending 0 (identifiers (d .table)
     where
       L : List Descriptor
       L = listOf d q
+
       R : ℕ
       R = roomOf (pagesOf q)
+
       elements : Shows d (round q (c .page)) → elementsIn (round q (c .page)) ≡ take R L
       elements show = ap (λ (s : List ℕ). elementsIn (round q s)) (show .page) ∙ elements-here d fits asc q (show .asked)
 

@@ -1,8 +1,8 @@
--- `contents::next::ask_line`.
+-- `moves::ask_line`.
 use borrow.Author.Needs.{needs}
-use Rattle.contents.proofs.NextContents.{ask-laid}
-use Rattle.contents.proofs.next.ask_line.Statement.{statement}
-use Rattle.contents.proofs.next.ask_line.Tie as tie
+use Rattle.moves.proofs.Moves.{ask-laid}
+use Rattle.moves.proofs.ask_line.Statement.{statement}
+use Rattle.moves.proofs.ask_line.Tie as tie
 
 pub ask-line-spec : {M : Type 1} → statement M
 ask-line-spec =

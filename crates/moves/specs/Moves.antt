@@ -2,12 +2,12 @@
 use Prim.Native.Nat.{ℕ}
 use mathlib.Core.List.{List, _++_}
 use lib.ListN.{take}
+use Rattle.contents.specs.Contents.{refusedLine}
 use Rattle.paper.specs.declared.ElementId.{ElementId}
 use Rattle.request.specs.declared.Request.{Request}
 use Rattle.text.specs.Digits.{digits}
 use Rattle.text.specs.Text.{ascii}
 use Rattle.walk.specs.Next.{Values, ask, end, place, nextOf}
-use Rattle.contents.specs.Contents.{refusedLine}
 
 -- "`ask ID` (8 upper hex digits)"
 abbrev pub askLine : ElementId → List ℕ

@@ -1,8 +1,8 @@
--- `contents::next::put_move`.
+-- `moves::put_move`.
 use borrow.Author.Needs.{needs}
-use Rattle.contents.proofs.NextContents.{move-stored, move-ended}
-use Rattle.contents.proofs.next.put_move.Statement.{statement}
-use Rattle.contents.proofs.next.put_move.Tie as tie
+use Rattle.moves.proofs.Moves.{move-stored, move-ended}
+use Rattle.moves.proofs.put_move.Statement.{statement}
+use Rattle.moves.proofs.put_move.Tie as tie
 
 pub put-move-spec : {M : Type 1} → statement M
 put-move-spec =

@@ -1,8 +1,8 @@
-// What the bench says of a walk: how it goes on after the page that it reads.
+// What the bench says of a walk: how it goes on after the kept page; stored straight into a lent buffer.
 ghost use mathlib.Core.Path.{_≡_};
 ghost use Rattle.slices.specs.Lists.{stored, ended};
 ghost use Rattle.walk.specs.Next.{heard};
-ghost use Rattle.contents.specs.NextContents.{askLine, moveLine, nextText};
+ghost use Rattle.moves.specs.Moves.{askLine, moveLine, nextText};
 use paper::ElementId;
 use request::Request;
 use walk::Move;
@@ -30,7 +30,7 @@ fn put_move(out: &mut [u8], at: usize, next: Move) -> usize
 }
 
 // Stores the line from a place on and answers where it ends; nothing, if it does not fit.
-pub fn put_next(out: &mut [u8], at: usize, page: &[u8], request: Request) -> usize
+pub fn put(out: &mut [u8], at: usize, page: &[u8], request: Request) -> usize
     ensures { λ _. ⌜ now (out .exit) ≡ stored (now (out .entry)) at (nextText (now (page .entry)) request) ⌝ }
     ensures { λ r. ⌜ r ≡ ended (now (out .entry)) at (nextText (now (page .entry)) request) ⌝ }
 {

@@ -12,7 +12,7 @@ use Rattle.text.specs.Digits.{digits}
 use Rattle.text.specs.Text.{ascii}
 use Rattle.walk.specs.Next.{Values, ask, end, place, heard, nextOf}
 use Rattle.walk.specs.declared.Move.{Move}
-use Rattle.contents.specs.NextContents.{askLine, moveLine, nextText}
+use Rattle.moves.specs.Moves.{askLine, moveLine, nextText}
 
 pub ask-laid : (id : ElementId) (i x : List ℕ) → i ≡ digits 16 8 (id .0) → x ≡ stored (ascii "ask 00000000\n") 4 i → x ≡ askLine id
 ask-laid id i x is-i is-x = is-x ∙ rw is-i

@@ -1,0 +1,3 @@
+-- The line of `next`.
+
+pub mod Moves
