@@ -32,11 +32,11 @@ fn examples() -> Case {
     text.named("walk-example")
 }
 
-/// Four packages of ten elements by pages of one.
+/// Four boards of ten elements by pages of one.
 fn forty() -> Case {
     let mut text = Text::new();
     let elements: Vec<Element> = (0..4)
-        .flat_map(|package| (1..=10).map(move |k| package << 16 | k))
+        .flat_map(|board| (1..=10).map(move |k| board << 16 | k))
         .map(|identifier| storage(identifier, 0x20, 100))
         .collect();
     text.make(&elements, 0);
@@ -161,6 +161,10 @@ fn lying_pages() -> Case {
     let mut text = Text::new();
     text.make(&row_of(15), 0);
     text.ask((0, 1, 0));
+    // N is 0001_000Fh: its lower half is as returned.
+    text.poke(NUMBER + 2, 1);
+    text.next(0, 1, 0);
+    text.poke(NUMBER + 2, 0);
     text.poke(NUMBER, 16);
     text.next(0, 1, 0);
     let last = descriptor(14) + IDENTIFIER;
