@@ -102,7 +102,7 @@ module _ (d : Device) (q : Request) (fits : Fits d) where
   unfolding listOf
   list-is = refl
 
-  pub size-few : size (d .table) ≤ 128
+  size-few : size (d .table) ≤ 128
   size-few = rw (length-map, length-take, fits .full) (omega arith)
 
   pub few : length (listOf d q) ≤ 128

@@ -1,6 +1,7 @@
 -- What is proved of the demands.
 pub mod Demand1
 pub mod GivesBack
+pub mod LeftBy
 pub mod Runs
 pub mod SendsBack
 pub mod SendsPage

@@ -1,27 +1,20 @@
--- "The reader .. gives back what was written", of the code's own calls. Its last premise is what the front call promises (calls/src/lib.rt),
--- with 12h, answered 0.
-use Prim.Native.Nat.{ℕ, _*_, _<_, _≤_}
+-- "The reader .. gives back what was written", of the code's own calls.
+use Prim.Native.Nat.{ℕ, _<_, _≤_}
 use mathlib.Core.List.{List}
 use mathlib.Core.Path.{_≡_}
-use lib.ListN.{length, getD, take}
-use Rattle.device.specs.Machine.{command, told}
+use lib.ListN.{getD}
 use Rattle.device.specs.declared.Device.{Device}
 use Rattle.listing.specs.Listing.{judged}
-use Rattle.paper.specs.Answers.{numberOf}
-use Rattle.paper.specs.Registers.{Registers}
-use Rattle.paper.specs.Told.{tells, said}
-use Rattle.paper.specs.declared.Answer.{Answer}
-use Rattle.paper.specs.declared.Security.{Security}
+use Rattle.paper.specs.Told.{tells}
 use Rattle.reader.specs.Judgement.{header, readOf, slotOf}
 use Rattle.reader.specs.declared.Slot.the-variants.{Holds}
-use Rattle.request.specs.Requests.{asked, filterOf, reportTypeOf, pagesOf, startOf}
+use Rattle.request.specs.Requests.{filterOf, reportTypeOf, pagesOf, startOf}
 use Rattle.request.specs.declared.Request.{Request}
-use Rattle.status.specs.Lent.{lent}
 use Rattle.status.specs.Page.{listOf, headerOf}
 use Rattle.table.specs.Elements.{blankPart}
 use Rattle.view.specs.Shown.{shownOf}
 use Rattle.words.specs.declared.Order.the-variants.{Little}
-use Rattle.demands.specs.Runs.{After-runs}
+use Rattle.demands.specs.Runs.{After-runs, Left-by}
 
 -- a page, as the answer of a device to a request
 pub record Given-back (d : Device) (q : Request) (page : List ℕ) : Type 0 where
@@ -33,8 +26,4 @@ pub record Given-back (d : Device) (q : Request) (page : List ℕ) : Type 0 wher
   pub listed : filterOf q ≡ 0 → reportTypeOf q ≡ 0 → startOf q ≡ 0 → pagesOf q ≤ 128 → judged page ≡ tells 0 (header (headerOf d q))
 
 abbrev pub Gives-back : Type 0
-Gives-back =
-    After-runs (λ x.
-    (security : Security) (r : Registers) (buf out : List ℕ) (b : Answer) (y : Device) → r .code ≡ 0x12
-    → (said b y ≡ told x (command security r (length buf))) × (out ≡ lent x security r buf) → numberOf b ≡ 0
-    → Given-back x (asked r) (take (512 * pagesOf (asked r)) out))
+Gives-back = After-runs (λ x. (q : Request) (page : List ℕ) → Left-by x q page → Given-back x q page)

@@ -1,5 +1,5 @@
--- The demands, of the lent calls: a refusal changes nothing, the reader gives back what was written, the SCSI data is the page converted, and
--- demand 3 from the lent making on.
+-- The demands, of the lent calls: a refusal changes nothing, the reader gives back what was written, the SCSI data is the page converted, a walk
+-- lists the whole list, and demand 3 from the lent making on.
 pub mod Demand1
 pub mod GivesBack
 pub mod Runs

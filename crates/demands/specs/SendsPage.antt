@@ -1,5 +1,5 @@
--- "the device's SCSI data is its ATA page converted, where neither is cut", of the code's own calls. Its premises are what three calls promise,
--- and that there is room: the front call, with 12h, answered 0; `to_scsi`, of the page that it left; and `send`, of a request with the same fields.
+-- "the device's SCSI data is its ATA page converted, where neither is cut", of the code's own calls. Its premises are what the calls promise, and
+-- that there is room: the page that the front call left; `to_scsi`, of this page; and `send`, of a request with the same fields.
 use Prim.Native.Nat.{ℕ, _+_, _*_, _≤_}
 use mathlib.Core.List.{List}
 use mathlib.Core.Path.{_≡_}
@@ -7,20 +7,16 @@ use lib.ListN.{length, take}
 use Rattle.convert.specs.Convert.{heard, toScsi}
 use Rattle.convert.specs.declared.Converted.the-variants as converted
 use Rattle.convert.specs.declared.Converted.{Converted}
-use Rattle.device.specs.Machine.{command, told}
 use Rattle.device.specs.declared.Device.{Device}
 use Rattle.paper.specs.Answers.{numberOf}
 use Rattle.paper.specs.Output.{output}
-use Rattle.paper.specs.Registers.{Registers}
 use Rattle.paper.specs.Told.{said}
 use Rattle.paper.specs.declared.Answer.{Answer}
-use Rattle.paper.specs.declared.Security.{Security}
 use Rattle.query.specs.Promises.{Same-asked}
 use Rattle.query.specs.declared.Query.{Query}
-use Rattle.request.specs.Requests.{asked}
+use Rattle.request.specs.declared.Request.{Request}
 use Rattle.sender.specs.Sent.{sentHeader, sent}
-use Rattle.status.specs.Lent.{lent}
-use Rattle.demands.specs.Runs.{After-runs}
+use Rattle.demands.specs.Runs.{After-runs, Left-by}
 
 -- "32 + 32N", of the list that a device has for a request
 abbrev pub wholeSize : Device → Query → ℕ
@@ -35,10 +31,9 @@ pub record One-data (size : ℕ) (c : Converted) (out : List ℕ) (b : Answer) (
 abbrev pub Sends-page : Type 0
 Sends-page =
     After-runs (λ x.
-    (security : Security) (r : Registers) (buf page : List ℕ) (a : Answer) (y : Device) → r .code ≡ 0x12
-    → (said a y ≡ told x (command security r (length buf))) × (page ≡ lent x security r buf) → numberOf a ≡ 0
-    → (p : ℕ) (q : Query) → Same-asked p q (asked r) → sentHeader x q .number + 1 ≤ 16 * p
-    → (room out : List ℕ) (c : Converted) → heard c out ≡ toScsi (take (512 * p) page) (asked r) room → wholeSize x q ≤ length room
+    (r : Request) (page : List ℕ) → Left-by x r page
+    → (p : ℕ) (q : Query) → Same-asked p q r → sentHeader x q .number + 1 ≤ 16 * p
+    → (room out : List ℕ) (c : Converted) → heard c out ≡ toScsi page r room → wholeSize x q ≤ length room
     → (allocation : ℕ) (free left : List ℕ) (b : Answer) (count : ℕ) → said b (output count left) ≡ sent x q allocation free
     → wholeSize x q ≤ allocation → wholeSize x q ≤ length free
     → One-data (wholeSize x q) c out b count left)

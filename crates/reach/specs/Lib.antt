@@ -1,4 +1,4 @@
--- How far two pages are compared: request 2026-01.
+-- How far a page reaches, and two are compared: request 2026-01.
 
 pub mod Opening
 pub mod Pages

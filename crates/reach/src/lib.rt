@@ -1,4 +1,4 @@
-// How far two status pages are compared, or which of them is refused.
+// How far a status page reaches; how far two are compared, or which of them is refused.
 ghost use mathlib.Core.Path.{_≡_};
 ghost use Rattle.offences.specs.Checks.{lastBefore};
 ghost use Rattle.words.specs.declared.Order.the-variants.{Little};
@@ -17,7 +17,7 @@ pub enum Turn {
     Newer,
 }
 
-// How far two pages are compared: whole, or up to an identifier, itself included.
+// How far a page reaches, or two are compared: whole, or up to an identifier, itself included.
 pub enum Bound {
     Whole,
     UpTo(ElementId),

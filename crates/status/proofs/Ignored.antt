@@ -41,7 +41,7 @@ module _ (p q : Request) (same : Same-fields p q) where
         λ i. keep (λ (x : Descriptor). leb (same .start i) (x .id .0) && (takesType (same .report i) (x .kind) && takesHealth (same .filter i) (x .health)))
         (shownAll d)
 
-    page-same : pageOf d p ≡ pageOf d q
+    pub page-same : pageOf d p ≡ pageOf d q
     unfolding pageOf
     page-same = rw (list-same, same .pages)
 

@@ -1,7 +1,7 @@
 -- A walk over a device that does not change (specs/Tour): each page has the first elements of its request's list, and the walk from there on
 -- lists the rest.
 use Prim.Native.Nat.{ℕ, _+_, _-_, _*_, _≤_}
-use mathlib.Core.Bool.{true, false}
+use mathlib.Core.Bool.{true}
 use mathlib.Core.List.{List, [], _∷_, _++_, append-nil}
 use mathlib.Core.Path.{_≡_, refl, ap, subst, subst⁻¹, _∙_}
 use native.Mathlib.Omega.{arith}
@@ -12,7 +12,7 @@ use Rattle.device.specs.declared.Device.{Device}
 use Rattle.layout.specs.Bytes.{headerIn, roomOf}
 use Rattle.layout.specs.declared.Descriptor.{Descriptor}
 use Rattle.reach.specs.Opening.{accepted}
-use Rattle.request.specs.Requests.{pagesOf, refused}
+use Rattle.request.specs.Requests.{pagesOf}
 use Rattle.request.specs.declared.Request.{Request}
 use Rattle.slices.specs.Lists.{Every}
 use Rattle.status.specs.Page.{listOf, pageOf}

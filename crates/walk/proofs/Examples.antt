@@ -1,9 +1,7 @@
 -- The definitions tried: pages of 15 elements, whole and cut short, the highest identifiers, and a walk of two pages.
 use Prim.Native.Nat.{ℕ, _+_}
-use mathlib.Core.Bool.{true, false, cond}
 use mathlib.Core.List.{List, [], _∷_, _++_, map}
 use mathlib.Core.Path.{_≡_, refl}
-use lib.Dec.{leb}
 use lib.ListN.{set}
 use Rattle.layout.specs.Examples.{zeros, pageG1}
 use Rattle.layout.specs.declared.Descriptor.{Descriptor}
