@@ -1,16 +1,20 @@
--- A page that the front call left (specs/Runs): its request is not due 4, and it is the page that the device fills. 12h leaves the device.
+-- A page that the front call left (specs/Runs): its request is not due 4, and it is the page that the device fills. 12h leaves the device, and is
+-- answered where there is room.
 use Prim.Native.Nat.{ℕ, _*_}
 use mathlib.Core.Bool.{Bool, true, false, cond}
 use mathlib.Core.List.{List, _++_}
 use mathlib.Core.Path.{_≡_, refl, sym, ap, subst, _∙_}
 use native.Mathlib.Omega.{arith}
 use lib.Dec.{eqb, ltb}
-use lib.ListN.{length, take, drop}
+use lib.ListN.{length, take, drop, replicate, length-replicate}
 use lib.Seq.{take-at}
+use borrow.Author.Tests.{le-ltb}
 use Rattle.device.specs.Machine.{command, told}
 use Rattle.device.specs.declared.Device.{Device}
 use Rattle.paper.specs.Registers.{Registers}
-use Rattle.paper.specs.Told.{Told}
+use Rattle.paper.specs.Told.{Told, tells}
+use Rattle.paper.specs.declared.Answer.the-variants.{Done}
+use Rattle.paper.specs.declared.Security.the-variants.{Unlocked}
 use Rattle.paper.specs.declared.Security.{Security}
 use Rattle.request.proofs.Requests.{accepted}
 use Rattle.request.specs.Requests.{asked, pagesOf, refused}
@@ -63,3 +67,37 @@ module _ (x : Device) (q : Request) (page : List ℕ) (c : Left-by x q page) whe
 
   pub left-device : c .after ≡ x
   left-device = ap (λ (t : Told Device). t .state) (c .promised .0 ∙ shown-alike x (c .security) (c .registers) (c .buf) (c .status) .0)
+
+-- ## Any request that is not due 4
+
+module _ (x : Device) (q : Request) (ok : refused q ≡ false) where
+  abbrev r : Registers
+  r = record { code = 0x12; feature = q .feature; count = q .count .0; lba = q .lba }
+
+  abbrev room : List ℕ
+  room = replicate (512 * pagesOf q) 0
+
+  all-room : length room ≡ 512 * pagesOf q
+  all-room = length-replicate (512 * pagesOf q) 0
+
+  answers : shown x Unlocked q room .number ≡ 0
+  answers = three-answers x Unlocked q room ∙ rw (ok, le-ltb (length room) (512 * pagesOf q) (omega (arith, all-room)))
+
+  tells-0 : told x (command Unlocked r (length room)) ≡ tells 0 x
+  tells-0 = shown-alike x Unlocked r room refl .0 ∙ ap (λ (n : ℕ). tells n x) answers
+
+  pub leaves : Left-by x q (pageOf x q)
+  leaves =
+      record {
+        security = Unlocked;
+        registers = r;
+        buf = room;
+        out = lent x Unlocked r room;
+        answer = Done;
+        after = x;
+        status = refl;
+        asking = refl;
+        promised = (sym tells-0, refl);
+        done = refl;
+        filled = sym (page-left x Unlocked r room refl (ap (λ (t : Told Device). t .number) tells-0));
+      }

@@ -15,10 +15,13 @@ use Rattle.tour.proofs.Tour.{walks-whole}
 use Rattle.tour.specs.Tour.{Shows, requestsFor, Shows-then}
 use Rattle.walk.specs.Walk.{Round, ended, walk}
 use Rattle.demands.specs.Runs.{Left-by}
-use Rattle.demands.specs.Walks.{Asking-leaves, Walked-whole, Left-then, Walked-to-end}
-use Rattle.demands.proofs.LeftBy.{left-asked, left-page, left-device}
+use Rattle.demands.specs.Walks.{Leaves-page, Asking-leaves, Walked-whole, Left-then, Walked-to-end}
+use Rattle.demands.proofs.LeftBy.{left-asked, left-page, left-device, leaves}
 use Rattle.demands.proofs.Runs.{run-leaves}
 use Rattle.demands.proofs.Starts.{listed-starts}
+
+pub leaves-page : Leaves-page
+leaves-page = leaves
 
 pub asking-leaves : Asking-leaves
 asking-leaves = left-device

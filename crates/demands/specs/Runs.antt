@@ -25,7 +25,7 @@ After-runs P =
     (there : Device) (es : List Element) (limit : ℕ) (a : Answer) (d : Device) → (said a d ≡ madeFrom there es limit) × Fits d → numberOf a ≡ 0
     → (s : Script) (ns : List ℕ) (x : Device) → Ran d s ns x → P x
 
--- a page that a device left for a request, in any security state and over any lent buffer
+-- a page that the front call left of a device for a request, in any security state and over any lent buffer
 pub record Left-by (x : Device) (q : Request) (page : List ℕ) : Type 0 where
   pub security : Security
   pub registers : Registers

@@ -1,5 +1,5 @@
--- "the device's SCSI data is its ATA page converted, where neither is cut", of the code's own calls. Its premises are what the calls promise, and
--- that there is room: the page that the front call left; `to_scsi`, of this page; and `send`, of a request with the same fields.
+-- "the device's SCSI data is its ATA page converted, where neither is cut", of the code's own calls. Its premises: a page that the front call left;
+-- what `to_scsi` promises of it, and `send` of a request with the same fields; and that there is room.
 use Prim.Native.Nat.{ℕ, _+_, _*_, _≤_}
 use mathlib.Core.List.{List}
 use mathlib.Core.Path.{_≡_}

@@ -1,6 +1,7 @@
 -- Request 2026-04 (tour/specs/Tour), of the code's own calls: a walk over a device that any run has left. What it does after a page is what
 -- `walk::next` and `walk::next_request` promise (walk/specs/Promises, `Goes-by-next`).
 use Prim.Native.Nat.{ℕ, _≤_}
+use mathlib.Core.Bool.{false}
 use mathlib.Core.List.{List}
 use mathlib.Core.Path.{_≡_}
 use lib.ListN.{length}
@@ -12,16 +13,21 @@ use Rattle.offer.specs.declared.Element.{Element}
 use Rattle.paper.specs.Answers.{numberOf}
 use Rattle.paper.specs.Told.{said}
 use Rattle.paper.specs.declared.Answer.{Answer}
+use Rattle.request.specs.Requests.{refused}
 use Rattle.request.specs.declared.Request.{Request}
 use Rattle.slices.specs.Lists.{Every}
-use Rattle.status.specs.Page.{listOf}
+use Rattle.status.specs.Page.{listOf, pageOf}
 use Rattle.tour.specs.Tour.{requestsFor, Lists-whole}
 use Rattle.walk.specs.Walk.{Came, Round, ended, walk}
 use Rattle.demands.specs.Runs.{After-runs, Left-by}
 
 -- ## "if nothing changes the device between"
 
--- the walk itself does not
+-- every request that is not due 4 gets its page, over a buffer that has room, so that pages come for any walk (tour/specs/Tour, `Any-mix`)
+abbrev pub Leaves-page : Type 0
+Leaves-page = (x : Device) (q : Request) → refused q ≡ false → Left-by x q (pageOf x q)
+
+-- the walk itself does not change the device
 abbrev pub Asking-leaves : Type 0
 Asking-leaves = (x : Device) (q : Request) (page : List ℕ) (c : Left-by x q page) → c .after ≡ x
 

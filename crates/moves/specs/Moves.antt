@@ -13,7 +13,7 @@ use Rattle.walk.specs.Next.{Values, ask, end, place, nextOf}
 abbrev pub askLine : ElementId → List ℕ
 askLine id = ascii "ask " ++ digits 16 8 (id .0) ++ ascii "\n"
 
--- "`9 at PLACE` (decimal), .. or `end`"
+-- "`9 at PLACE` (decimal) where the reader refuses it, .. else `end`"
 abbrev pub moveLine : Values → List ℕ
 moveLine (ask id) = askLine id
 moveLine end = ascii "end\n"

@@ -4,5 +4,6 @@ pub mod Counts
 pub mod Examples
 pub mod InOrder
 pub mod Lists
+pub mod Mix
 pub mod Pages
 pub mod Tour

@@ -32,7 +32,7 @@ module _ (P : Walked → Type 0) (q : Request) (c : Came) (cs : List Came) where
   abbrev after : ElementId → Walked
   after id = walk (nextRequest q id (c .next)) cs
 
-  by-value : (v : Values) → nextOf (c .page) q .state ≡ v → P (followed r v after) → P (walk q (c ∷ cs))
+  pub by-value : (v : Values) → nextOf (c .page) q .state ≡ v → P (followed r v after) → P (walk q (c ∷ cs))
   unfolding walk
   by-value v e = subst (λ (w : Values). P (followed r w after)) (sym e)
 
