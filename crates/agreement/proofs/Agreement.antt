@@ -23,7 +23,7 @@ use Rattle.offences.proofs.Laid.{length-laid, laid-header, laid-descriptor}
 use Rattle.offences.specs.Checks.{baseOf, descriptorAt, lastBefore}
 use Rattle.paper.specs.Elements.{removedHealth}
 use Rattle.paper.specs.Told.{tells}
-use Rattle.reader.proofs.LayoutTheorem.{and-both, type-exactly, health-exactly}
+use Rattle.reader.proofs.LayoutTheorem.{and-both, asked-to, type-exactly, health-exactly}
 use Rattle.reader.proofs.Taken.{Listed, Taken, takes}
 use Rattle.reader.specs.Judgement.{header, slotOf}
 use Rattle.reader.specs.declared.Slot.the-variants.{Holds}
@@ -200,7 +200,7 @@ module _ (d : Device) (q : Request) (fits : Fits d) (asc : ascending 0 (identifi
   keeps : Taken Little (pageOf d q) q
   keeps =
       record {
-        asked = accepted q ok;
+        asked = asked-to q ok;
         long = whole-pages d q (accepted q ok .2);
         returned = returned-here ∙ ap (λ (h : Header). returnedOf (h .number) (pagesOf q)) (sym header-here);
         list = λ k l. list-here d q fits asc Little (pageOf d q) n (omega arith) descriptor-here k (rw returned-here at l);

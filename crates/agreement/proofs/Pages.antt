@@ -40,8 +40,8 @@ pub G1 : shown deviceA Unlocked (request 0x4100 1 0) (old 517) ≡ tells 0 (page
 unfolding shownOf asks listOf pageOf refused takesHealth
 G1 = refl
 
-pub G2 : shown deviceA Unlocked (request 0x4100 1 0x1_0000_0000) (old 512) ≡ tells 0 (zeros 12 ++ (0x02 ∷ zeros 499))
-unfolding shownOf asks listOf pageOf refused takesHealth
+pub G2 : shown deviceA Unlocked (request 0x4100 1 0x1_0000_0000) (old 512) ≡ tells 4 (old 512)
+unfolding refused
 G2 = refl
 
 pub G3 : shown deviceA Unlocked (request 0x4100 0 0) (old 512) ≡ tells 4 (old 512)
@@ -51,6 +51,16 @@ G3 = refl
 pub G4 : shown deviceA Unlocked (request 0x8000 1 0) (old 512) ≡ tells 4 (old 512)
 unfolding refused
 G4 = refl
+
+-- the highest start, and bits above LBA 47: N = 0, and only byte 12 (02h) is not 0
+empty : shown deviceA Unlocked (request 0x4100 1 0xFFFF_0000_FFFF_FFFF) (old 512) ≡ tells 0 (zeros 12 ++ (0x02 ∷ zeros 499))
+unfolding shownOf asks listOf pageOf refused takesHealth
+empty = refl
+
+-- a reserved bit comes before the buffer
+reserved : shown deviceA Unlocked (request 0x4100 1 0x1_0000_0000) (old 511) ≡ tells 4 (old 511)
+unfolding refused
+reserved = refl
 
 -- a byte short
 small : shown deviceA Unlocked (request 0x4100 2 0) (old 1023) ≡ tells 7 (old 1023)

@@ -1,4 +1,4 @@
--- Document 01's bench examples R1 to R8 and G1 to G4 as one table: a row of the device, and what the last command leaves in the lent buffer.
+-- Document 01's bench examples R1 to R8 and G1 to G4 as one table, G2 as request 2026-05 mends it: a row of the device, and what the last command leaves in the lent buffer.
 -- R4 and R8 are two rows each, and two rows of the limit alone go with them.
 use Prim.Native.Nat.{ℕ}
 use mathlib.Core.Bool.{Bool, true, false, _&&_}
@@ -8,7 +8,7 @@ use lib.Dec.{eqb}
 use lib.ListN.{replicate}
 use Rattle.device.specs.Machine.{Event, command, step, mediaError, powerCut, comreset, hardwareReset, softwareReset, grade}
 use Rattle.device.specs.declared.Device.{Device}
-use Rattle.layout.specs.Examples.{zeros, pageG1}
+use Rattle.layout.specs.Examples.{pageG1}
 use Rattle.making.specs.Examples.{registers, Row, row, rows, holds, run, deviceA, asBuilt}
 use Rattle.paper.specs.declared.Security.the-variants.{Unlocked}
 use Rattle.slices.specs.Lists.{all}
@@ -57,8 +57,8 @@ examples =
     map unlent rows
     -- G1: "one descriptor, 0001_0003h; its bytes 4..7 are 03 00 01 00, 16..17 are F4 01"
     ++ (get 0x4100 1 0 0 pageG1
-    -- G2: "N = 0, only byte 12 (02h) non-zero"
-    ∷ get 0x4100 1 0x1_0000_0000 0 (zeros 12 ++ (0x02 ∷ zeros 499))
+    -- G2: "Example G2 now gets 4" (request 2026-05)
+    ∷ get 0x4100 1 0x1_0000_0000 4 old
     -- G3, G4
     ∷ get 0x4100 0 0 4 old
     ∷ get 0x8000 1 0 4 old

@@ -2,6 +2,7 @@
 pub mod Demand1
 pub mod GivesBack
 pub mod LeftBy
+pub mod ReservedBits
 pub mod Runs
 pub mod SendsBack
 pub mod SendsPage

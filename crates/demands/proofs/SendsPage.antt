@@ -21,7 +21,7 @@ use Rattle.paper.specs.Output.{output, written}
 use Rattle.paper.specs.Told.{tells, said}
 use Rattle.paper.specs.declared.Answer.the-variants.{Done}
 use Rattle.paper.specs.declared.Answer.{Answer}
-use Rattle.query.proofs.Queries.{due-not, filter-asked, report-asked}
+use Rattle.query.proofs.Queries.{due-not, filter-asked, report-asked, unset-asked}
 use Rattle.query.specs.Promises.{Same-asked}
 use Rattle.query.specs.Queries.{dueFour, askedFor}
 use Rattle.query.specs.declared.Query.{Query}
@@ -70,6 +70,7 @@ module _ (d : Device) (r : Request) (asks : refused r ≡ false) (p : ℕ) (q : 
         report = alike .report ∙ sym (report-asked p q (low .0) (low .1));
         pages = alike .pages;
         start = omega (arith, alike .start);
+        reserved = accepted r asks .3 ∙ sym (unset-asked p q);
       }
 
   page-asked : pageOf d r ≡ pageOf d (askedFor p q)

@@ -1,7 +1,8 @@
 -- The demands, of the lent calls: a refusal changes nothing, the reader gives back what was written, the SCSI data is the page converted, a walk
--- lists the whole list, and demand 3 from the lent making on.
+-- lists the whole list, demand 3 from the lent making on; and that reserved bits are refused.
 pub mod Demand1
 pub mod GivesBack
+pub mod ReservedBits
 pub mod Runs
 pub mod SendsBack
 pub mod SendsPage

@@ -18,13 +18,14 @@ use Rattle.offences.specs.First.{unless, _orElse_}
 use Rattle.offences.specs.declared.Offence.the-variants.{Clean}
 use Rattle.offences.specs.declared.Offence.{Offence}
 use Rattle.paper.specs.Told.{tells}
-use Rattle.query.proofs.Queries.{filter-asked, report-asked, start-asked}
+use Rattle.query.proofs.Queries.{filter-asked, report-asked, not-refused, start-asked}
 use Rattle.query.specs.Queries.{askedFor, asked}
 use Rattle.query.specs.declared.Query.{Query}
 use Rattle.reader.proofs.LayoutTheorem as page·theorem
 use Rattle.reader.proofs.Taken as page·taken
 use Rattle.reader.proofs.Taken.{Listed}
 use Rattle.reader.specs.Judgement as page
+use Rattle.reader.specs.Layout.{Asked}
 use Rattle.reader.specs.Page.{pageOffence}
 use Rattle.reader.specs.declared.Slot.the-variants.{Outside, Holds}
 use Rattle.request.specs.Requests.{filterOf, reportTypeOf, pagesOf, startOf}
@@ -174,7 +175,7 @@ module _ (s : List ℕ) (r : Query) (p n : ℕ) (is-n : headerIn Big s .number �
   page-fits = subst (λ (t : List ℕ). Fits-in Little t n) page-laid (fits-kept Big Little s n fits zeros)
 
   -- for a request whose rules the list keeps
-  module _ (q : Request) (pages : pagesOf q ≡ p) (low : (filterOf q ≤ 1) × (reportTypeOf q ≤ 1))
+  module _ (q : Request) (pages : pagesOf q ≡ p) (asks : Asked q)
       (list : (k : ℕ) → k < n → Listed q (lastBefore Big s k) (descriptorAt Big s k)) where
     page-list : (k : ℕ) → k < n → Listed q (lastBefore Little page-of k) (descriptorAt Little page-of k)
     page-list k l =
@@ -184,7 +185,7 @@ module _ (s : List ℕ) (r : Query) (p n : ℕ) (is-n : headerIn Big s .number �
     page-keeps : page·taken.Taken Little page-of q
     page-keeps =
         record {
-          asked = (low .0, low .1, omega (arith, few, pages));
+          asked = asks;
           long = page-long ∙ ap (λ (m : ℕ). 512 * m) (sym pages);
           returned = page-returned ∙ sym (ap (λ (m : ℕ). returnedOf m (pagesOf q)) page-number ∙ omega (arith, few, pages));
           list = λ k l. page-list k (rw page-returned at l);
@@ -202,10 +203,7 @@ module _ (s : List ℕ) (r : Query) (p n : ℕ) (is-n : headerIn Big s .number �
 
   own-page : Page-holds page-of (askedFor p r) (headerIn Big s) (scsi.slotOf Big s)
   own-page =
-      as-page (askedFor p r) refl (
-        subst (λ (x : ℕ). x ≤ 1) (sym (filter-asked p r (data-was .fields .0) (data-was .fields .1))) (data-was .fields .0),
-        subst (λ (x : ℕ). x ≤ 1) (sym (report-asked p r (data-was .fields .0) (data-was .fields .1))) (data-was .fields .1),
-      )
+      as-page (askedFor p r) refl (page·theorem.asked-to (askedFor p r) (not-refused p r (data-was .fields .0) (data-was .fields .1) (omega (arith, few))))
       (λ k l. listed-as (asked r) (askedFor p r) refl refl (omega arith) _ _ (data-was .list k (rw (is-n, data-whole) l)))
 
   page-clean : pageOffence Little page-of (askedFor p r) ≡ Clean
@@ -232,7 +230,7 @@ there-and-back s q r p bytes alike clean few =
     let ok : ataOffence t r p ≡ Clean = or-both _ _ (data-clean s q r n refl fits alike clean) (ap (λ (b : Bool). unless b 4) fitting) in
     let asks = was s q r n refl fits alike clean .asked in
     let back =
-    as-page t r p n number (data-fits s q r n refl fits alike clean) ok (withPages p q) refl (asks .0, asks .1)
+    as-page t r p n number (data-fits s q r n refl fits alike clean) ok (withPages p q) refl (asks .0, asks .1, omega (arith, few), asks .3)
     (data-list s q r n refl fits alike clean (withPages p q) refl refl (omega arith)) in (
       ok,
       record {

@@ -234,6 +234,12 @@ others =
     ∷ idle (command Frozen (registers 0x12 0 1 0) 511) 7
     ∷ idle (command Unlocked (registers 0x12 0 0 0) 0) 4
     ∷ idle (command Unlocked (registers 0x12 0x8000 1 0) 0) 4
+    -- reserved bits, before the buffer; and those above LBA 47, which are ignored
+    ∷ amid (command Locked (registers 0x12 0x0001 1 0) 512) 4
+    ∷ idle (command Frozen (registers 0x12 0x1000 1 0) 0) 4
+    ∷ idle (command Unlocked (registers 0x12 0 1 0x1_0000_0003) 511) 4
+    ∷ idle (command Unlocked (registers 0x12 0 1 0xFFFF_8000_0000_0000) 512) 4
+    ∷ idle (command Unlocked (registers 0x12 0 1 0xFFFF_0000_0000_0003) 512) 0
     ∷ []
 
 abbrev pub Others-hold : Type 0

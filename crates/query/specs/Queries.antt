@@ -9,10 +9,10 @@ use Rattle.query.specs.declared.Query.{Query}
 unfoldable pub dueFour : Query → Bool
 dueFour q = ltb 1 (q .filter) || ltb 1 (q .report)
 
--- the ATA request of these fields, for some pages: FEATURE 15:14 filter, 11:8 report type, and the start
+-- the ATA request of these fields, for some pages: FEATURE 15:14 filter, 11:8 report type, and LBA 31:0 the start
 abbrev pub askedFor : ℕ → Query → Request
 askedFor pages q =
-    record { feature = q .filter % 2 ^ 2 * 2 ^ 14 + q .report % 2 ^ 4 * 2 ^ 8; count = record { 0 = pages }; lba = record { 0 = q .start .0 } }
+    record { feature = q .filter % 2 ^ 2 * 2 ^ 14 + q .report % 2 ^ 4 * 2 ^ 8; count = record { 0 = pages }; lba = record { 0 = q .start .0 % 2 ^ 32 } }
 
 -- what is asked of an element: no test of one looks at pages, which SCSI has not
 abbrev pub asked : Query → Request

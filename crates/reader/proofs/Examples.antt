@@ -43,6 +43,8 @@ tried : all (λ (b : Bool). b)
     -- a request due 4, a length that is not 512p, a returned number that is not the smaller
     (refusedFor (request 0x8000 1 0) 0 pageG1
     ∷ refusedFor (request 0x4100 0 0) 0 pageG1
+    ∷ refusedFor (request 0x4101 1 0) 0 pageG1
+    ∷ refusedFor (request 0x4100 1 0x1_0000_0000) 0 pageG1
     ∷ refusedFor (request 0x4100 2 0) 0 pageG1
     ∷ refusedAt 0 (take 511 pageG1)
     ∷ refusedAt 4 (set pageG1 4 0)

@@ -1,19 +1,16 @@
--- The reader goes by a request's four fields alone.
+-- The reader goes by a request's fields, and by whether it sets a reserved bit, alone.
 use Prim.Native.Nat.{ℕ}
 use mathlib.Core.List.{List}
 use mathlib.Core.Path.{_≡_}
 use Rattle.offences.specs.Checks.{offenceAt}
 use Rattle.offences.specs.First.{firstBelow}
-use Rattle.request.specs.Requests.{Same-fields, refused}
+use Rattle.request.proofs.Requests.{refused-same}
+use Rattle.request.specs.Requests.{Same-fields}
 use Rattle.request.specs.declared.Request.{Request}
 use Rattle.words.specs.declared.Order.{Order}
 use Rattle.reader.specs.Promises.{Ignored-unread}
 
 module _ (o : Order) (s : List ℕ) (p q : Request) (same : Same-fields p q) where
-  refused-same : refused p ≡ refused q
-  unfolding refused
-  refused-same = rw (same .filter, same .report, same .pages)
-
   offence-same : (k : ℕ) → offenceAt o s p k ≡ offenceAt o s q k
   offence-same k = rw (same .start, same .report, same .filter)
 
@@ -21,4 +18,4 @@ module _ (o : Order) (s : List ℕ) (p q : Request) (same : Same-fields p q) whe
   list-same n = λ i. firstBelow n (λ k. offence-same k i)
 
 pub ignored-unread : Ignored-unread
-ignored-unread o s p q same = rw (refused-same o s p q same, same .pages, list-same o s p q same _)
+ignored-unread o s p q same = rw (refused-same p q same, same .pages, list-same o s p q same _)

@@ -7,7 +7,7 @@ use mathlib.Core.Path.{_≡_, refl, sym, ap, _∙_}
 use native.Mathlib.Omega.{arith}
 use lib.Dec.{eqb, leb, ltb}
 use lib.ListN.{length, getD}
-use borrow.Author.Tests.{eq-eqb, ne-eqb, le-leb, lt-leb, le-ltb, lt-ltb, eqb-true, eqb-false, leb-true, ltb-true, not-true}
+use borrow.Author.Tests.{eq-eqb, ne-eqb, le-leb, lt-ltb, eqb-true, eqb-false, leb-true, ltb-true, not-true}
 use Rattle.layout.specs.Bytes.{headerIn, returnedOf}
 use Rattle.layout.specs.declared.Descriptor.{Descriptor}
 use Rattle.layout.specs.declared.Header.{Header}
@@ -17,7 +17,8 @@ use Rattle.offences.specs.declared.Offence.the-variants.{Clean, At}
 use Rattle.offences.specs.declared.Offence.{Offence}
 use Rattle.paper.specs.Elements.{storageType, removedHealth, slow, gradedHealth}
 use Rattle.paper.specs.Told.{Told, tells}
-use Rattle.request.proofs.Requests.{accepted}
+use Rattle.request.proofs.Requests.{accepted, not-refused}
+use Rattle.request.proofs.ReservedBits.{unset-exactly}
 use Rattle.request.specs.Requests.{filterOf, reportTypeOf, pagesOf, startOf, refused, takesId, takesType, inFilter, takesHealth}
 use Rattle.request.specs.declared.Request.{Request}
 use Rattle.words.specs.declared.Order.{Order}
@@ -46,12 +47,13 @@ implies : (a b : Bool) → (a ≡ true → b ≡ true) → (not a || b) ≡ true
 implies true b f = f refl
 implies false b f = refl
 
-asked-to : (q : Request) → not (refused q) ≡ true → Asked q
-asked-to q e = accepted q (not-true _ e)
+pub asked-to : (q : Request) → refused q ≡ false → Asked q
+asked-to q e =
+    let (f, r, p, none) = accepted q e in
+    (f, r, p, unset-exactly q .0 none)
 
-asked-from : (q : Request) → Asked q → not (refused q) ≡ true
-unfolding refused
-asked-from q (f, r, p) = rw (lt-leb 2 (filterOf q) (omega arith), le-ltb 1 (reportTypeOf q) r, ne-eqb (pagesOf q) 0 (omega arith))
+asked-from : (q : Request) → Asked q → refused q ≡ false
+asked-from q (f, r, p, alone) = not-refused q f r p (unset-exactly q .1 alone)
 
 module _ (q : Request) (last id : ℕ) where
   turn-to : inTurn q last id ≡ true → (1 ≤ id) × (startOf q ≤ id) × (last < id)
@@ -124,7 +126,7 @@ module _ (o : Order) (s : List ℕ) (q : Request) where
       let list : Offence = firstBelow n (offenceAt o s q) in
       let padding : Offence = firstBelow (length s - baseOf n) (paddingAt s (baseOf n)) in
       let rest : List Rule = below n (rulesAt o s q) ++ below (length s - baseOf n) (paddingRules s (baseOf n)) in
-      next (not (refused q)) (rule 0 (Asked q)) (asked-to q) (asked-from q) _ _
+      next (not (refused q)) (rule 0 (Asked q)) (λ e. asked-to q (not-true _ e)) (λ a. ap not (asked-from q a)) _ _
       (next-same (length s) (512 * pagesOf q) 0 _ _
       (next-same n (returnedOf (headerIn o s .number) (pagesOf q)) 4 (list orElse padding) rest
       (join list padding _ _ (list-decides n) (padding-decides (length s - baseOf n) (baseOf n)))))

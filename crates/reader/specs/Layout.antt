@@ -8,7 +8,7 @@ use lib.ListN.{length, getD}
 use Rattle.layout.specs.Bytes.{headerIn, returnedOf}
 use Rattle.layout.specs.declared.Descriptor.{Descriptor}
 use Rattle.offences.specs.Checks.{baseOf, descriptorAt, lastBefore}
-use Rattle.request.specs.Requests.{filterOf, reportTypeOf, pagesOf, startOf}
+use Rattle.request.specs.Requests.{filterOf, reportTypeOf, pagesOf, startOf, Fields-alone}
 use Rattle.request.specs.declared.Request.{Request}
 use Rattle.words.specs.declared.Order.{Order}
 
@@ -38,7 +38,7 @@ below (suc n) g = below n g ++ g n
 
 -- not: "A request that would get 4"
 abbrev pub Asked : Request → Type 0
-Asked q = (filterOf q ≤ 1) × (reportTypeOf q ≤ 1) × (1 ≤ pagesOf q)
+Asked q = (filterOf q ≤ 1) × (reportTypeOf q ≤ 1) × (1 ≤ pagesOf q) × Fields-alone q
 
 -- "only health 65h to CFh, or FFh"
 abbrev pub InFilter : ℕ → Type 0

@@ -30,9 +30,9 @@ Refuses-exactly =
     (o : Order) (s : List ℕ) (q : Request) (p : ℕ)
     → (readOf o s q ≡ tells 9 (place p) → FirstBroken (pageRules o s q) p) × (FirstBroken (pageRules o s q) p → readOf o s q ≡ tells 9 (place p))
 
--- ## What of a request is ignored
+-- ## What of a request is looked at
 
--- it is read as the answer to either
+-- its fields, and whether it sets a reserved bit: of two that are alike in these the page is read as the answer to either
 abbrev pub Ignored-unread : Type 0
 Ignored-unread = (o : Order) (s : List ℕ) (p q : Request) → Same-fields p q → readOf o s p ≡ readOf o s q
 

@@ -2,3 +2,4 @@
 pub mod Examples
 pub mod Judgement
 pub mod Requests
+pub mod ReservedBits

@@ -1,27 +1,35 @@
 -- Laws of a request: what the code's tests say of it, a law for each way out, and what callers use of the shut definitions.
 use Prim.Native.Nat.{ℕ, _≤_, _<_}
-use mathlib.Core.Bool.{Bool, true, false, true≢false, _||_, and-true, or-false}
-use mathlib.Core.Path.{_≡_, refl, sym}
+use mathlib.Core.Bool.{Bool, true, false, true≢false, _||_, and-true, or-true, or-false}
+use mathlib.Core.Path.{_≡_, refl, sym, _∙_}
 use native.Mathlib.Omega.{arith}
 use lib.Dec.{leb, ltb, eqb}
 use borrow.Author.Tests.{le-leb, lt-leb, lt-ltb, le-ltb, eq-eqb, ne-eqb, leb-false, ltb-false, eqb-false}
-use Rattle.request.specs.Requests.{filterOf, reportTypeOf, pagesOf, fieldsRefused, refused, takesType, takesHealth}
+use Rattle.request.specs.Requests.{Same-fields, filterOf, reportTypeOf, pagesOf, reservedSet, refused, takesType, takesHealth}
 use Rattle.request.specs.declared.Request.{Request}
 
 -- ## Which requests are due 4
 
-module _ (q : Request) (f : ℕ) (is-f : f ≡ filterOf q) where
-  pub refused-filter : 1 < f → true ≡ refused q
-  unfolding refused
-  refused-filter h = sym (rw (le-leb 2 (filterOf q) (omega arith)))
+module _ (q : Request) where
+  module _ (f : ℕ) (is-f : f ≡ filterOf q) where
+    pub refused-filter : 1 < f → true ≡ refused q
+    unfolding refused
+    refused-filter h = sym (rw (le-leb 2 (filterOf q) (omega arith)))
 
-  pub refused-type : f ≤ 1 → (t : ℕ) → t ≡ reportTypeOf q → 1 < t → true ≡ refused q
-  unfolding refused
-  refused-type h t is-t g = sym (rw (lt-leb 2 (filterOf q) (omega arith), lt-ltb 1 (reportTypeOf q) (omega arith)))
+    module _ (low : f ≤ 1) (t : ℕ) (is-t : t ≡ reportTypeOf q) where
+      pub refused-type : 1 < t → true ≡ refused q
+      unfolding refused
+      refused-type h = sym (rw (lt-leb 2 (filterOf q) (omega arith), lt-ltb 1 (reportTypeOf q) (omega arith)))
 
-  pub refused-pages : f ≤ 1 → (t : ℕ) → t ≡ reportTypeOf q → t ≤ 1 → eqb (pagesOf q) 0 ≡ refused q
-  unfolding refused
-  refused-pages h t is-t g = sym (rw (lt-leb 2 (filterOf q) (omega arith), le-ltb 1 (reportTypeOf q) (omega arith)))
+      module _ (less : t ≤ 1) where
+        pub refused-pages : pagesOf q ≡ 0 → true ≡ refused q
+        unfolding refused
+        refused-pages none = sym (rw (lt-leb 2 (filterOf q) (omega arith), le-ltb 1 (reportTypeOf q) (omega arith), eq-eqb (pagesOf q) 0 none))
+
+        pub refused-reserved : (pagesOf q ≡ 0 → ⊥) → (r : Bool) → r ≡ reservedSet q → r ≡ refused q
+        unfolding refused
+        refused-reserved some r is-r =
+            is-r ∙ sym (rw (lt-leb 2 (filterOf q) (omega arith), le-ltb 1 (reportTypeOf q) (omega arith), ne-eqb (pagesOf q) 0 some))
 
 -- ## The tests of an element
 
@@ -51,16 +59,25 @@ pub or-false-both : (a b : Bool) → (a || b) ≡ false → (a ≡ false) × (b 
 or-false-both true b e = absurd (true≢false e)
 or-false-both false b e = (refl, e)
 
--- a request that is not due 4 asks for a page at least, by a filter and a report type that 000 names
-pub accepted : (q : Request) → refused q ≡ false → (filterOf q ≤ 1) × (reportTypeOf q ≤ 1) × (1 ≤ pagesOf q)
+pub set-refused : (q : Request) → reservedSet q ≡ true → refused q ≡ true
+unfolding refused
+set-refused q set = rw (set, or-true, or-true, or-true)
+
+-- it is due 4 by what the fields and the reserved bits say
+pub refused-same : (p q : Request) → Same-fields p q → refused p ≡ refused q
+unfolding refused
+refused-same p q same = rw (same .filter, same .report, same .pages, same .reserved)
+
+-- a request that is not due 4 asks for a page at least, by a filter and a report type that 000 names, and sets no reserved bit
+pub accepted : (q : Request) → refused q ≡ false → (filterOf q ≤ 1) × (reportTypeOf q ≤ 1) × (1 ≤ pagesOf q) × (reservedSet q ≡ false)
 unfolding refused
 accepted q e =
-    let first = or-false-both (leb 2 (filterOf q) || ltb 1 (reportTypeOf q)) (eqb (pagesOf q) 0) e in
-    let two = or-false-both (leb 2 (filterOf q)) (ltb 1 (reportTypeOf q)) (first .0) in
-    (omega (arith, leb-false 2 (filterOf q) (two .0)), ltb-false 1 (reportTypeOf q) (two .1), omega (arith, eqb-false (pagesOf q) 0 (first .1)))
+    let one = or-false-both (leb 2 (filterOf q)) _ e in
+    let two = or-false-both (ltb 1 (reportTypeOf q)) _ (one .1) in
+    let three = or-false-both (eqb (pagesOf q) 0) (reservedSet q) (two .1) in
+    (omega (arith, leb-false 2 (filterOf q) (one .0)), ltb-false 1 (reportTypeOf q) (two .0), omega (arith, eqb-false (pagesOf q) 0 (three .0)), three .1)
 
--- nor is another with its FEATURE, a page at least and a start that is an identifier
-pub asked-again : (q p : Request) → p .feature ≡ q .feature → p .lba .0 ≤ 0xFFFF_FFFF → 1 ≤ pagesOf p → refused q ≡ false → refused p ≡ false
+-- and one that does so is not due 4
+pub not-refused : (q : Request) → filterOf q ≤ 1 → reportTypeOf q ≤ 1 → 1 ≤ pagesOf q → reservedSet q ≡ false → refused q ≡ false
 unfolding refused
-asked-again q p same low some e =
-    rw (same, or-false-both (fieldsRefused q) (eqb (pagesOf q) 0) e .0, ne-eqb (pagesOf p) 0 (λ none. omega (arith, none, some)))
+not-refused q f r p none = rw (lt-leb 2 (filterOf q) (omega arith), le-ltb 1 (reportTypeOf q) r, ne-eqb (pagesOf q) 0 (omega arith), none)

@@ -1,11 +1,21 @@
--- What holds of every judgement. It is a statement; proofs/ has the proof under the same name in lower case.
+-- What holds of every request and of every judgement. Each is a statement; proofs/ has the proof under the same name in lower case.
 use Prim.Native.Nat.{ℕ}
+use mathlib.Core.Bool.{false}
 use mathlib.Core.Path.{_≡_}
 use Rattle.paper.specs.Answers.{numberOf}
+use Rattle.paper.specs.Registers.{low48}
 use Rattle.paper.specs.declared.Answer.{Answer}
 use Rattle.paper.specs.declared.Security.{Security}
-use Rattle.request.specs.Requests.{statusNumber}
+use Rattle.request.specs.Requests.{reservedSet, Fields-alone, Same-fields, statusNumber}
 use Rattle.request.specs.declared.Request.{Request}
+
+-- no reserved bit is set exactly if the registers hold the fields and nothing else
+abbrev pub Unset-exactly : Type 0
+Unset-exactly = (q : Request) → (reservedSet q ≡ false → Fields-alone q) × (Fields-alone q → reservedSet q ≡ false)
+
+-- "if more bits of LBA are handed over, those above bit 47 are ignored": no field has them, and they are not reserved
+abbrev pub High-bits-alike : Type 0
+High-bits-alike = (q : Request) → Same-fields q (record { feature = q .feature; count = q .count; lba = low48 (q .lba) })
 
 -- no second judgement fits
 abbrev pub One-judgement : Type 0

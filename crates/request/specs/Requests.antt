@@ -1,5 +1,5 @@
--- Document 01, "GET PHYSICAL ELEMENT STATUS (12h)": a request's fields, what it is answered, and the tests of an element.
-use Prim.Native.Nat.{ℕ, _*_, _/_, _%_, _^_}
+-- Document 01, "GET PHYSICAL ELEMENT STATUS (12h)", with request 2026-05: a request's fields, what it is answered, and the tests of an element.
+use Prim.Native.Nat.{ℕ, _+_, _*_, _/_, _%_, _^_}
 use mathlib.Core.Bool.{Bool, cond, not, _||_}
 use mathlib.Core.List.{List}
 use mathlib.Core.Path.{_≡_}
@@ -16,7 +16,7 @@ use Rattle.request.specs.declared.Request.{Request}
 abbrev pub asked : Registers → Request
 asked r = record { feature = r .feature; count = record { 0 = r .count }; lba = r .lba }
 
--- "FEATURE 15:14 filter, 11:8 report type, the other bits ignored"
+-- "FEATURE 15:14 filter, 11:8 report type"
 abbrev pub filterOf : Request → ℕ
 filterOf q = q .feature / 2 ^ 14 % 2 ^ 2
 
@@ -27,24 +27,29 @@ reportTypeOf q = q .feature / 2 ^ 8 % 2 ^ 4
 abbrev pub pagesOf : Request → ℕ
 pagesOf q = q .count .0
 
--- "LBA = starting element, all 48 bits compared"
+-- "LBA = starting element": a number of 32 bits, since LBA 47:32 are reserved
 abbrev pub startOf : Request → ℕ
-startOf q = low48 (q .lba) .0
+startOf q = q .lba .0 % 2 ^ 32
 
--- two requests that differ in bits that are ignored alone: "the other bits ignored", and "those above bit 47"
+-- "refuses FEATURE 13:12 or 7:0 not zero, or LBA 47:32 not zero"
+abbrev pub reservedSet : Request → Bool
+reservedSet q = not (eqb (q .feature / 2 ^ 12 % 2 ^ 2) 0) || (not (eqb (q .feature % 2 ^ 8) 0) || not (eqb (q .lba .0 / 2 ^ 32 % 2 ^ 16) 0))
+
+-- FEATURE's 16 bits hold filter and report type alone, and LBA's 48 the start alone
+abbrev pub Fields-alone : Request → Type 0
+Fields-alone q = (q .feature % 2 ^ 16 ≡ filterOf q * 2 ^ 14 + reportTypeOf q * 2 ^ 8) × (low48 (q .lba) .0 ≡ startOf q)
+
+-- "Checks: filter 10b or 11b, report type above 1, p = 0: all 4"; reserved bits: "4, after the page count check and before the buffer check"
+unfoldable pub refused : Request → Bool
+refused q = leb 2 (filterOf q) || (ltb 1 (reportTypeOf q) || (eqb (pagesOf q) 0 || reservedSet q))
+
+-- two requests of the same fields, with a reserved bit set in both or in neither
 pub record Same-fields (p q : Request) : Type 0 where
   pub filter : filterOf p ≡ filterOf q
   pub report : reportTypeOf p ≡ reportTypeOf q
   pub pages : pagesOf p ≡ pagesOf q
   pub start : startOf p ≡ startOf q
-
--- FEATURE's two fields
-abbrev pub fieldsRefused : Request → Bool
-fieldsRefused q = leb 2 (filterOf q) || ltb 1 (reportTypeOf q)
-
--- "Checks: filter 10b or 11b, report type above 1, p = 0: all 4"
-unfoldable pub refused : Request → Bool
-refused q = fieldsRefused q || eqb (pagesOf q) 0
+  pub reserved : reservedSet p ≡ reservedSet q
 
 -- "all 4; then the buffer below 512p bytes: 7. Allowed during a removal."; 1 by 000, table 12, where no state aborts it
 abbrev pub statusNumber : Security → Request → ℕ → ℕ

@@ -1,7 +1,7 @@
 // A request for status pages (12h): which are due 4, the tests of an element, and what a request is answered.
 ghost use mathlib.Core.Path.{_≡_};
 ghost use Rattle.paper.specs.Answers.{numberOf};
-ghost use Rattle.request.specs.Requests.{filterOf, reportTypeOf, startOf, refused, statusNumber, takesId, takesType, takesHealth, requestFor};
+ghost use Rattle.request.specs.Requests.{filterOf, reportTypeOf, startOf, reservedSet, refused, statusNumber, takesId, takesType, takesHealth, requestFor};
 use paper::Answer;
 use paper::Command;
 use paper::ElementId;
@@ -29,11 +29,23 @@ impl Request {
         self.feature / 256 % 16
     }
 
-    fn start(self) -> u64
-        ensures { λ r. ⌜ r ≡ startOf self ⌝ }
+    fn start(self) -> ElementId
+        ensures { λ r. ⌜ r .0 ≡ startOf self ⌝ }
     {
-        let start = self.lba.low48();
-        start.0
+        ElementId((self.lba.0 % 0x1_0000_0000) as u32)
+    }
+
+    // Whether a bit of FEATURE 13:12 or 7:0 or of LBA 47:32 is set.
+    fn sets_reserved(self) -> bool
+        ensures { λ r. ⌜ r ≡ reservedSet self ⌝ }
+    {
+        if self.feature / 4096 % 4 != 0 {
+            return true;
+        }
+        if self.feature % 256 != 0 {
+            return true;
+        }
+        self.lba.0 / 0x1_0000_0000 % 0x1_0000 != 0
     }
 
     // Whether the request is due 4.
@@ -46,14 +58,18 @@ impl Request {
         if 1 < self.report_type() {
             return true;
         }
-        self.count.0 == 0
+        if self.count.0 == 0 {
+            return true;
+        }
+        self.sets_reserved()
     }
 
     // Whether an identifier is at or above the start.
     pub fn takes_id(self, id: ElementId) -> bool
         ensures { λ r. ⌜ r ≡ takesId self (id .0) ⌝ }
     {
-        self.start() <= id.0 as u64
+        let start = self.start();
+        start.0 <= id.0
     }
 
     pub fn takes_type(self, kind: u8) -> bool

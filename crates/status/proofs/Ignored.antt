@@ -1,8 +1,9 @@
--- A page goes by a request's four fields alone; and what lies above bit 47 of LBA is not looked at: each rule drops it, or goes by lower bits.
+-- A page goes by a request's fields, and by whether it sets a reserved bit, alone; and what lies above bit 47 of LBA is not looked at: each rule
+-- drops it, or goes by lower bits.
 use Prim.Native.Nat.{ℕ, _+_, _%_, _^_}
 use mathlib.Core.Bool.{cond, _&&_}
 use mathlib.Core.List.{List}
-use mathlib.Core.Path.{_≡_, refl, sym, ap}
+use mathlib.Core.Path.{_≡_, sym, ap}
 use native.Mathlib.Nat.{mod-mod}
 use lib.Dec.{eqb, leb, ltb}
 use lib.ListN.{length}
@@ -20,19 +21,20 @@ use Rattle.paper.specs.Told.{Told}
 use Rattle.paper.specs.declared.Lba.{Lba}
 use Rattle.paper.specs.declared.Security.{Security}
 use Rattle.removal.specs.Remove.{identifierOf, judge}
-use Rattle.request.specs.Requests.{Same-fields, asked, refused, statusNumber, takesType, takesHealth}
+use Rattle.request.proofs.Requests.{refused-same}
+use Rattle.request.proofs.ReservedBits.{high-bits-alike}
+use Rattle.request.specs.Requests.{Same-fields, asked, statusNumber, takesType, takesHealth}
 use Rattle.request.specs.declared.Request.{Request}
 use Rattle.slices.specs.Lists.{keep}
 use Rattle.view.specs.Shown.{asks}
 use Rattle.status.specs.Page.{shownAll, listOf, pageOf}
 use Rattle.status.specs.Promises.{Ignored-unshown, lowered, High-bits-unseen}
 
--- ## The four fields
+-- ## The fields
 
 module _ (p q : Request) (same : Same-fields p q) where
   number-same : (s : Security) (room : ℕ) → statusNumber s p room ≡ statusNumber s q room
-  unfolding refused
-  number-same s room = rw (same .filter, same .report, same .pages)
+  number-same s room = rw (refused-same p q same, same .pages)
 
   module _ (d : Device) where
     list-same : listOf d p ≡ listOf d q
@@ -68,18 +70,14 @@ module _ (d : Device) (s : Security) (r : Registers) where
   other-low = rw (open-low (r .code) (r .feature) (r .lba .0), media-low (d .cells .failed) (d .cells .accessible) (r .count) (r .lba))
 
   quiet-low : (room : ℕ) → quietNumber d s r room ≡ quietNumber d s (lowered r) room
-  unfolding refused
-  quiet-low room = ap (cond (eqb (r .code) 0x12) (statusNumber s (asked r) room)) other-low
+  quiet-low room = λ i. cond (eqb (r .code) 0x12) (number-same (asked r) (asked (lowered r)) (high-bits-alike (asked r)) s room i) (other-low i)
 
   rule-low : (room : ℕ) → rule d (command s r room) ≡ rule d (command s (lowered r) room)
   rule-low room =
       λ i. cond (eqb (r .code) 0x7C) (judge (d .table) (d .cells) (d .position) s (identifierOf r) (once (r .lba) i)) (says (quiet-low room i) d)
 
-  asked-low : Same-fields (asked r) (asked (lowered r))
-  asked-low = record { filter = refl; report = refl; pages = refl; start = ap (λ (x : Lba). x .0) (once (r .lba)) }
-
 pub high-bits-unseen : High-bits-unseen
 high-bits-unseen d s r buf = (
   ap (tell d) (rule-low d s r (length buf)),
-  ap (λ (t : Told (List ℕ)). cond (eqb (r .code) 0x12) (t .state) buf) (ignored-unshown d s (asked r) (asked (lowered r)) buf (asked-low d s r)),
+  ap (λ (t : Told (List ℕ)). cond (eqb (r .code) 0x12) (t .state) buf) (ignored-unshown d s (asked r) (asked (lowered r)) buf (high-bits-alike (asked r))),
 )

@@ -36,12 +36,13 @@ pub pages : (nextOf (zeros 512) (request 0 1 0) ≡ tells 0 end)
 unfolding nextOf reachOf refused takesHealth
 pages = (refl, refl, refl, refl, refl, refl)
 
--- as the reader has it: a request that is due 4, N above returned without a descriptor, a start above the first identifier
+-- as the reader has it: two requests that are due 4, N above returned without a descriptor, a start above the first identifier
 pub refusals : (nextOf pageG1 (request 0x8000 1 0) ≡ tells 9 (place 0))
+    × (nextOf pageG1 (request 0x4100 1 0x1_0000_0000) ≡ tells 9 (place 0))
     × (nextOf (1 ∷ zeros 511) (request 0 1 0) ≡ tells 9 (place 4))
     × (nextOf (page 16 15 0) (request 0 1 2) ≡ tells 9 (place 36))
 unfolding nextOf reachOf refused takesHealth
-refusals = (refl, refl, refl)
+refusals = (refl, refl, refl, refl)
 
 -- ## Sixteen elements by pages of one
 

@@ -32,7 +32,7 @@ use Rattle.reader.specs.Page.{pageOffence}
 use Rattle.reader.specs.Reserved.{Looks-alike}
 use Rattle.reader.specs.declared.Slot.the-variants.{Outside, Holds}
 use Rattle.reader.specs.declared.Slot.{Slot}
-use Rattle.request.proofs.Requests.{asked-again}
+use Rattle.request.proofs.ReservedBits.{asked-again}
 use Rattle.request.specs.Requests.{pagesOf, refused}
 use Rattle.request.specs.declared.Request.{Request}
 use Rattle.words.specs.declared.Order.the-variants.{Little}

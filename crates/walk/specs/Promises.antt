@@ -64,7 +64,7 @@ Asks-exactly = (s : List ℕ) (q : Request) (id : ElementId) → (nextOf s q ≡
 abbrev pub Next-asked : Type 0
 Next-asked = (s : List ℕ) (q : Request) (id : ElementId) (pages : PageCount) → Leads s q id → 1 ≤ pages .0 → refused (nextRequest q id pages) ≡ false
 
--- "the other bits ignored"
+-- requests that are alike in their fields, and in whether they set a reserved bit, lead alike
 abbrev pub Ignored-unasked : Type 0
 Ignored-unasked = (s : List ℕ) (p q : Request) → Same-fields p q → nextOf s p ≡ nextOf s q
 

@@ -1,4 +1,4 @@
--- `request::Request::takes_id`: the start, compared as a number of 64 bits.
+-- `request::Request::takes_id`: two numbers of 32 bits.
 use borrow.Author.Needs.{needs}
 use Rattle.request.proofs.Request.takes_id.Statement.{statement}
 use Rattle.request.proofs.Request.takes_id.Tie as tie
@@ -8,5 +8,4 @@ takes-id-spec =
     tie.close
     (tie.spec
     (λ c κs. search needs)
-    (λ c. search needs)
     (λ c. cc))
