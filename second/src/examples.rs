@@ -1,5 +1,5 @@
-//! Document 01's bench examples, run on the bench, and some of requests 2026-03 and
-//! 2026-04.
+//! Document 01's bench examples, run on the bench, and some of requests 2026-03 to
+//! 2026-05.
 
 use crate::cases::docks_size::example;
 use crate::cases::pages_size::g1;
@@ -121,15 +121,11 @@ fn g1_and_its_listing() {
     );
 }
 
+/// "Example G2 now gets 4" (request 2026-05), its buffer untouched.
 #[test]
 fn g2_g3_g4() {
-    let page = answers("command unlocked 12 4100 1 100000000 200\n");
-    let expected = [
-        DONE,
-        "0000000000000000000000000200000000000000000000000000000000000000",
-        "zeros 15",
-    ];
-    assert_eq!(page, expected);
+    let g2 = answers("command unlocked 12 4100 1 100000000 200\n");
+    assert_eq!(g2, [REFUSED]);
     assert_eq!(last_answer("command unlocked 12 4100 0 0 200\n"), REFUSED);
     assert_eq!(last_answer("command unlocked 12 8000 1 0 200\n"), REFUSED);
 }
@@ -357,7 +353,7 @@ fn check_walk(device: &Device, feature: u16, counts: &[u16], start: u64) {
 fn whole_walks() -> Result<(), Answer> {
     for device in walked_devices()? {
         for feature in [0x0000, 0x0100, 0x4000, 0x4100] {
-            for start in [0, 2, 0x5001, 0xFFFF_FFF0, 0xFFFF_FFFF, 0x1_0000_0000] {
+            for start in [0, 2, 0x5001, 0xFFFF_FFF0, 0xFFFF_FFFF, 0x1_0000_0000_0000] {
                 for counts in [&[1][..], &[1, 2], &[2, 1, 1], &[3], &[4, 1], &[9]] {
                     check_walk(&device, feature, counts, start);
                 }
@@ -365,4 +361,47 @@ fn whole_walks() -> Result<(), Answer> {
         }
     }
     Ok(())
+}
+
+/// What device A says to G1 with these bits set as well, into a buffer of `length`.
+fn g1_with(feature: u16, lba: u64, length: u16) -> Vec<String> {
+    let feature = 0x4100 | feature;
+    answers(&format!(
+        "command unlocked 12 {:x} 1 {:x} {:x}\n",
+        feature, lba, length
+    ))
+}
+
+/// Request 2026-05: "FEATURE 13:12 or 7:0 not zero, or LBA 47:32 not zero", each bit by
+/// itself; "4, .. before the buffer check".
+#[test]
+fn reserved_bits_refused() {
+    let features = (0..8).chain(12..14).map(|bit| (1 << bit, 0));
+    let starts = (32..48).map(|bit| (0, 1 << bit));
+    for (feature, lba) in features.chain(starts) {
+        for length in [0x200, 0x1FF, 0] {
+            assert_eq!(g1_with(feature, lba, length), [REFUSED]);
+        }
+    }
+}
+
+/// "those above bit 47 are ignored", now as before.
+#[test]
+fn bits_above_47_ignored() {
+    for bit in 48..64 {
+        assert_eq!(g1_with(0, 1 << bit, 0x200), g1_with(0, 0, 0x200));
+    }
+}
+
+/// "A laptop sent a start of 1_0000_0003h and showed an empty store as healthy."
+#[test]
+fn the_start_of_a_laptop() {
+    let sent = answers("command unlocked 12 0 1 100000003 200\n");
+    assert_eq!(sent, [REFUSED]);
+    // "the reader treats such a request as refused": the empty page, read again.
+    let empty = |call: &str| last_answer(&format!("length 200\n{}\n", call));
+    assert_eq!(empty("next 0 1 3"), "end");
+    assert_eq!(empty("read 0 1 100000003"), "9 at 0");
+    assert_eq!(empty("next 0 1 100000003"), "9 at 0");
+    assert_eq!(empty("toscsi 0 1 100000003 20"), "9 at 0");
 }

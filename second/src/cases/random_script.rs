@@ -8,6 +8,7 @@ use super::script_text::{command_line, element_line};
 use crate::rules::bench::Bench;
 use crate::rules::device::Device;
 use crate::rules::layout::descriptor;
+use crate::rules::request::{RESERVED_FEATURE, RESERVED_LBA};
 use crate::rules::script::MOST_LENGTH;
 use crate::rules::table::Element;
 
@@ -44,6 +45,11 @@ fn near_unload(mut rng: Rng) -> (u16, u64) {
         2 => (rng.next() as u16, rng.next()),
         _ => (feature, lba),
     }
+}
+
+/// A bit of LBA above a start: reserved up to 47, ignored from there on.
+pub fn high_bit(mut rng: Rng) -> u64 {
+    1 << (32 + rng.below(32))
 }
 
 /// Lines that are no calls, or nearly so.
@@ -240,12 +246,12 @@ impl Session {
         self.say(&command_line(state, 0x12, feature, count, lba, length));
     }
 
-    /// A sound filter and report type mostly, ignored bits now and then.
+    /// A sound filter and report type mostly, a reserved bit now and then.
     fn feature(&mut self) -> u16 {
         let sound = self.rng.pick(&[0x0000, 0x0100, 0x4000, 0x4100]);
         match self.rng.below(12) {
-            0 => self.rng.next() as u16,
-            1 => sound | self.rng.next() as u16 & 0x30FF,
+            0 => self.rng.next() as u16 & !RESERVED_FEATURE,
+            1 => sound | 1 << self.rng.below(16) & RESERVED_FEATURE,
             _ => sound,
         }
     }
@@ -256,9 +262,9 @@ impl Session {
             0 => identifier,
             1 => identifier + 1,
             2 => identifier - 1,
-            3 => identifier + (1 << 32),
+            3 => identifier | high_bit(self.rng.aside()),
             4 => identifier + (1 << 48),
-            5 => self.rng.next(),
+            5 => self.rng.next() & !RESERVED_LBA,
             _ => 0,
         }
     }
@@ -323,6 +329,7 @@ impl Session {
             1 => count = self.rng.below(4) as u16,
             2 => lba = lba.wrapping_add(1),
             3 => lba = 0,
+            4 => lba |= high_bit(self.rng.aside()),
             _ => {}
         }
         self.say(&format!("read {:x} {:x} {:x}", feature, count, lba));

@@ -3,7 +3,7 @@
 
 use super::random_dock::random_pages;
 use super::random_page::random_health;
-use super::random_script::random_script;
+use super::random_script::{high_bit, random_script};
 use super::rng::Rng;
 use crate::rules::bench::Bench;
 use crate::rules::convert;
@@ -181,14 +181,18 @@ impl Weave {
         let mut buffer = [0; MOST_LENGTH];
         let needed = convert::to_scsi(&self.bench.page, &self.asked, &mut buffer);
         let length = self.length_about(needed.unwrap_or(0));
-        let (feature, count, lba) = (self.asked.feature, self.asked.count, self.asked.lba());
+        let (feature, count, mut lba) = (self.asked.feature, self.asked.count, self.asked.lba());
+        let mut aside = self.rng.aside();
+        if aside.once_in(12) {
+            lba |= high_bit(aside);
+        }
         let words = format!("{:x} {:x} {:x} {:x}", feature, count, lba, length);
         self.say(&format!("toscsi {}", words));
         // The same request of SCSI.
         self.request = ScsiRequest {
             filter: (feature >> 14) as u8,
             report_type: (feature >> 8) as u8 & 0xF,
-            start: lba.min(u64::from(u32::MAX)) as u32,
+            start: lba as u32,
         };
     }
 

@@ -2,6 +2,7 @@
 //! drawn for them is drawn aside: the lines of `random_scsi_script` stay as they
 //! are.
 
+use super::random_script::high_bit;
 use super::random_scsi::random_scsi_script;
 use super::rng::Rng;
 use super::script_text::Text;
@@ -9,7 +10,7 @@ use super::walks::{walk, Asked};
 use crate::rules::bench::Bench;
 use crate::rules::device::Device;
 use crate::rules::layout::{descriptor, IDENTIFIER};
-use crate::rules::request::Registers;
+use crate::rules::request::{Registers, RESERVED_LBA};
 use crate::rules::script::{meaning, Call, Line};
 
 /// A script of about `lines` lines and the calls between them.
@@ -83,8 +84,8 @@ impl Weave {
         match self.rng.below(8) {
             0 => identifier,
             1 => identifier + 1,
-            2 => identifier + (1 << 48),
-            3 => self.rng.next(),
+            2 => identifier | high_bit(self.rng.aside()),
+            3 => self.rng.next() & !RESERVED_LBA,
             _ => 0,
         }
     }
@@ -110,6 +111,7 @@ impl Weave {
             0 => feature ^= self.rng.pick(&[0x0001, 0x0100, 0x0200, 0x4000, 0x8000]),
             1 => count = self.rng.below(4) as u16,
             2 => lba += 1,
+            3 => lba |= high_bit(self.rng.aside()),
             _ => {}
         }
         self.text.next(feature, count, lba);

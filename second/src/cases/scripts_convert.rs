@@ -45,7 +45,7 @@ fn filled(mut draft: Draft) -> Draft {
 fn to_scsi_pages() -> Case {
     let mut text = Text::with_a();
     for feature in [0x0000, 0x0100, 0x4000, 0x4100] {
-        for start in [0, 4, 0x1_0000_0000] {
+        for start in [0, 4, 0xFFFF_FFFE] {
             text.command(0x12, feature, 1, start, 0x200);
             text.toscsi(0x4100, 1, start + 1, 0x1_0000);
             text.toscsi(feature, 2, start, 0x1_0000);
@@ -56,7 +56,7 @@ fn to_scsi_pages() -> Case {
     text.toscsi(0x8000, 2, 0, 0x1_0000);
     text.toscsi(0x0200, 2, 0, 0x1_0000);
     text.toscsi(0, 0, 0, 0x1_0000);
-    text.toscsi(0x30FF, 2, 1 << 48, 0x1_0000);
+    text.toscsi(0, 2, 1 << 48, 0x1_0000);
     to_scsi_cut(&mut text);
     text.named("toscsi-pages")
 }

@@ -216,7 +216,7 @@ fn earlier_checks() -> Case {
     text.named("read-earlier-checks")
 }
 
-/// "A request that would get 4 gets 9 at place 0"; ignored bits stay ignored.
+/// "A request that would get 4 gets 9 at place 0"; bits above 47 stay ignored.
 fn requests() -> Case {
     let mut text = Text::new();
     text.page(&base());
@@ -226,7 +226,7 @@ fn requests() -> Case {
         }
     }
     for feature in FEATURES {
-        text.read(feature | 0x30FF, 1, 0);
+        text.read(feature, 1, 0xFFFF << 48);
         text.read(feature, 0, 0);
     }
     // The same on a page without bytes.
@@ -238,21 +238,21 @@ fn requests() -> Case {
     text.named("read-requests")
 }
 
-/// The start has 48 bits; an identifier 32.
+/// Start and identifier have 32 bits; those above 47 do not count.
 fn starts() -> Case {
     let starts = [
         0,
         0x0FFF_FFFF,
+        0x7FFF_FFFF,
         0x8000_0000,
+        0x8000_0001,
         0xFFFF_FFFE,
         0xFFFF_FFFF,
-        0x1_0000_0000,
-        0x1_8000_0000,
-        0xFFFF_FFFF_FFFF,
         0x1_0000_0000_0000,
         0x1_0000_8000_0000,
         0x1_0000_8000_0001,
-        u64::MAX,
+        0x8000_0000_8000_0000,
+        0xFFFF_0000_FFFF_FFFF,
     ];
     let mut text = Text::new();
     for identifier in [0x8000_0000, 0xFFFF_FFFF] {
@@ -294,7 +294,7 @@ fn own_pages() -> Case {
     let mut text = Text::with_a();
     let ask = |text: &mut Text| {
         for feature in FEATURES {
-            for start in [0, 4, 0x1_0000_0000] {
+            for start in [0, 4, 0xFFFF_FFFE] {
                 text.command(0x12, feature, 1, start, 0x200);
                 text.read(feature, 1, start);
                 text.read(0x4100, 1, start);

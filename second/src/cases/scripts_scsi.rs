@@ -106,7 +106,7 @@ fn fields() -> Case {
     let ffff: &[&str] = &["ffff", "FFFF", "10000", "10001"];
     let lengths: &[&str] = &["ffff", "10000", "10001", "fffff"];
     let lba: &[&str] = &[
-        "ffffffffffffffff",
+        "ffff0000ffffffff",
         "1000000000000",
         "1000000000001",
         "10000000000000000",
@@ -125,7 +125,7 @@ fn fields() -> Case {
         ("toata 0 0 ? 1 100", ffffffff),
         ("toata 0 0 0 ? 200", ffff),
         ("toata 0 0 0 0 ?", lengths),
-        ("toscsi ? 1 0 20", &["30ff", "ffff", "10000"]),
+        ("toscsi ? 1 0 20", &["4100", "ffff", "10000"]),
         ("toscsi 0 ? 0 20", ffff),
         ("toscsi 0 1 ? 10", lba),
         ("toscsi 0 0 0 ?", lengths),

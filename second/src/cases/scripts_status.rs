@@ -50,20 +50,20 @@ fn features() -> Case {
     text.named("status-features")
 }
 
-/// "the other bits ignored".
+/// Of LBA "those above bit 47 are ignored".
 fn ignored_bits() -> Case {
     let mut text = Text::new();
     text.make(&mixed_table(), 0);
     for feature in [0x0000, 0x0100, 0x4000, 0x4100] {
-        text.command(0x12, feature | 0x30FF, 1, 0, 0x200);
+        text.command(0x12, feature, 1, 0xFFFF << 48, 0x200);
     }
-    for bit in (0..8).chain(12..14) {
-        text.command(0x12, 0x4100 | 1 << bit, 1, 0x11, 0x200);
+    for bit in 48..64 {
+        text.command(0x12, 0x4100, 1, 0x11 | 1 << bit, 0x200);
     }
     text.named("status-ignored-bits")
 }
 
-/// "identifier at or above the start", "all 48 bits compared".
+/// "identifier at or above the start", which is LBA 31:0.
 fn starts() -> Case {
     let mut text = Text::new();
     text.make(&mixed_table(), 0);
@@ -81,20 +81,20 @@ fn starts() -> Case {
         0x1_0001,
         0x1_0010,
         0x1_0011,
+        0x7FFF_FFFF,
+        0x8000_0000,
+        0x8000_0010,
         0xFFFF_FFFE,
         0xFFFF_FFFF,
-        0x1_0000_0000,
-        0x1_0000_0010,
-        0x8000_0000_0010,
-        0xFFFF_FFFF_FFFF,
         0x1_0000_0000_0000,
         0x1_0000_0000_0020,
-        u64::MAX,
+        0x8000_0000_0000_0010,
+        0xFFFF_0000_FFFF_FFFF,
     ];
     for start in starts {
         text.command(0x12, 0, 1, start, 0x200);
     }
-    for start in [0x11, 0x1_0001, 0x1_0000_0000] {
+    for start in [0x11, 0x1_0001, 0xFFFF_FFFF] {
         text.command(0x12, 0x4100, 1, start, 0x200);
     }
     text.named("status-starts")

@@ -1,4 +1,4 @@
-//! The rules of document 01 and of requests 2026-01 to 2026-04, and the bench
+//! The rules of document 01 and of requests 2026-01 to 2026-05, and the bench
 //! language over them.
 
 pub mod answer;

@@ -6,6 +6,10 @@ pub const STORAGE: u8 = 0x01;
 /// Health of a removed element.
 pub const REMOVED: u8 = 0xFF;
 
+/// The reserved bits of a request for status: FEATURE 13:12 and 7:0, LBA 47:32.
+pub const RESERVED_FEATURE: u16 = 0x30FF;
+pub const RESERVED_LBA: u64 = 0xFFFF_0000_0000;
+
 /// FEATURE, COUNT and LBA as handed over.
 #[derive(Clone, Copy, Debug, PartialEq, Eq)]
 pub struct Registers {
@@ -44,12 +48,12 @@ impl Registers {
 pub struct Wanted {
     filtered: bool,
     storage_only: bool,
-    start: u64,
+    start: u32,
 }
 
 impl Wanted {
     /// "filter 10b or 11b, report type above 1, ..: all 4": `None`.
-    pub fn of(filter: u16, report_type: u16, start: u64) -> Option<Wanted> {
+    pub fn of(filter: u16, report_type: u16, start: u32) -> Option<Wanted> {
         if filter > 1 {
             return None;
         }
@@ -63,9 +67,9 @@ impl Wanted {
         })
     }
 
-    /// "identifier at or above the start", of ATA "all 48 bits compared".
+    /// "identifier at or above the start".
     pub fn takes_identifier(&self, identifier: u32) -> bool {
-        u64::from(identifier) >= self.start
+        identifier >= self.start
     }
 
     /// "type 01h only if report type is 1".
@@ -87,12 +91,18 @@ pub struct Request {
 }
 
 impl Request {
-    /// "filter 10b or 11b, report type above 1, p = 0: all 4": `None`.
+    /// "filter 10b or 11b, report type above 1, p = 0: all 4", and of reserved bits
+    /// "4, after the page count check" (request 2026-05): `None`.
     pub fn of(registers: &Registers) -> Option<Request> {
         let filter = registers.feature >> 14;
         let report_type = (registers.feature >> 8) & 0xF;
-        let wanted = Wanted::of(filter, report_type, registers.lba())?;
+        // LBA 31:0.
+        let start = registers.lba() as u32;
+        let wanted = Wanted::of(filter, report_type, start)?;
         if registers.count == 0 {
+            return None;
+        }
+        if has_reserved_bits(registers) {
             return None;
         }
         Some(Request {
@@ -110,4 +120,9 @@ impl Request {
     pub fn room(&self) -> u32 {
         16 * u32::from(self.pages) - 1
     }
+}
+
+/// "FEATURE 13:12 or 7:0 not zero, or LBA 47:32 not zero".
+fn has_reserved_bits(registers: &Registers) -> bool {
+    registers.feature & RESERVED_FEATURE != 0 || registers.lba & RESERVED_LBA != 0
 }

@@ -21,7 +21,7 @@ impl ScsiRequest {
         Wanted::of(
             u16::from(self.filter),
             u16::from(self.report_type),
-            u64::from(self.start),
+            self.start,
         )
     }
 }
