@@ -6,8 +6,9 @@ use super::random_scsi::random_scsi_script;
 use super::random_walk::random_walk_script;
 use super::{scripts_command, scripts_convert, scripts_disturbed, scripts_example};
 use super::{scripts_grade, scripts_kept, scripts_lines, scripts_reader};
-use super::{scripts_removal, scripts_scsi, scripts_scsi_read, scripts_scsi_write};
-use super::{scripts_status, scripts_table, scripts_unload, scripts_walk, scripts_words};
+use super::{scripts_removal, scripts_reserved, scripts_scsi, scripts_scsi_read};
+use super::{scripts_scsi_write, scripts_status, scripts_table, scripts_unload};
+use super::{scripts_walk, scripts_words};
 
 /// All scripts, in the order in which they are run.
 pub fn script_cases() -> Vec<Case> {
@@ -31,6 +32,7 @@ pub fn script_cases() -> Vec<Case> {
     cases.extend(seeded_scsi());
     cases.extend(scripts_walk::cases());
     cases.push(seeded_walk());
+    cases.extend(scripts_reserved::cases());
     cases
 }
 

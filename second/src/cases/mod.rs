@@ -38,6 +38,7 @@ mod scripts_kept;
 mod scripts_lines;
 mod scripts_reader;
 mod scripts_removal;
+mod scripts_reserved;
 mod scripts_scsi;
 mod scripts_scsi_read;
 mod scripts_scsi_write;
