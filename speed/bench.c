@@ -197,7 +197,7 @@ static void convert(struct outcome outcome, void (*print)(void), size_t length)
 static void convert_to_scsi(const uint64_t *n)
 {
     lend(n[3]);
-    convert(to_scsi(lent, n[3], page, kept, n[0], n[1], n[2] & LBA_BITS), print_data, n[3]);
+    convert(to_scsi(lent, n[3], page, kept, n[0], n[1], n[2]), print_data, n[3]);
 }
 
 static void convert_to_ata(const uint64_t *n)
@@ -283,7 +283,7 @@ static void print_list(size_t count, enum order order)
 
 static void print_reading(const uint64_t *n)
 {
-    ssize_t offence = check(page, kept, n[0], n[1], n[2] & LBA_BITS);
+    ssize_t offence = check(page, kept, n[0], n[1], n[2]);
     if (offence >= 0)
         say_number("9 at ", offence);
     else
@@ -304,7 +304,7 @@ static void print_data_reading(const uint64_t *n)
 
 static void print_next(const uint64_t *n)
 {
-    ssize_t offence = check(page, kept, n[0], n[1], n[2] & LBA_BITS);
+    ssize_t offence = check(page, kept, n[0], n[1], n[2]);
     if (offence >= 0) {
         say_number("9 at ", offence);
         return;

@@ -62,6 +62,7 @@ static const struct kase cases[] = {
     {SHOW, "9-pages",                  0, IDLE,   {UNLOCKED, .count = 9, .room = 4608},                     {1, OF_C(100),   2560}},
     {SHOW, "9-pages-filtered",         0, IDLE,   {UNLOCKED, .feature = 0x4100, .count = 9, .room = 4608},  {1, OF_C(100),   2560}},
     {SHOW, "refused",                  0, IDLE,   {UNLOCKED, .count = 0, .room = 512},                      {0, UP_TO(100),  2560}},
+    {SHOW, "reserved-bit",             0, IDLE,   {UNLOCKED, .count = 1, .lba = 1ull << 32, .room = 512},   {0, UP_TO(100),  2560}},
     {SHOW, "small-buffer",             0, IDLE,   {UNLOCKED, .count = 2, .room = 512},                      {0, UP_TO(100),  2560}},
     {SEND, "whole",                    0, IDLE,   {.allocation = 4608, .room = 4608},                       {2, OF_C(100),   2560}},
     {SEND, "filtered",                 0, IDLE,   {SLOW, .allocation = 4608, .room = 4608},                 {2, OF_C(100),   2560}},

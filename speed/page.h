@@ -1,5 +1,6 @@
 // A status page, or SCSI data, in plain C: its fields, its checks in the order of document 01 and of request 2026-03, and its text.
 #include "order.h"
+#include "request.h"
 #include "text.h"
 
 static inline uint32_t number_of(const uint8_t *page, enum order order) { return load(page, 4, order); }
@@ -19,7 +20,7 @@ static inline int passes(uint8_t filter, uint8_t health)
 }
 
 // The first `count` descriptors.
-static inline ssize_t check_list(const uint8_t *page, size_t count, enum order order, uint8_t filter, uint8_t type, uint64_t start)
+static inline ssize_t check_list(const uint8_t *page, size_t count, enum order order, uint8_t filter, uint8_t type, uint32_t start)
 {
     uint32_t last = 0;
     for (size_t at = 32; at < 32 + 32 * count; at += 32) {
@@ -39,10 +40,11 @@ static inline ssize_t check_list(const uint8_t *page, size_t count, enum order o
 }
 
 // A page as the answer to a request.
-static inline ssize_t check(const uint8_t *page, size_t length, uint16_t feature, uint16_t pages, uint64_t start)
+static inline ssize_t check(const uint8_t *page, size_t length, uint16_t feature, uint16_t pages, uint64_t lba)
 {
     uint8_t filter = feature >> 14, type = feature >> 8 & 15;
-    if (filter > 1 || type > 1 || pages == 0)
+    uint32_t start = lba;
+    if (is_refused(feature, pages, lba))
         return 0;
     if (length != 512 * (size_t)pages)
         return 0;

@@ -1,6 +1,9 @@
 // Document 01 in plain C, in place: what `./recorder speed` sets beside the proved calls.
 #include "order.h"
 #include "plain.h"
+#include "request.h"
+
+#define LBA_BITS ((1ull << 48) - 1) // Those that count.
 
 // ---- Table and cells
 
@@ -134,7 +137,7 @@ int plain_grade(struct plain_device *d, uint32_t id, uint8_t health)
 
 // ---- GET PHYSICAL ELEMENT STATUS (12h)
 
-static int does_ask(const struct element *e, uint8_t filter, uint8_t type, uint64_t start)
+static int does_ask(const struct element *e, uint8_t filter, uint8_t type, uint32_t start)
 {
     if (e->id < start)
         return 0;
@@ -169,12 +172,12 @@ static void put_descriptor(uint8_t *to, const struct element *e, enum order orde
     store(to + 24, 0, 8, order);
 }
 
-int plain_show(const struct plain_device *d, uint16_t feature, uint16_t pages, uint64_t start, uint8_t *page, size_t length)
+int plain_show(const struct plain_device *d, uint16_t feature, uint16_t pages, uint64_t lba, uint8_t *page, size_t length)
 {
     uint8_t filter = feature >> 14, type = feature >> 8 & 15;
+    uint32_t start = lba;
     size_t number = 0, returned = 0, at_ffh = 0, most = 16 * (size_t)pages - 1;
-    start &= LBA_BITS;
-    if (filter > 1 || type > 1 || pages == 0)
+    if (is_refused(feature, pages, lba))
         return 4;
     if (length < 512 * (size_t)pages)
         return 7;

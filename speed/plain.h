@@ -1,8 +1,6 @@
 // The same device and calls in plain C.
 #include "libc.h"
 
-#define LBA_BITS ((1ull << 48) - 1) // Those that count.
-
 struct element {
     uint64_t blocks;
     uint32_t id;
@@ -33,7 +31,7 @@ int plain_power_cut(struct plain_device *d);
 int plain_reset(struct plain_device *d);
 int plain_remove(struct plain_device *d, enum security security, uint16_t feature, uint16_t count, uint64_t lba);
 int plain_grade(struct plain_device *d, uint32_t id, uint8_t health);
-int plain_show(const struct plain_device *d, uint16_t feature, uint16_t pages, uint64_t start, uint8_t *page, size_t length);
+int plain_show(const struct plain_device *d, uint16_t feature, uint16_t pages, uint64_t lba, uint8_t *page, size_t length);
 int plain_send(const struct plain_device *d, uint8_t filter, uint8_t type, uint32_t start, uint32_t allocation, uint8_t *buf, size_t length,
                size_t *written);
 int plain_command(struct plain_device *d, enum security security, uint8_t code, uint16_t feature, uint16_t count, uint64_t lba,

@@ -43,9 +43,9 @@ static inline void turn_list(uint8_t *to, const uint8_t *from, size_t count)
 
 // A page as the answer to a request.
 static inline struct outcome to_scsi(uint8_t *to, size_t room, const uint8_t *page, size_t length, uint16_t feature, uint16_t pages,
-                                     uint64_t start)
+                                     uint64_t lba)
 {
-    ssize_t offence = check(page, length, feature, pages, start);
+    ssize_t offence = check(page, length, feature, pages, lba);
     if (offence >= 0)
         return (struct outcome){9, offence};
     size_t number = number_of(page, LITTLE), size = 32 + 32 * number;
