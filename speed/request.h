@@ -1,4 +1,4 @@
-// A request for status pages in plain C: what is refused of it, by the device and by the reader. Its start is LBA 31:0.
+// A request for status pages in plain C: whether it is refused, by the device and by the reader alike. Its start is LBA 31:0.
 #include "libc.h"
 
 // Filter 10b or 11b, a report type above 1, no pages, or a reserved bit (request 2026-05): FEATURE 13:12 and 7:0, LBA 47:32.

@@ -16,7 +16,7 @@ use Rattle.paper.specs.Told.{tells}
 use Rattle.reader.proofs.Ignored.{ignored-unread}
 use Rattle.reader.specs.Judgement.{header, readOf}
 use Rattle.request.proofs.Requests.{accepted}
-use Rattle.request.specs.Requests.{Same-fields, filterOf, reportTypeOf, pagesOf, startOf, reservedSet, refused, requestOf}
+use Rattle.request.specs.Requests.{Same-fields, filterOf, reportTypeOf, pagesOf, startOf, setsReserved, refused, requestOf}
 use Rattle.request.specs.declared.Request.{Request}
 use Rattle.status.proofs.EveryPage.{whole-pages}
 use Rattle.status.specs.Page.{headerOf, pageOf}
@@ -33,7 +33,7 @@ pages-in p = omega arith
 
 -- it has the same fields, so the listing takes the page for its own
 module _ (s : List ℕ) (q : Request) (h : Header) (filter : filterOf q ≡ 0) (report : reportTypeOf q ≡ 0) (start : startOf q ≡ 0) (few : pagesOf q ≤ 128)
-    (none : reservedSet q ≡ false) (long : length s ≡ 512 * pagesOf q) (read : readOf Little s q ≡ tells 0 (header h)) where
+    (none : setsReserved q ≡ false) (long : length s ≡ 512 * pagesOf q) (read : readOf Little s q ≡ tells 0 (header h)) where
   own : Same-fields (requestOf s) q
   own = record { filter = sym filter; report = sym report; pages = ap (λ (n : ℕ). n / 512) long ∙ pages-in (pagesOf q); start = sym start; reserved = sym none }
 

@@ -14,7 +14,7 @@ use Rattle.paper.specs.declared.Security.{Security}
 use Rattle.reach.specs.Opening as reach
 use Rattle.reach.specs.declared.Turn.the-variants.{Older}
 use Rattle.reader.specs.Judgement as reader
-use Rattle.request.specs.Requests.{asked, reservedSet, refused}
+use Rattle.request.specs.Requests.{asked, setsReserved, refused}
 use Rattle.request.specs.declared.Request.{Request}
 use Rattle.status.specs.Lent.{lent}
 use Rattle.status.specs.Page.{shown}
@@ -27,10 +27,11 @@ pub record Refused-by-all (q : Request) : Type 0 where
   -- so by the front call, which leaves the device too
   pub front : (d : Device) (s : Security) (r : Registers) (buf : List ℕ) → r .code ≡ 0x12 → asked r ≡ q
       → (told d (command s r (length buf)) ≡ tells 4 d) × (lent d s r buf ≡ buf)
-  -- "the reader treats such a request as refused", whatever the page holds, and what goes by the reader does
+  -- "the reader treats such a request as refused", whatever the page holds, and so does each call that goes by the reader
   pub read : (o : Order) (s : List ℕ) → reader.readOf o s q ≡ tells 9 (reader.place 0)
   pub next : (s : List ℕ) → walk.nextOf s q ≡ tells 9 (walk.place 0)
   pub convert : (s buf : List ℕ) → convert.toScsi s q buf ≡ tells 9 (convert.place 0 buf)
+  -- "9 with the page's turn, older first"
   pub compare : (s t : List ℕ) → reach.openOf s t q ≡ tells 9 (reach.turn Older)
 
 -- one definition serves them all: "A request that would get 4 gets 9"
@@ -38,4 +39,4 @@ abbrev pub Four-refused : Type 0
 Four-refused = (q : Request) → refused q ≡ true → Refused-by-all q
 
 abbrev pub Reserved-bits-refused : Type 0
-Reserved-bits-refused = (q : Request) → reservedSet q ≡ true → Refused-by-all q
+Reserved-bits-refused = (q : Request) → setsReserved q ≡ true → Refused-by-all q

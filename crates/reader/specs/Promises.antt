@@ -32,7 +32,7 @@ Refuses-exactly =
 
 -- ## What of a request is looked at
 
--- its fields, and whether it sets a reserved bit: of two that are alike in these the page is read as the answer to either
+-- its fields, and whether it sets a reserved bit: as the answer to two that are alike in these a page is read alike
 abbrev pub Ignored-unread : Type 0
 Ignored-unread = (o : Order) (s : List ℕ) (p q : Request) → Same-fields p q → readOf o s p ≡ readOf o s q
 

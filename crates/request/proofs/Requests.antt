@@ -5,7 +5,7 @@ use mathlib.Core.Path.{_≡_, refl, sym, _∙_}
 use native.Mathlib.Omega.{arith}
 use lib.Dec.{leb, ltb, eqb}
 use borrow.Author.Tests.{le-leb, lt-leb, lt-ltb, le-ltb, eq-eqb, ne-eqb, leb-false, ltb-false, eqb-false}
-use Rattle.request.specs.Requests.{Same-fields, filterOf, reportTypeOf, pagesOf, reservedSet, refused, takesType, takesHealth}
+use Rattle.request.specs.Requests.{Same-fields, filterOf, reportTypeOf, pagesOf, setsReserved, refused, takesType, takesHealth}
 use Rattle.request.specs.declared.Request.{Request}
 
 -- ## Which requests are due 4
@@ -26,7 +26,7 @@ module _ (q : Request) where
         unfolding refused
         refused-pages none = sym (rw (lt-leb 2 (filterOf q) (omega arith), le-ltb 1 (reportTypeOf q) (omega arith), eq-eqb (pagesOf q) 0 none))
 
-        pub refused-reserved : (pagesOf q ≡ 0 → ⊥) → (r : Bool) → r ≡ reservedSet q → r ≡ refused q
+        pub refused-reserved : (pagesOf q ≡ 0 → ⊥) → (r : Bool) → r ≡ setsReserved q → r ≡ refused q
         unfolding refused
         refused-reserved some r is-r =
             is-r ∙ sym (rw (lt-leb 2 (filterOf q) (omega arith), le-ltb 1 (reportTypeOf q) (omega arith), ne-eqb (pagesOf q) 0 some))
@@ -59,7 +59,7 @@ pub or-false-both : (a b : Bool) → (a || b) ≡ false → (a ≡ false) × (b 
 or-false-both true b e = absurd (true≢false e)
 or-false-both false b e = (refl, e)
 
-pub set-refused : (q : Request) → reservedSet q ≡ true → refused q ≡ true
+pub set-refused : (q : Request) → setsReserved q ≡ true → refused q ≡ true
 unfolding refused
 set-refused q set = rw (set, or-true, or-true, or-true)
 
@@ -69,15 +69,15 @@ unfolding refused
 refused-same p q same = rw (same .filter, same .report, same .pages, same .reserved)
 
 -- a request that is not due 4 asks for a page at least, by a filter and a report type that 000 names, and sets no reserved bit
-pub accepted : (q : Request) → refused q ≡ false → (filterOf q ≤ 1) × (reportTypeOf q ≤ 1) × (1 ≤ pagesOf q) × (reservedSet q ≡ false)
+pub accepted : (q : Request) → refused q ≡ false → (filterOf q ≤ 1) × (reportTypeOf q ≤ 1) × (1 ≤ pagesOf q) × (setsReserved q ≡ false)
 unfolding refused
 accepted q e =
     let one = or-false-both (leb 2 (filterOf q)) _ e in
     let two = or-false-both (ltb 1 (reportTypeOf q)) _ (one .1) in
-    let three = or-false-both (eqb (pagesOf q) 0) (reservedSet q) (two .1) in
+    let three = or-false-both (eqb (pagesOf q) 0) (setsReserved q) (two .1) in
     (omega (arith, leb-false 2 (filterOf q) (one .0)), ltb-false 1 (reportTypeOf q) (two .0), omega (arith, eqb-false (pagesOf q) 0 (three .0)), three .1)
 
 -- and one that does so is not due 4
-pub not-refused : (q : Request) → filterOf q ≤ 1 → reportTypeOf q ≤ 1 → 1 ≤ pagesOf q → reservedSet q ≡ false → refused q ≡ false
+pub not-refused : (q : Request) → filterOf q ≤ 1 → reportTypeOf q ≤ 1 → 1 ≤ pagesOf q → setsReserved q ≡ false → refused q ≡ false
 unfolding refused
 not-refused q f r p none = rw (lt-leb 2 (filterOf q) (omega arith), le-ltb 1 (reportTypeOf q) r, ne-eqb (pagesOf q) 0 (omega arith), none)

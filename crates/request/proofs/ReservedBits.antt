@@ -8,7 +8,7 @@ use lib.Dec.{eqb}
 use lib.Pow.{mod-mod-pow}
 use borrow.Author.Tests.{eq-eqb, ne-eqb, eqb-true, not-false}
 use Rattle.request.specs.Promises.{Unset-exactly, High-bits-alike}
-use Rattle.request.specs.Requests.{pagesOf, reservedSet, refused}
+use Rattle.request.specs.Requests.{pagesOf, setsReserved, refused}
 use Rattle.request.specs.declared.Request.{Request}
 use Rattle.request.proofs.Requests.{or-false-both, accepted, not-refused}
 
@@ -29,25 +29,25 @@ module _ (q : Request) where
 
   -- ## A law for each way out
 
-  pub set-upper : (upper ≡ 0 → ⊥) → true ≡ reservedSet q
+  pub set-upper : (upper ≡ 0 → ⊥) → true ≡ setsReserved q
   set-upper n = sym (rw (ne-eqb upper 0 n))
 
-  pub set-lower : upper ≡ 0 → (lower ≡ 0 → ⊥) → true ≡ reservedSet q
+  pub set-lower : upper ≡ 0 → (lower ≡ 0 → ⊥) → true ≡ setsReserved q
   set-lower u n = sym (rw (eq-eqb upper 0 u, ne-eqb lower 0 n))
 
-  pub set-high : upper ≡ 0 → lower ≡ 0 → not (eqb high 0) ≡ reservedSet q
+  pub set-high : upper ≡ 0 → lower ≡ 0 → not (eqb high 0) ≡ setsReserved q
   set-high u l = sym (rw (eq-eqb upper 0 u, eq-eqb lower 0 l))
 
   -- ## For callers
 
   -- each of the three is zero
-  pub none-set : reservedSet q ≡ false → (upper ≡ 0) × (lower ≡ 0) × (high ≡ 0)
+  pub none-set : setsReserved q ≡ false → (upper ≡ 0) × (lower ≡ 0) × (high ≡ 0)
   none-set e =
       let one = or-false-both (not (eqb upper 0)) _ e in
       let two = or-false-both (not (eqb lower 0)) _ (one .1) in
       (eqb-true _ _ (not-false _ (one .0)), eqb-true _ _ (not-false _ (two .0)), eqb-true _ _ (not-false _ (two .1)))
 
-  pub unset : upper ≡ 0 → lower ≡ 0 → high ≡ 0 → reservedSet q ≡ false
+  pub unset : upper ≡ 0 → lower ≡ 0 → high ≡ 0 → setsReserved q ≡ false
   unset u l h = rw (eq-eqb upper 0 u, eq-eqb lower 0 l, eq-eqb high 0 h)
 
 -- ## The statements

@@ -6,12 +6,12 @@ use Rattle.paper.specs.Answers.{numberOf}
 use Rattle.paper.specs.Registers.{low48}
 use Rattle.paper.specs.declared.Answer.{Answer}
 use Rattle.paper.specs.declared.Security.{Security}
-use Rattle.request.specs.Requests.{reservedSet, Fields-alone, Same-fields, statusNumber}
+use Rattle.request.specs.Requests.{setsReserved, Fields-alone, Same-fields, statusNumber}
 use Rattle.request.specs.declared.Request.{Request}
 
--- no reserved bit is set exactly if the registers hold the fields and nothing else
+-- no reserved bit is set exactly if FEATURE and LBA 47:0 hold the fields and nothing else
 abbrev pub Unset-exactly : Type 0
-Unset-exactly = (q : Request) → (reservedSet q ≡ false → Fields-alone q) × (Fields-alone q → reservedSet q ≡ false)
+Unset-exactly = (q : Request) → (setsReserved q ≡ false → Fields-alone q) × (Fields-alone q → setsReserved q ≡ false)
 
 -- "if more bits of LBA are handed over, those above bit 47 are ignored": no field has them, and they are not reserved
 abbrev pub High-bits-alike : Type 0

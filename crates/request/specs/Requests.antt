@@ -27,13 +27,13 @@ reportTypeOf q = q .feature / 2 ^ 8 % 2 ^ 4
 abbrev pub pagesOf : Request → ℕ
 pagesOf q = q .count .0
 
--- "LBA = starting element": a number of 32 bits, since LBA 47:32 are reserved
+-- "LBA = starting element": bits 31:0, a number of 32 bits. What lies above is reserved, or ignored
 abbrev pub startOf : Request → ℕ
 startOf q = q .lba .0 % 2 ^ 32
 
 -- "refuses FEATURE 13:12 or 7:0 not zero, or LBA 47:32 not zero"
-abbrev pub reservedSet : Request → Bool
-reservedSet q = not (eqb (q .feature / 2 ^ 12 % 2 ^ 2) 0) || (not (eqb (q .feature % 2 ^ 8) 0) || not (eqb (q .lba .0 / 2 ^ 32 % 2 ^ 16) 0))
+abbrev pub setsReserved : Request → Bool
+setsReserved q = not (eqb (q .feature / 2 ^ 12 % 2 ^ 2) 0) || (not (eqb (q .feature % 2 ^ 8) 0) || not (eqb (q .lba .0 / 2 ^ 32 % 2 ^ 16) 0))
 
 -- FEATURE's 16 bits hold filter and report type alone, and LBA's 48 the start alone
 abbrev pub Fields-alone : Request → Type 0
@@ -41,15 +41,15 @@ Fields-alone q = (q .feature % 2 ^ 16 ≡ filterOf q * 2 ^ 14 + reportTypeOf q *
 
 -- "Checks: filter 10b or 11b, report type above 1, p = 0: all 4"; reserved bits: "4, after the page count check and before the buffer check"
 unfoldable pub refused : Request → Bool
-refused q = leb 2 (filterOf q) || (ltb 1 (reportTypeOf q) || (eqb (pagesOf q) 0 || reservedSet q))
+refused q = leb 2 (filterOf q) || (ltb 1 (reportTypeOf q) || (eqb (pagesOf q) 0 || setsReserved q))
 
--- two requests of the same fields, with a reserved bit set in both or in neither
+-- two requests of the same fields, the reserved bits taken for one more: some are set in both, or none in either
 pub record Same-fields (p q : Request) : Type 0 where
   pub filter : filterOf p ≡ filterOf q
   pub report : reportTypeOf p ≡ reportTypeOf q
   pub pages : pagesOf p ≡ pagesOf q
   pub start : startOf p ≡ startOf q
-  pub reserved : reservedSet p ≡ reservedSet q
+  pub reserved : setsReserved p ≡ setsReserved q
 
 -- "all 4; then the buffer below 512p bytes: 7. Allowed during a removal."; 1 by 000, table 12, where no state aborts it
 abbrev pub statusNumber : Security → Request → ℕ → ℕ

@@ -1,7 +1,7 @@
 // A request for status pages (12h): which are due 4, the tests of an element, and what a request is answered.
 ghost use mathlib.Core.Path.{_≡_};
 ghost use Rattle.paper.specs.Answers.{numberOf};
-ghost use Rattle.request.specs.Requests.{filterOf, reportTypeOf, startOf, reservedSet, refused, statusNumber, takesId, takesType, takesHealth, requestFor};
+ghost use Rattle.request.specs.Requests.{filterOf, reportTypeOf, startOf, setsReserved, refused, statusNumber, takesId, takesType, takesHealth, requestFor};
 use paper::Answer;
 use paper::Command;
 use paper::ElementId;
@@ -37,7 +37,7 @@ impl Request {
 
     // Whether a bit of FEATURE 13:12 or 7:0 or of LBA 47:32 is set.
     fn sets_reserved(self) -> bool
-        ensures { λ r. ⌜ r ≡ reservedSet self ⌝ }
+        ensures { λ r. ⌜ r ≡ setsReserved self ⌝ }
     {
         if self.feature / 4096 % 4 != 0 {
             return true;

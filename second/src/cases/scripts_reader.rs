@@ -238,7 +238,7 @@ fn requests() -> Case {
     text.named("read-requests")
 }
 
-/// Start and identifier have 32 bits; those above 47 do not count.
+/// Start and identifier have 32 bits; bits of LBA above 47 do not count.
 fn starts() -> Case {
     let starts = [
         0,

@@ -107,7 +107,8 @@ fn check_order() -> Case {
     text.named("reserved-check-order")
 }
 
-/// What is let through: no reserved bit, of LBA those above 47 whatever they are.
+/// What is let through, of LBA bits above 47 whatever they are, and the same with a
+/// reserved bit.
 fn beside() -> Case {
     let mut text = Text::with_a();
     for feature in [0x0000, 0x0100, 0x4000, 0x4100] {
@@ -145,7 +146,8 @@ fn in_removal() -> Case {
     ask(&mut text);
     text.remove(0x0001_0003, 0);
     for event in [
-        "step", "step", "step", "error", "step", "step", "cut", "step", "step", "step", "step",
+        "step", "step", "step", "step", "error", "step", "step", "cut", "step", "step", "step",
+        "step",
     ] {
         ask(&mut text);
         text.line(event);
@@ -224,9 +226,9 @@ fn each_page(name: &str, call: fn(&mut Text, Asked)) -> Case {
 fn walks() -> Case {
     let mut text = Text::new();
     text.make(&row_of(16), 0);
+    text.ask((0, 1, 1 << 48));
     text.walk(0, &[1], LAPTOP);
     text.walk(0x2000, &[1], 0);
-    text.ask((0, 1, 1 << 48));
     text.next(0x0001, 1, 0);
     text.next(0, 1, 1 << 47);
     text.ask((0, 1, 0x1_0000_0010));

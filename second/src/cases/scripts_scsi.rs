@@ -106,6 +106,7 @@ fn fields() -> Case {
     let ffff: &[&str] = &["ffff", "FFFF", "10000", "10001"];
     let lengths: &[&str] = &["ffff", "10000", "10001", "fffff"];
     let lba: &[&str] = &[
+        "ffffffffffffffff",
         "ffff0000ffffffff",
         "1000000000000",
         "1000000000001",

@@ -271,19 +271,21 @@ fn words() -> Case {
     text.lines(&["NEXT 0 1 0", "Next 0 1 0", "nexts 0 1 0", "ext 0 1 0"]);
     text.lines(&["next 0x0 1 0", "next 0 1 g", "next unlocked 0 1 0"]);
     text.lines(&["ask 10", "end", "walk 0 1 0"]);
-    for (call, values) in [
-        ("next ? 1 0", ["0100", "FFff", "10000", "100000000"]),
-        ("next 0 ? 0", ["0001", "ffff", "10000", "10001"]),
+    let fields: [(&str, &[&str]); 3] = [
+        ("next ? 1 0", &["0100", "FFff", "10000", "100000000"]),
+        ("next 0 ? 0", &["0001", "ffff", "10000", "10001"]),
         (
             "next 0 1 ?",
-            [
+            &[
                 "ffff000000000001",
                 "FFFF0000FFFFFFFF",
+                "FFFFFFFFFFFFFFFF",
                 "10000000000000000",
                 "00000000000000001",
             ],
         ),
-    ] {
+    ];
+    for (call, values) in fields {
         for value in values {
             text.line(&call.replace('?', value));
         }
