@@ -1,4 +1,5 @@
--- Document 01's examples G1 to G4, G2 as request 2026-05 mends it, and the 16 matching elements, and the page's edges: each answer, and the whole buffer afterwards.
+-- Document 01's examples G1 to G4, G2 as request 2026-05 mends it, the 16 matching elements, and the page's edges: each answer, and the whole
+-- buffer afterwards.
 use Prim.Native.Nat.{ℕ}
 use mathlib.Core.List.{List, [], _∷_, _++_}
 use mathlib.Core.Path.{_≡_, refl}

@@ -1,5 +1,5 @@
--- Document 01's bench examples R1 to R8 and G1 to G4 as one table, G2 as request 2026-05 mends it: a row of the device, and what the last command leaves in the lent buffer.
--- R4 and R8 are two rows each, and two rows of the limit alone go with them.
+-- Document 01's bench examples R1 to R8 and G1 to G4 as one table, G2 as request 2026-05 mends it: a row of the device, and what the last command
+-- leaves in the lent buffer. R4 and R8 are two rows each, and two rows of the limit alone go with them.
 use Prim.Native.Nat.{ℕ}
 use mathlib.Core.Bool.{Bool, true, false, _&&_}
 use mathlib.Core.List.{List, [], _∷_, _++_, map}
