@@ -22,6 +22,7 @@ use Rattle.layout.specs.declared.Header.{Header}
 use Rattle.offences.proofs.Laid.{length-laid, laid-header, laid-descriptor}
 use Rattle.offences.specs.Checks.{baseOf, descriptorAt, lastBefore}
 use Rattle.paper.specs.Elements.{removedHealth}
+use Rattle.paper.specs.Flags.{isOn}
 use Rattle.paper.specs.Told.{tells}
 use Rattle.reader.proofs.LayoutTheorem.{and-both, asked-to, type-exactly, health-exactly}
 use Rattle.reader.proofs.Taken.{Listed, Taken, takes}
@@ -50,7 +51,7 @@ capacity-fits false n h = h
 
 descriptor-fits : (p : Part) (h : ℕ) → PartFits p → h < 2 ^ 8 → DescriptorFits (shownOf p h)
 unfolding shownOf
-descriptor-fits p h f low = record { id = f .id; kind = f .kind; health = low; capacity = capacity-fits (p .unreported) (p .blocks) (f .blocks) }
+descriptor-fits p h f low = record { id = f .id; kind = f .kind; health = low; capacity = capacity-fits (isOn (p .unreported)) (p .blocks) (f .blocks) }
 
 busy-fits : (n : Note) → ((w : Removal) → n ≡ Full w → w .element .0 < 2 ^ 32) → busyOf n < 2 ^ 32
 busy-fits Empty noted = omega arith

@@ -35,7 +35,7 @@ of-each R into P tells (x ∷ xs) (u ∷ us) s = (tells x (u ∷ []) (s .0), of-
 part-fits : (p : Part) (vs : List Val) → Is Part.the-row p vs → PartFits p
 part-fits p vs is =
     let fields = is .1 .1 in
-    record { id = fields .0 .1 .1 .0 .1; kind = fields .1 .0 .1; blocks = fields .1 .1 .1 .0 .1 }
+    record { id = fields .0 .1 .1 .0 .1; kind = fields .1 .0 .1; blocks = fields .1 .1 .1 .1 .0 .1 }
 
 note-fits : (n : Note) (vs : List Val) → Is Note.the-row n vs → (w : Removal) → n ≡ Full w → w .element .0 < 2 ^ 32
 note-fits Empty vs is w q = absurd (let z : _≡_ {A = ℕ} 0 1 = cc in omega arith)

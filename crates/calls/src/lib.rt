@@ -145,7 +145,7 @@ fn blanks() -> [Element; 128]
 }
 
 // The records of a list in an array, with blanks after them.
-fn copied(list: &[Element]) -> [Element; 128]
+pub fn copied(list: &[Element]) -> [Element; 128]
     ensures { λ r. ⌜ r ≡ arrayOf (now (list .entry)) ⌝ }
 {
     let n = table::bounded(list.len());

@@ -15,6 +15,7 @@ use paper::ElementId;
 use words::Order;
 
 // A place in each page: how many of its descriptors lie before.
+#[repr(C)]
 pub struct Cursor {
     pub older: u32,
     pub newer: u32,

@@ -1,7 +1,6 @@
 -- The bench's device A, at rest and in the removal R1, computed from the definitions; and what its lines do not have: the mark, the flag, a step
 -- of the winding up.
 use Prim.Native.Nat.{ℕ}
-use mathlib.Core.Bool.{true, false}
 use mathlib.Core.List.{[], _∷_}
 use mathlib.Core.Path.{_≡_, refl}
 use Rattle.cells.specs.Cells.{isSet}
@@ -16,7 +15,7 @@ use Rattle.text.specs.Text.{ascii}
 use Rattle.inventory.specs.Inventory.{cellsLine, elementLine, cellsOf}
 
 abbrev part : ℕ → ℕ → ℕ → Part
-part id kind blocks = record { id = record { 0 = id }; kind = kind; unreported = false; blocks = blocks }
+part id kind blocks = record { id = record { 0 = id }; kind = kind; unreported = 0; spare = 0; blocks = blocks }
 
 -- with this maximum, the health of 0001_0003h, the note and the position
 abbrev deviceA : ℕ → ℕ → Note → Position → Device
@@ -51,6 +50,6 @@ pub failed : cellsLine 1 (record { native = record { 0 = 0 }; accessible = recor
 unfolding isSet
 failed = refl
 
-pub unreported : elementLine (record { id = record { 0 = 0xFFFF_FFFF }; kind = 0xAB; unreported = true; blocks = 18446744073709551615 }) 0xCF
+pub unreported : elementLine (record { id = record { 0 = 0xFFFF_FFFF }; kind = 0xAB; unreported = 1; spare = 0; blocks = 18446744073709551615 }) 0xCF
     ≡ ascii "FFFFFFFF AB CF 18446744073709551615 1\n"
 unreported = refl

@@ -17,6 +17,7 @@ use Rattle.cells.specs.declared.Position.the-variants.{Work1, Work2, Work3, Wor
 use Rattle.cells.specs.declared.Position.{Position}
 use Rattle.cells.specs.declared.Removal.{Removal}
 use Rattle.device.specs.declared.Device.{Device}
+use Rattle.paper.specs.Flags.{isOn}
 use Rattle.paper.specs.declared.Lba.{Lba}
 use Rattle.slices.specs.Lists.{stored, ended, one}
 use Rattle.table.specs.Elements.{blankPart}
@@ -106,13 +107,13 @@ pub head-laid : (p : Part) (health : ℕ) (i k h : List ℕ) → i ≡ digits 16
     ≡ headOf p health
 head-laid p health i k h is-i is-k is-h = rw (is-i, is-k, is-h)
 
-pub element-puts : (p : Part) (health f : ℕ) (d x y z h : List ℕ) (at m n r : ℕ) → h ≡ headOf p health → f ≡ one (p .unreported)
+pub element-puts : (p : Part) (health f : ℕ) (b : Bool) (d x y z h : List ℕ) (at m n r : ℕ) → h ≡ headOf p health → b ≡ isOn (p .unreported) → f ≡ one b
     → x ≡ stored d at h → m ≡ ended d at h → y ≡ stored x m (field " " (p .blocks)) → n ≡ ended x m (field " " (p .blocks))
     → z ≡ stored y n (numberLine (ascii " ") f) → r ≡ ended y n (numberLine (ascii " ") f) → Puts d at (elementLine p health) z r
-element-puts p health f d x y z h at m n r is-h is-f is-x is-m is-y is-n is-z is-r =
+element-puts p health f b d x y z h at m n r is-h is-b is-f is-x is-m is-y is-n is-z is-r =
     let H : List ℕ = headOf p health in
-    let F : List ℕ = numberLine (ascii " ") (one (p .unreported)) in
-    let same : numberLine (ascii " ") f ≡ F = rw is-f in
+    let F : List ℕ = numberLine (ascii " ") (one (isOn (p .unreported))) in
+    let same : numberLine (ascii " ") f ≡ F = rw (is-f, is-b) in
     let two : Puts d at (H ++ field " " (p .blocks)) y n = then d x y at m n H (field " " (p .blocks)) (puts-same d x at m h H is-h is-x is-m) is-y is-n in
     then d y z at n r (H ++ field " " (p .blocks)) F two (is-z ∙ ap (stored y n) same) (is-r ∙ ap (ended y n) same)
 
@@ -166,7 +167,7 @@ length-line limit c p =
     ))
 
 length-element : (p : Part) (health : ℕ) → length (elementLine p health) ≤ 38
-length-element p health = simp length-append (omega (arith, length-decimal (p .blocks), length-bit (p .unreported)))
+length-element p health = simp length-append (omega (arith, length-decimal (p .blocks), length-bit (isOn (p .unreported))))
 
 length-elements : (ps : List Part) (hs : List ℕ) (n : ℕ) → length (elementsBelow ps hs n) ≤ 38 * n
 length-elements ps hs zero = omega arith

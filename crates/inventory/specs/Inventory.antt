@@ -10,6 +10,7 @@ use Rattle.cells.specs.declared.Position.the-variants.{Work1, Work2, Work3, Wor
 use Rattle.cells.specs.declared.Position.{Position}
 use Rattle.cells.specs.declared.Removal.{Removal}
 use Rattle.device.specs.declared.Device.{Device}
+use Rattle.paper.specs.Flags.{isOn}
 use Rattle.slices.specs.Lists.{one}
 use Rattle.table.specs.Elements.{blankPart}
 use Rattle.table.specs.declared.Part.{Part}
@@ -56,7 +57,7 @@ abbrev pub elementLine : Part → ℕ → List ℕ
 elementLine p health =
     digits 16 8 (p .id .0) ++ ascii " " ++ digits 16 2 (p .kind) ++ ascii " " ++ digits 16 2 health
     ++ (ascii " " ++ decimalOf (p .blocks))
-    ++ numberLine (ascii " ") (one (p .unreported))
+    ++ numberLine (ascii " ") (one (isOn (p .unreported)))
 
 -- the lines of the first n places
 abbrev pub elementsBelow : List Part → List ℕ → ℕ → List ℕ

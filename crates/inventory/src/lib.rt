@@ -134,7 +134,7 @@ fn put_element(out: &mut [u8], at: usize, p: Part, health: u8) -> usize
     ensures { λ r. ⌜ writing·private.Puts (now (out .entry)) at (elementLine p health) (now (out .exit)) r ⌝ }
 {
     let begun = head(p, health);
-    let flag = slices::bit(p.unreported) as u64;
+    let flag = slices::bit(paper::is_on(p.unreported)) as u64;
     let a = writing::word(out, at, &begun);
     let b = writing::field(out, a, b" ", p.blocks);
     writing::numbered(out, b, b" ", flag)

@@ -7,6 +7,7 @@ use paper::ElementId;
 use words::Order;
 
 // The numbers of a page's first 32 bytes.
+#[repr(C)]
 pub struct Header {
     pub number: u32,
     pub returned: u32,
@@ -16,6 +17,7 @@ pub struct Header {
 }
 
 // An element as a page shows it; `kind` is document 01's type, a word that the language keeps.
+#[repr(C)]
 pub struct Descriptor {
     pub id: ElementId,
     pub restorable: bool,

@@ -4,7 +4,7 @@ use mathlib.Core.Bool.{Bool, false}
 use mathlib.Core.List.{List, _++_, map}
 use lib.ListN.{take, replicate}
 use Rattle.paper.specs.declared.ElementId.{ElementId}
-use Rattle.slices.specs.Lists.{sum}
+use Rattle.slices.specs.Lists.{one, sum}
 use Rattle.table.specs.Elements.{blankPart}
 use Rattle.table.specs.declared.Part.{Part}
 use Rattle.table.specs.declared.Table.{Table}
@@ -18,10 +18,10 @@ offered o = take (o .count) (o .elements)
 -- ## An element, and the part of it that is built
 
 abbrev pub elementOf : ElementId → ℕ → ℕ → Bool → ℕ → Element
-elementOf id kind health unreported blocks = record { id = id; kind = kind; health = health; unreported = unreported; blocks = blocks }
+elementOf id kind health unreported blocks = record { id = id; kind = kind; health = health; unreported = one unreported; spare = 0; blocks = blocks }
 
 abbrev pub partOf : Element → Part
-partOf e = record { id = e .id; kind = e .kind; unreported = e .unreported; blocks = e .blocks }
+partOf e = record { id = e .id; kind = e .kind; unreported = e .unreported; spare = 0; blocks = e .blocks }
 
 -- what fills an unused place
 abbrev pub blank : Element

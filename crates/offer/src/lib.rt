@@ -13,12 +13,15 @@ use paper::ElementId;
 use table::Part;
 use table::Table;
 
-// An element as document 01 has it in an offered table; `kind` is its type, a word that the language keeps.
+// An element as document 01 has it in an offered table; `kind` is its type, a word that the language keeps. As a part, it has a field for each
+// of its 16 bytes.
+#[repr(C)]
 pub struct Element {
     pub id: ElementId,
     pub kind: u8,
     pub health: u8,
-    pub unreported: bool,
+    pub unreported: u8,
+    pub spare: u8,
     pub blocks: u64,
 }
 
@@ -49,7 +52,8 @@ pub fn element_of(id: ElementId, kind: u8, health: u8, unreported: bool, blocks:
         id,
         kind,
         health,
-        unreported,
+        unreported: slices::bit(unreported),
+        spare: 0,
         blocks,
     }
 }
@@ -62,6 +66,7 @@ pub fn part_of(e: Element) -> Part
         id,
         kind: e.kind,
         unreported: e.unreported,
+        spare: 0,
         blocks: e.blocks,
     }
 }

@@ -1,14 +1,18 @@
 // What document 01 speaks of (identifiers, addresses, page counts, security) and what a call says.
 ghost use mathlib.Core.Path.{_≡_};
 ghost use Rattle.paper.specs.Answers.{numberOf, senseOf};
+ghost use Rattle.paper.specs.Flags.{isOn};
 ghost use Rattle.paper.specs.Registers.{low48};
 ghost use Rattle.paper.specs.Table12.{aborts, rowOf, columnOf};
 
 // "An element identifier, a logical block address and a page count are three quantities kept apart."
+#[repr(C)]
 pub struct ElementId(pub u32);
 
+#[repr(C)]
 pub struct Lba(pub u64);
 
+#[repr(C)]
 pub struct PageCount(pub u16);
 
 // The columns of 000, table 12.
@@ -59,6 +63,13 @@ pub enum Sensed {
 
 // 000, table 12: the command's row by the security state's column; 1 is aborted.
 const ABORTED: [[u8; 3]; 2] = [[1, 0, 0], [0, 0, 0]];
+
+// Whether a flag's byte says yes: any but 0 does, so that no byte is wild.
+pub fn is_on(flag: u8) -> bool
+    ensures { λ r. ⌜ r ≡ isOn flag ⌝ }
+{
+    flag != 0
+}
 
 impl Lba {
     // The 48 bits of an LBA register that count.
@@ -122,21 +133,25 @@ fn codes(key: u8, asc: u8, ascq: u8) -> Sensed
     Sensed::Codes(Sense { key, asc, ascq })
 }
 
-// The sense of an answer in document 01's table.
+// The sense of a number in document 01's table.
+pub fn sense_at(number: u8) -> Sensed
+    ensures { λ r. ⌜ r ≡ senseOf number ⌝ }
+{
+    match number {
+        0 => codes(0, 0x00, 0x00),
+        1 => codes(0, 0x00, 0x00),
+        2 => codes(2, 0x04, 0x24),
+        3 => codes(3, 0x31, 0x04),
+        4 => codes(5, 0x24, 0x00),
+        5 => codes(5, 0x21, 0x00),
+        6 => codes(5, 0x20, 0x00),
+        _ => Sensed::None,
+    }
+}
+
+// The sense of an answer.
 pub fn sense_of(answer: Answer) -> Sensed
     ensures { λ r. ⌜ r ≡ senseOf (numberOf answer) ⌝ }
 {
-    match answer {
-        Answer::Done => codes(0, 0x00, 0x00),
-        Answer::SecurityLocked => codes(0, 0x00, 0x00),
-        Answer::InProgress => codes(2, 0x04, 0x24),
-        Answer::Failed => codes(3, 0x31, 0x04),
-        Answer::InvalidField => codes(5, 0x24, 0x00),
-        Answer::BeyondMax => codes(5, 0x21, 0x00),
-        Answer::UnknownCommand => codes(5, 0x20, 0x00),
-        Answer::SmallBuffer => Sensed::None,
-        Answer::TableRefused => Sensed::None,
-        Answer::NoRemoval => Sensed::None,
-        Answer::GradeRefused => Sensed::None,
-    }
+    sense_at(number_of(answer))
 }

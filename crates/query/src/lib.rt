@@ -8,6 +8,7 @@ use paper::PageCount;
 use request::Request;
 
 // Each field as it came.
+#[repr(C)]
 pub struct Query {
     pub filter: u8,
     pub report: u8,

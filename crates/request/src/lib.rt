@@ -10,6 +10,7 @@ use paper::PageCount;
 use paper::Security;
 
 // A request for status pages (12h), as the registers have it.
+#[repr(C)]
 pub struct Request {
     pub feature: u16,
     pub count: PageCount,

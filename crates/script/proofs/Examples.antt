@@ -1,6 +1,5 @@
 -- Lines of the bench language and what they say, computed from the definitions.
 use Prim.Native.String.{String}
-use mathlib.Core.Bool.{false}
 use mathlib.Core.List.{_++_}
 use mathlib.Core.Path.{_≡_, refl}
 use lib.ListN.{replicate}
@@ -23,7 +22,7 @@ Says line call = lineOf (ascii line) ≡ call
 
 abbrev Examples : Type 0
 Examples =
-    (Says "element 10003 1 70 1f4 0" (Element (record { id = record { 0 = 0x1_0003 }; kind = 1; health = 0x70; unreported = false; blocks = 500 })))
+    (Says "element 10003 1 70 1f4 0" (Element (record { id = record { 0 = 0x1_0003 }; kind = 1; health = 0x70; unreported = 0; spare = 0; blocks = 500 })))
     × (Says "command unlocked 12 4100 1 0 200" (Command (record { security = Unlocked; code = 0x12; feature = 0x4100; count = 1; lba = record { 0 = 0 }; length = 512 })))
     × (Says "   make    2  " (Make 2))
     × (Says "grade aBcD CF" (Grade (record { id = record { 0 = 0xABCD }; health = 0xCF })))

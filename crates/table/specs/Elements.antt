@@ -1,6 +1,6 @@
 -- The elements of a table as built, their identifiers, and what is measured of them.
 use Prim.Native.Nat.{ℕ}
-use mathlib.Core.Bool.{Bool, true, false, _&&_}
+use mathlib.Core.Bool.{Bool, true, _&&_}
 use mathlib.Core.List.{List, [], _∷_, map}
 use lib.Dec.{ltb}
 use lib.ListN.{length, take, getD}
@@ -15,7 +15,7 @@ live t = take (t .count) (t .parts)
 
 -- what fills an unused place
 abbrev pub blankPart : Part
-blankPart = record { id = record { 0 = 0 }; kind = 0; unreported = false; blocks = 0 }
+blankPart = record { id = record { 0 = 0 }; kind = 0; unreported = 0; spare = 0; blocks = 0 }
 
 -- ## Identifiers
 

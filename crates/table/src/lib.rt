@@ -8,12 +8,14 @@ ghost use Rattle.table.specs.Elements.{blankPart, removedCount};
 ghost use Rattle.table.specs.Search as search;
 use paper::ElementId;
 
-// What of an element is no cell; `kind` is its type, a word that the language keeps. The flag stands before the blocks, so that a part takes
-// 16 bytes.
+// What of an element is no cell; `kind` is its type, a word that the language keeps. C lends it in a record of its own: each of its 16 bytes is
+// a field's, the spare ones too, which nothing looks at.
+#[repr(C)]
 pub struct Part {
     pub id: ElementId,
     pub kind: u8,
-    pub unreported: bool,
+    pub unreported: u8,
+    pub spare: u16,
     pub blocks: u64,
 }
 
@@ -45,7 +47,8 @@ pub fn blank_part() -> Part
     Part {
         id: ElementId(0),
         kind: 0,
-        unreported: false,
+        unreported: 0,
+        spare: 0,
         blocks: 0,
     }
 }

@@ -1,6 +1,5 @@
 -- A walk over a device of 16 elements, computed from the definitions: by pages of one, of two, and of both.
 use Prim.Native.Nat.{ℕ, _+_, _*_}
-use mathlib.Core.Bool.{false}
 use mathlib.Core.List.{List, [], _∷_, _++_, map}
 use mathlib.Core.Path.{_≡_, refl}
 use lib.ListN.{replicate}
@@ -24,7 +23,7 @@ use Rattle.tour.specs.Tour.{requestsFor}
 
 -- identifiers 10h, 20h, .. 100h
 abbrev part : ℕ → Part
-part k = record { id = record { 0 = 16 * (k + 1) }; kind = 1; unreported = false; blocks = 1000 }
+part k = record { id = record { 0 = 16 * (k + 1) }; kind = 1; unreported = 0; spare = 0; blocks = 1000 }
 
 abbrev device : Device
 device =

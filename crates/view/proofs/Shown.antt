@@ -6,8 +6,9 @@ use mathlib.Core.Path.{_≡_, sym, ap, _∙_}
 use Rattle.cells.specs.declared.Note.the-variants.{Empty, Full}
 use Rattle.cells.specs.declared.Note.{Note}
 use Rattle.cells.specs.declared.Removal.{Removal}
-use Rattle.layout.specs.Bytes.{descriptorBytes}
+use Rattle.layout.specs.Bytes.{allOnes, descriptorBytes}
 use Rattle.layout.specs.declared.Descriptor.{Descriptor}
+use Rattle.paper.specs.Flags.{isOn}
 use Rattle.paper.specs.declared.ElementId.{ElementId}
 use Rattle.request.specs.Requests.{filterOf, reportTypeOf, takesId, takesType, takesHealth}
 use Rattle.request.specs.declared.Request.{Request}
@@ -17,6 +18,13 @@ use Rattle.words.specs.declared.Order.{Order}
 use Rattle.view.specs.Shown.{capacityOf, shownOf, asks, busyOf}
 
 -- ## An element
+
+module _ (p : Part) (b : Bool) (is-b : b ≡ isOn (p .unreported)) where
+  pub capacity-hidden : b ≡ true → allOnes ≡ capacityOf p
+  capacity-hidden y = sym (rw (sym is-b ∙ y))
+
+  pub capacity-told : b ≡ false → p .blocks ≡ capacityOf p
+  capacity-told n = sym (rw (sym is-b ∙ n))
 
 pub shown-made : (p : Part) (h c : ℕ) → c ≡ capacityOf p → record { id = p .id; restorable = false; kind = p .kind; health = h; capacity = c } ≡ shownOf p h
 unfolding shownOf

@@ -6,13 +6,14 @@ use Rattle.cells.specs.declared.Note.the-variants.{Empty, Full}
 use Rattle.cells.specs.declared.Note.{Note}
 use Rattle.layout.specs.Bytes.{allOnes}
 use Rattle.layout.specs.declared.Descriptor.{Descriptor}
+use Rattle.paper.specs.Flags.{isOn}
 use Rattle.request.specs.Requests.{filterOf, reportTypeOf, takesId, takesType, takesHealth}
 use Rattle.request.specs.declared.Request.{Request}
 use Rattle.table.specs.declared.Part.{Part}
 
 -- "block count, or all ones if unreported"
 abbrev pub capacityOf : Part → ℕ
-capacityOf p = cond (p .unreported) allOnes (p .blocks)
+capacityOf p = cond (isOn (p .unreported)) allOnes (p .blocks)
 
 -- a part, with the health of its place; "13 bit 0 restoration allowed, here 0"
 unfoldable pub shownOf : Part → ℕ → Descriptor

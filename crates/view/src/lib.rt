@@ -14,7 +14,7 @@ use words::Order;
 fn capacity(p: Part) -> u64
     ensures { λ r. ⌜ r ≡ capacityOf p ⌝ }
 {
-    if p.unreported {
+    if paper::is_on(p.unreported) {
         0xFFFF_FFFF_FFFF_FFFF
     } else {
         p.blocks
