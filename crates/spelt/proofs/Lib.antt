@@ -1,0 +1,3 @@
+-- What is proved of answers in numbers.
+pub mod Spans
+pub mod Told

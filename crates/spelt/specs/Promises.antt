@@ -1,0 +1,13 @@
+-- What holds of answers in numbers. Each is a statement; proofs/ has the proof under the same name in lower case.
+use Prim.Native.Nat.{ℕ}
+use mathlib.Core.List.{List}
+use mathlib.Core.Path.{_≡_}
+use Rattle.compare.specs.declared.Cursor.{Cursor}
+use Rattle.compare.specs.declared.Line.{Line}
+use Rattle.parts.specs.Parts.{partOf}
+use Rattle.spelt.specs.Spans.{spanOf, bytesOf}
+use Rattle.spelt.specs.Spelt.{differenceAt}
+
+-- of each difference the span takes the very bytes that `parts::part` hands out
+abbrev pub Spans-part : Type 0
+Spans-part = (s t : List ℕ) (line : Line) (next : Cursor) → bytesOf s t (spanOf s t (differenceAt line next)) ≡ partOf s t line
