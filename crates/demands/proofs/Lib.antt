@@ -1,6 +1,7 @@
 -- What is proved of the demands.
 pub mod Demand1
 pub mod GivesBack
+pub mod Library
 pub mod LeftBy
 pub mod ReservedBits
 pub mod Runs

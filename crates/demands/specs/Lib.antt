@@ -2,6 +2,7 @@
 -- lists the whole list, demand 3 from the lent making on; and that reserved bits are refused.
 pub mod Demand1
 pub mod GivesBack
+pub mod Library
 pub mod ReservedBits
 pub mod Runs
 pub mod SendsBack

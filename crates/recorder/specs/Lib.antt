@@ -1,0 +1,2 @@
+-- What C's own list is made into.
+pub mod Made
