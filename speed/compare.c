@@ -1,23 +1,15 @@
 // The comparison in plain C: what `./recorder speed` sets beside the proved program.
-#include "files.h"
-#include "page.h"
+#include "../c/files.h"
+#include "pair.h"
+#include <fcntl.h>
+#include <stdio.h>
 
-#define PAST (1ull << 32) // Above every identifier.
-
-static uint8_t older[65537], newer[65537]; // A byte more than may be compared, so that a longer file is seen.
+static uint8_t older[MOST_LISTED + 1], newer[MOST_LISTED + 1]; // A byte more than may be compared, so that a longer file is seen.
 static char text[160000];                  // Room for every comparison.
 
-// The last identifier of a page that was cut short.
-static uint64_t reach(const uint8_t *page)
+static uint64_t reach_of(const uint8_t *page)
 {
-    size_t returned = returned_of(page, LITTLE);
-    return number_of(page, LITTLE) > returned ? id_of(page + 32 * returned, LITTLE) : PAST;
-}
-
-static int is_changed(const uint8_t *a, const uint8_t *b)
-{
-    return type_of(a) != type_of(b) || health_of(a) != health_of(b) || flag_of(a) != flag_of(b) ||
-           capacity_of(a, LITTLE) != capacity_of(b, LITTLE);
+    return reach(page, page + 32 * (size_t)returned_of(page, LITTLE));
 }
 
 static char *put_signed(char *to, char sign, const uint8_t *descriptor)
@@ -36,7 +28,7 @@ static char *put_differences(char *to, uint64_t end)
     const uint8_t *b = newer + 32, *b_end = b + 32 * (size_t)returned_of(newer, LITTLE);
     for (;;) {
         uint64_t i = a < a_end ? id_of(a, LITTLE) : PAST, j = b < b_end ? id_of(b, LITTLE) : PAST;
-        uint64_t nearer = i < j ? i : j;
+        uint64_t nearer = nearer_of(i, j);
         if (nearer > end || nearer == PAST)
             return to;
         if (i < j) {
@@ -60,12 +52,11 @@ static char *put_differences(char *to, uint64_t end)
 
 static char *put_comparison(char *to, size_t older_length, size_t newer_length)
 {
-    size_t pages = older_length / 512;
-    if (older_length > 65536 || check(older, older_length, 0, pages, 0) >= 0)
+    if (check_listed(older, older_length) >= 0)
         return put_words(to, "refused 9 older\n");
-    if (check(newer, newer_length, 0, pages, 0) >= 0)
+    if (check(newer, newer_length, request_for(older_length)) >= 0)
         return put_words(to, "refused 9 newer\n");
-    uint64_t end = reach(older) < reach(newer) ? reach(older) : reach(newer);
+    uint64_t end = nearer_of(reach_of(older), reach_of(newer));
     to = put_differences(to, end);
     if (end == PAST)
         return to;

@@ -1,6 +1,7 @@
 // Loaded before a program, counts the instructions from the first of `main` to its return, and writes their number to file 9.
-#include "text.h"
+#include "../c/text.h"
 #include "traps.h"
+#include <unistd.h>
 
 typedef int main_function(int count, char **words, char **environment);
 typedef int start_function(main_function *, int, char **, void (*)(void), void (*)(void), void (*)(void), void *);

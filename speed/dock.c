@@ -1,17 +1,16 @@
 // The listing of SCSI data in plain C: what `./recorder speed` sets beside the proved program.
-#include "files.h"
+#include "../c/files.h"
 #include "page.h"
+#include <stdio.h>
 
-static uint8_t data[65537]; // A byte more than may be listed, so that a longer input is seen.
+static uint8_t data[MOST_LISTED + 1]; // A byte more than may be listed, so that a longer input is seen.
 static char text[80000];    // Room for every listing.
 
 static char *put_listing(char *to, size_t length)
 {
-    if (length > 65536)
-        return put_numbered(to, "refused 9 at ", 65536);
-    ssize_t offence = check_data(data, length, 0, 0, 0);
+    ssize_t offence = check_listed_data(data, length);
     if (offence >= 0)
-        return put_numbered(to, "refused 9 at ", offence);
+        return put_refusal(to, offence);
     to = put_header(to, data, BIG);
     to = put_list(to, data, whole_of(data, length), BIG);
     return put_tally(to, data, length);

@@ -1,17 +1,16 @@
 // The listing in plain C: what `./recorder speed` sets beside the proved program.
-#include "files.h"
+#include "../c/files.h"
 #include "page.h"
+#include <stdio.h>
 
-static uint8_t page[65537]; // A byte more than may be listed, so that a longer input is seen.
+static uint8_t page[MOST_LISTED + 1]; // A byte more than may be listed, so that a longer input is seen.
 static char text[80000];    // Room for every listing.
 
 static char *put_listing(char *to, size_t length)
 {
-    if (length > 65536)
-        return put_numbered(to, "refused 9 at ", 65536);
-    ssize_t offence = check(page, length, 0, length / 512, 0);
+    ssize_t offence = check_listed(page, length);
     if (offence >= 0)
-        return put_numbered(to, "refused 9 at ", offence);
+        return put_refusal(to, offence);
     to = put_header(to, page, LITTLE);
     return put_list(to, page, returned_of(page, LITTLE), LITTLE);
 }

@@ -1,7 +1,8 @@
 // Numbers of 2, 4 or 8 bytes in either byte order.
 #ifndef ORDER_H
 #define ORDER_H
-#include "libc.h"
+#include <stdint.h>
+#include <string.h>
 
 enum order { LITTLE, BIG }; // ATA's, as x86-64 has it, and SCSI's.
 

@@ -1,6 +1,8 @@
 // Writes the status pages and the SCSI data that the programs are counted on, of a size: pages PAGES ELEMENTS. The same on every run.
-#include "files.h"
+#include "../c/files.h"
 #include "turn.h"
+#include <fcntl.h>
+#include <stdio.h>
 
 static uint8_t page[65536], data[sizeof page];
 static size_t pages, elements;

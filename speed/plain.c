@@ -1,87 +1,143 @@
-// Document 01 in plain C, in place: what `./recorder speed` sets beside the proved calls.
+// Document 01 in plain C, in place: the library's calls on a device.
 #include "order.h"
 #include "plain.h"
 #include "request.h"
 
 #define LBA_BITS ((1ull << 48) - 1) // Those that count.
 
+enum { MOST = 128 }; // Elements past these do not count.
+
 // ---- Table and cells
 
-static struct element *find(struct plain_device *d, uint32_t id)
+static size_t count_of(const struct recorder_device *d)
 {
-    for (uint32_t i = 0; i < d->count; i++) {
-        if (d->elements[i].id == id)
-            return &d->elements[i];
-        if (d->elements[i].id > id)
-            return NULL;
-    }
-    return NULL;
+    return d->count < MOST ? d->count : MOST;
 }
 
-static unsigned removed(const struct plain_device *d)
+// The place of an element, or -1.
+static int find(const struct recorder_device *d, uint32_t id)
+{
+    size_t count = count_of(d);
+    for (size_t i = 0; i < count; i++) {
+        if (d->parts[i].id == id)
+            return i;
+        if (d->parts[i].id > id)
+            return -1;
+    }
+    return -1;
+}
+
+static unsigned removed(const struct recorder_device *d)
 {
     unsigned n = 0;
-    for (uint32_t i = 0; i < d->count; i++)
-        n += d->elements[i].health == 0xFF;
+    size_t count = count_of(d);
+    for (size_t i = 0; i < count; i++)
+        n += d->healths[i] == 0xFF;
     return n;
+}
+
+static uint32_t position_of(const struct recorder_device *d)
+{
+    return d->position <= WIND_4 ? d->position : WIND_1;
+}
+
+// ---- A new device
+
+// The blocks of an offered table, or 0 if it is refused.
+static uint64_t check_table(const struct recorder_element *list, size_t count, uint16_t limit)
+{
+    uint64_t sum = 0;
+    uint32_t last = 0;
+    if (count > MOST || limit > MOST)
+        return 0;
+    for (size_t i = 0; i < count; i++) {
+        const struct recorder_element *e = &list[i];
+        if (e->id <= last || e->health > 0xCF || (e->kind != 1 && e->blocks != 0) || e->blocks > (1ull << 48) - sum)
+            return 0;
+        last = e->id;
+        sum += e->blocks;
+    }
+    return sum < 2 ? 0 : sum;
+}
+
+uint8_t plain_make(struct recorder_device *d, const struct recorder_element *list, size_t count, uint16_t limit)
+{
+    uint64_t sum = check_table(list, count, limit);
+    if (sum == 0)
+        return 8;
+    memset(d, 0, sizeof *d);
+    for (size_t i = 0; i < count; i++) {
+        const struct recorder_element *e = &list[i];
+        d->parts[i] = (struct recorder_part){.id = e->id, .kind = e->kind, .unreported = e->unreported, .blocks = e->blocks};
+        d->healths[i] = e->health;
+    }
+    d->native = d->accessible = sum - 1;
+    d->count = count;
+    d->limit = limit;
+    return 0;
 }
 
 // ---- REMOVE ELEMENT AND TRUNCATE (7Ch)
 
-int plain_remove(struct plain_device *d, enum security security, uint16_t feature, uint16_t count, uint64_t lba)
+uint8_t plain_remove(struct recorder_device *d, uint8_t security, uint16_t feature, uint16_t count, uint64_t lba)
 {
     uint32_t id = (uint32_t)feature << 16 | count;
     lba &= LBA_BITS;
-    if (security == LOCKED)
+    if (security != RECORDER_UNLOCKED && security != RECORDER_FROZEN)
         return 1;
-    if (d->under_way)
+    if (d->note_full)
         return 2;
-    struct element *e = find(d, id);
-    if (!e || e->kind != 1)
+    int i = find(d, id);
+    if (i < 0 || d->parts[i].kind != 1)
         return 4;
-    if (e->health == 0xFF) {
+    if (d->healths[i] == 0xFF) {
         d->failed = 0;
         return 0;
     }
     if (d->limit && removed(d) >= d->limit)
         return 4;
-    if (d->native <= e->blocks)
+    if (d->native <= d->parts[i].blocks)
         return 4;
-    uint64_t difference = d->native - e->blocks;
+    uint64_t difference = d->native - d->parts[i].blocks;
     if (lba > difference)
         return 4;
-    d->under_way = 1;
-    d->noted = id;
-    d->old = d->native;
-    d->new = lba ? lba : difference;
+    d->note_full = 1;
+    d->note_element = id;
+    d->note_old = d->native;
+    d->note_new = lba ? lba : difference;
     d->position = WORK_1;
     return 0;
 }
 
 // Where winding up takes the addresses.
-static uint64_t wound_up(struct plain_device *d)
+static uint64_t wound_up(const struct recorder_device *d)
 {
-    struct element *e = find(d, d->noted);
-    return e && e->health == 0xFF ? d->new : d->old;
+    int i = find(d, d->note_element);
+    return i >= 0 && d->healths[i] == 0xFF ? d->note_new : d->note_old;
+}
+
+static void mark_noted(struct recorder_device *d)
+{
+    int i = find(d, d->note_element);
+    if (i >= 0)
+        d->healths[i] = 0xFF;
 }
 
 // A work step, or a step of winding up.
-int plain_step(struct plain_device *d)
+uint8_t plain_step(struct recorder_device *d)
 {
-    struct element *e;
-    if (!d->under_way)
+    uint32_t position = position_of(d);
+    if (!d->note_full)
         return 10;
-    switch (d->position) {
+    switch (position) {
     case WORK_1:
-        d->native = d->new;
+        d->native = d->note_new;
         break;
     case WORK_2:
-        d->accessible = d->new;
+        d->accessible = d->note_new;
         break;
     case WORK_3:
-        e = find(d, d->noted);
-        if (e)
-            e->health = 0xFF;
+        mark_noted(d);
         break;
     case WORK_4:
         d->failed = 0;
@@ -93,102 +149,120 @@ int plain_step(struct plain_device *d)
         d->accessible = wound_up(d);
         break;
     case WIND_3:
-        d->failed = 1;
+        if (!d->failed)
+            d->failed = 1;
         break;
     default: // WORK_5, WIND_4
-        d->under_way = 0;
+        d->note_full = 0;
         d->position = WORK_1;
         return 0;
     }
-    d->position++;
+    d->position = position + 1;
     return 0;
 }
 
-int plain_media_error(struct plain_device *d)
+// A number that says so already stays as it is.
+static void wind_up(struct recorder_device *d)
 {
-    if (!d->under_way)
-        return 10;
-    d->position = WIND_1;
-    return 0;
-}
-
-int plain_power_cut(struct plain_device *d)
-{
-    if (d->under_way)
+    if (position_of(d) != WIND_1)
         d->position = WIND_1;
+}
+
+uint8_t plain_media_error(struct recorder_device *d)
+{
+    if (!d->note_full)
+        return 10;
+    wind_up(d);
     return 0;
 }
 
-// COMRESET, hardware reset and software reset.
-int plain_reset(struct plain_device *d)
+uint8_t plain_power_cut(struct recorder_device *d)
+{
+    if (d->note_full)
+        wind_up(d);
+    return 0;
+}
+
+// The resets change nothing (002).
+uint8_t plain_comreset(struct recorder_device *d)
 {
     (void)d;
     return 0;
 }
 
-int plain_grade(struct plain_device *d, uint32_t id, uint8_t health)
+uint8_t plain_hardware_reset(struct recorder_device *d)
 {
-    struct element *e = find(d, id);
-    if (!e || e->health == 0xFF || health > 0xCF)
+    (void)d;
+    return 0;
+}
+
+uint8_t plain_software_reset(struct recorder_device *d)
+{
+    (void)d;
+    return 0;
+}
+
+uint8_t plain_grade(struct recorder_device *d, uint32_t id, uint8_t health)
+{
+    int i = find(d, id);
+    if (i < 0 || d->healths[i] == 0xFF || health > 0xCF)
         return 11;
-    e->health = health;
+    d->healths[i] = health;
     return 0;
 }
 
 // ---- GET PHYSICAL ELEMENT STATUS (12h)
 
-static int does_ask(const struct element *e, uint8_t filter, uint8_t type, uint32_t start)
+static int does_ask(struct recorder_query q, const struct recorder_part *part, uint8_t health)
 {
-    if (e->id < start)
+    if (part->id < q.start)
         return 0;
-    if (type == 1 && e->kind != 1)
+    if (q.report == 1 && part->kind != 1)
         return 0;
-    if (filter == 1)
-        return (e->health >= 0x65 && e->health <= 0xCF) || e->health == 0xFF;
+    if (q.filter == 1)
+        return (health >= 0x65 && health <= 0xCF) || health == 0xFF;
     return 1;
 }
 
-static void put_header(uint8_t *to, const struct plain_device *d, size_t number, size_t returned, size_t at_ffh, enum order order)
+static void put_header(uint8_t *to, const struct recorder_device *d, size_t number, size_t returned, enum order order)
 {
     store(to, number, 4, order);
     store(to + 4, returned, 4, order);
-    store(to + 8, d->under_way ? d->noted : 0, 4, order);
+    store(to + 8, d->note_full ? d->note_element : 0, 4, order);
     store(to + 12, d->limit, 2, order);
-    store(to + 14, at_ffh, 2, order);
+    store(to + 14, removed(d), 2, order);
     store(to + 16, 0, 8, order);
     store(to + 24, 0, 8, order);
 }
 
-static void put_descriptor(uint8_t *to, const struct element *e, enum order order)
+static void put_descriptor(uint8_t *to, const struct recorder_part *part, uint8_t health, enum order order)
 {
     store(to, 0, 4, order);
-    store(to + 4, e->id, 4, order);
+    store(to + 4, part->id, 4, order);
     store(to + 8, 0, 4, order);
     to[12] = 0;
     to[13] = 0;
-    to[14] = e->kind;
-    to[15] = e->health;
-    store(to + 16, e->unreported ? ~0ull : e->blocks, 8, order);
+    to[14] = part->kind;
+    to[15] = health;
+    store(to + 16, part->unreported ? ~0ull : part->blocks, 8, order);
     store(to + 24, 0, 8, order);
 }
 
-int plain_show(const struct plain_device *d, uint16_t feature, uint16_t pages, uint64_t lba, uint8_t *page, size_t length)
+// It runs in every security state (000, table 12).
+uint8_t plain_show(const struct recorder_device *d, uint8_t security, struct recorder_request request, uint8_t *buf, size_t size)
 {
-    uint8_t filter = feature >> 14, type = feature >> 8 & 15;
-    uint32_t start = lba;
-    size_t number = 0, returned = 0, at_ffh = 0, most = 16 * (size_t)pages - 1;
-    if (is_refused(feature, pages, lba))
+    struct recorder_query query = query_of(request);
+    size_t number = 0, returned = 0, count = count_of(d), length = 512 * (size_t)request.count, most = length / 32 - 1;
+    (void)security;
+    if (is_refused(request))
         return 4;
-    if (length < 512 * (size_t)pages)
+    if (size < length)
         return 7;
-    for (size_t i = 0; i < d->count; i++) {
-        const struct element *e = &d->elements[i];
-        at_ffh += e->health == 0xFF;
-        if (does_ask(e, filter, type, start) && number++ < most)
-            put_descriptor(page + 32 + 32 * returned++, e, LITTLE);
-    }
-    put_header(page, d, number, returned, at_ffh, LITTLE);
-    memset(page + 32 + 32 * returned, 0, 512 * (size_t)pages - 32 - 32 * returned);
+    for (size_t i = 0; i < count; i++)
+        if (does_ask(query, &d->parts[i], d->healths[i]) && number++ < most)
+            put_descriptor(buf + 32 + 32 * returned++, &d->parts[i], d->healths[i], LITTLE);
+    put_header(buf, d, number, returned, LITTLE);
+    memset(buf + 32 + 32 * returned, 0, length - 32 - 32 * returned);
     return 0;
 }
 
@@ -199,39 +273,37 @@ static size_t smaller(size_t a, size_t b)
     return a < b ? a : b;
 }
 
-// After 0 `written` has how many bytes; else it is 0.
-int plain_send(const struct plain_device *d, uint8_t filter, uint8_t type, uint32_t start, uint32_t allocation, uint8_t *buf, size_t length,
-               size_t *written)
+static size_t number_asked(const struct recorder_device *d, struct recorder_query query)
 {
-    size_t number = 0, at_ffh = 0;
+    size_t number = 0, count = count_of(d);
+    for (size_t i = 0; i < count; i++)
+        number += does_ask(query, &d->parts[i], d->healths[i]);
+    return number;
+}
+
+struct recorder_written plain_send(const struct recorder_device *d, struct recorder_query query, uint32_t allocation, uint8_t *buf,
+                                   size_t size)
+{
     uint8_t row[32];
-    *written = 0;
-    if (filter > 1 || type > 1)
-        return 4;
-    for (size_t i = 0; i < d->count; i++) {
-        at_ffh += d->elements[i].health == 0xFF;
-        if (does_ask(&d->elements[i], filter, type, start))
-            number++;
-    }
-    size_t size = smaller(allocation, 32 + 32 * number);
-    if (length < size)
-        return 7;
-    put_header(row, d, number, number, at_ffh, BIG);
-    memcpy(buf, row, smaller(size, 32));
-    for (size_t i = 0, at = 32; at < size; i++) {
-        const struct element *e = &d->elements[i];
-        if (!does_ask(e, filter, type, start))
+    if (is_refused_query(query))
+        return (struct recorder_written){0, 4};
+    size_t number = number_asked(d, query), length = smaller(allocation, 32 + 32 * number);
+    if (size < length)
+        return (struct recorder_written){0, 7};
+    put_header(row, d, number, number, BIG);
+    memcpy(buf, row, smaller(length, 32));
+    for (size_t i = 0, at = 32; at < length; i++) {
+        if (!does_ask(query, &d->parts[i], d->healths[i]))
             continue;
-        if (size - at >= 32)
-            put_descriptor(buf + at, e, BIG);
+        if (length - at >= 32)
+            put_descriptor(buf + at, &d->parts[i], d->healths[i], BIG);
         else {
-            put_descriptor(row, e, BIG);
-            memcpy(buf + at, row, size - at);
+            put_descriptor(row, &d->parts[i], d->healths[i], BIG);
+            memcpy(buf + at, row, length - at);
         }
         at += 32;
     }
-    *written = size;
-    return 0;
+    return (struct recorder_written){length, 0};
 }
 
 // ---- The other commands
@@ -278,9 +350,9 @@ static int is_named(uint8_t code)
     return code == 0xEC || code == 0xE1 || code == 0x2F || code == 0x47 || code == 0x0B || code == 0xF2 || code == 0xEF || code == 0xB0;
 }
 
-static int other_answer(const struct plain_device *d, uint8_t code, uint16_t feature, uint16_t count, uint64_t lba)
+static uint8_t other_answer(const struct recorder_device *d, uint8_t code, uint16_t feature, uint16_t count, uint64_t lba)
 {
-    if (d->under_way && !is_open(code, feature, lba))
+    if (d->note_full && !is_open(code, feature, lba))
         return 2;
     if (!is_media(code))
         return is_named(code) ? 0 : 6;
@@ -292,12 +364,12 @@ static int other_answer(const struct plain_device *d, uint8_t code, uint16_t fea
 
 // ---- The front call
 
-int plain_command(struct plain_device *d, enum security security, uint8_t code, uint16_t feature, uint16_t count, uint64_t lba,
-                  uint8_t *buf, size_t length)
+uint8_t plain_command(struct recorder_device *d, uint8_t security, uint8_t code, uint16_t feature, uint16_t count, uint64_t lba,
+                      uint8_t *buf, size_t size)
 {
     if (code == 0x7C)
         return plain_remove(d, security, feature, count, lba);
     if (code == 0x12)
-        return plain_show(d, feature, count, lba, buf, length);
+        return plain_show(d, security, (struct recorder_request){feature, count, lba}, buf, size);
     return other_answer(d, code, feature, count, lba);
 }

@@ -1,6 +1,7 @@
 // The device record and the lent calls as the kit's compiler lays them out: the fields are those of crates/table, crates/device,
 // crates/query and crates/paper, in their order. A slip here shows as a difference from plain C.
-#include "libc.h"
+#include <stddef.h>
+#include <stdint.h>
 
 struct part {
     uint32_t id;

@@ -1,6 +1,7 @@
 // Instructions counted by the processor's trap flag: after each one the kernel, or the emulator in its place, calls `trapped`. One that repeats
 // itself (`rep`) traps at every turn, and counts once.
-#include "libc.h"
+#include <stddef.h>
+#include <stdint.h>
 
 enum { SIGTRAP = 5, SA_SIGINFO = 4 };
 

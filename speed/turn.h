@@ -1,12 +1,6 @@
 // A status page as SCSI data, and back, in plain C (request 2026-03): the same numbers in the other byte order, reserved bytes as zeros.
 #include "page.h"
 
-// The answer; after 0 how many bytes were written, after 9 a place, after 7 nothing.
-struct outcome {
-    int answer;
-    size_t number;
-};
-
 // Turns a number of so many bytes round.
 static inline void turn(uint8_t *to, const uint8_t *from, size_t size)
 {
@@ -41,35 +35,38 @@ static inline void turn_list(uint8_t *to, const uint8_t *from, size_t count)
         turn_descriptor(to + at, from + at);
 }
 
+static inline struct recorder_converted converted(size_t count) { return (struct recorder_converted){.count = count}; }
+static inline struct recorder_converted too_small(void) { return (struct recorder_converted){.answer = 7}; }
+static inline struct recorder_converted refused_at(size_t place) { return (struct recorder_converted){.place = place, .answer = 9}; }
+
 // A page as the answer to a request.
-static inline struct outcome to_scsi(uint8_t *to, size_t room, const uint8_t *page, size_t length, uint16_t feature, uint16_t pages,
-                                     uint64_t lba)
+static inline struct recorder_converted to_scsi(const uint8_t *page, size_t length, struct recorder_request request, uint8_t *to, size_t room)
 {
-    ssize_t offence = check(page, length, feature, pages, lba);
+    ssize_t offence = check(page, length, request);
     if (offence >= 0)
-        return (struct outcome){9, offence};
+        return refused_at(offence);
     size_t number = number_of(page, LITTLE), size = 32 + 32 * number;
     if (returned_of(page, LITTLE) != number)
-        return (struct outcome){9, 4};
+        return refused_at(4);
     if (room < size)
-        return (struct outcome){7, 0};
+        return too_small();
     turn_list(to, page, number);
-    return (struct outcome){0, size};
+    return converted(size);
 }
 
 // SCSI data as the answer to a request, on so many pages.
-static inline struct outcome to_ata(uint8_t *to, size_t room, const uint8_t *data, size_t length, uint8_t filter, uint8_t type,
-                                    uint32_t start, uint16_t pages)
+static inline struct recorder_converted to_ata(const uint8_t *data, size_t length, struct recorder_query query, uint16_t pages, uint8_t *to,
+                                               size_t room)
 {
-    ssize_t offence = check_data(data, length, filter, type, start);
+    ssize_t offence = check_data(data, length, query);
     if (offence >= 0)
-        return (struct outcome){9, offence};
+        return refused_at(offence);
     size_t number = number_of(data, BIG), end = 32 + 32 * number, size = 512 * (size_t)pages;
     if (length < end || size < end)
-        return (struct outcome){9, 4};
+        return refused_at(4);
     if (room < size)
-        return (struct outcome){7, 0};
+        return too_small();
     turn_list(to, data, number);
     memset(to + end, 0, size - end);
-    return (struct outcome){0, size};
+    return converted(size);
 }

@@ -1,5 +1,6 @@
 // A line of the bench language in plain C: its words, and the numbers among them (docs/BENCH.md).
-#include "libc.h"
+#include <stdint.h>
+#include <string.h>
 
 enum { MOST_WORDS = 8 }; // One more than any call has.
 

@@ -1,5 +1,6 @@
 // Words and numbers as text: each is stored from a place on, and answers where it ends. And a number from its digits.
-#include "libc.h"
+#include <stdint.h>
+#include <string.h>
 
 static inline char *put_words(char *to, const char *words)
 {

@@ -1,5 +1,6 @@
 // Files read and written whole.
-#include "libc.h"
+#include <stdint.h>
+#include <unistd.h>
 
 // Reads to the end, or until the buffer is full: how many bytes, or -1.
 static inline ssize_t read_whole(int file, uint8_t *to, size_t room)
