@@ -1,4 +1,6 @@
 // Files read and written whole.
+#ifndef FILES_H
+#define FILES_H
 #include <stdint.h>
 #include <unistd.h>
 
@@ -29,3 +31,5 @@ static inline int write_whole(int file, const char *from, size_t size)
     }
     return 0;
 }
+
+#endif

@@ -1,4 +1,6 @@
 // Words and numbers as text: each is stored from a place on, and answers where it ends. And a number from its digits.
+#ifndef TEXT_H
+#define TEXT_H
 #include <stdint.h>
 #include <string.h>
 
@@ -46,3 +48,5 @@ static inline char *put_numbered(char *to, const char *words, uint64_t number)
     *to++ = '\n';
     return to;
 }
+
+#endif

@@ -5,11 +5,16 @@ build_programs() {
     for program in list dock turn diff bench; do
         [ -x "$programs/$program" ] || die "$programs/$program is missing"
     done
-    compile_c counter -fPIC -O1
+    make_object counter "$here/counter.c" -fPIC -O1
     try "$tools/bin/ld.lld" -shared -o "$work/counter.so" "$work/counter.o" "$tools/lib/libc.so.6"
-    for program in pages list dock convert compare bench plain; do compile_c "$program" -fPIE -O3; done
-    for program in pages list dock convert compare; do link "$program" "$work/$program.o"; done
-    link bench "$work/bench.o" "$work/plain.o"
+    for program in pages list dock convert compare; do
+        make_object "$program" "$here/$program.c" -fPIE -O3
+        try link "$work/$program" "$work/$program.o"
+    done
+    # The bench for the library, over plain C in its place.
+    make_object bench "$headers/bench.c" -fPIE -O3
+    for piece in plain host; do make_object "$piece" "$here/$piece.c" -fPIE -O3 -include "$here/library.h"; done
+    try link "$work/bench" "$work/bench.o" "$work/plain.o" "$work/host.o"
 }
 
 # ---- Files and scripts

@@ -1,12 +1,13 @@
-// The bench in plain C: what `./recorder speed` sets beside the proved program. A script on standard input, on one device.
+// The bench language (docs/BENCH.md) over the library in C: a script on standard input, on one device.
 #include "files.h"
-#include "plain.h"
+#include "recorder.h"
 #include "script.h"
-#include "turn.h"
+#include "text.h"
+#include <stdio.h>
 
-static struct element offered[129];
+static struct recorder_element offered[129];
 static size_t offered_count;
-static struct plain_device device;
+static struct recorder_device device;
 static int is_made;
 static uint8_t lent[65536], page[65536]; // The kept page has its first `kept` bytes.
 static size_t kept;
@@ -45,12 +46,21 @@ static void say_number(const char *words, uint64_t number)
     to = put_numbered(to, words, number);
 }
 
-static void answer(int number)
+// The number, and its sense if it has one.
+static void answer(uint8_t number)
 {
-    static const char *const lines[] = {
-        "0 0/00/00", "1 0/00/00", "2 2/04/24", "3 3/31/04", "4 5/24/00", "5 5/21/00", "6 5/20/00", "7", "8", "9", "10", "11",
-    };
-    say(lines[number]);
+    struct recorder_sense sense = recorder_sense(number);
+    begin();
+    to = put_decimal(to, number);
+    if (sense.there) {
+        *to++ = ' ';
+        to = put_hex(to, sense.key, 1);
+        *to++ = '/';
+        to = put_hex(to, sense.asc, 2);
+        *to++ = '/';
+        to = put_hex(to, sense.ascq, 2);
+    }
+    *to++ = '\n';
 }
 
 // ---- The table
@@ -58,41 +68,16 @@ static void answer(int number)
 static void offer(const uint64_t *n)
 {
     if (offered_count < 129)
-        offered[offered_count++] = (struct element){.id = n[0], .kind = n[1], .health = n[2], .blocks = n[3], .unreported = n[4]};
+        offered[offered_count++] =
+            (struct recorder_element){.id = n[0], .kind = n[1], .health = n[2], .blocks = n[3], .unreported = n[4]};
 }
 
-// The blocks of an offered table, or 0 if it is refused.
-static uint64_t check_table(uint64_t limit)
+static void make(uint16_t limit)
 {
-    uint64_t sum = 0;
-    uint32_t last = 0;
-    if (offered_count > 128 || limit > 128)
-        return 0;
-    for (size_t i = 0; i < offered_count; i++) {
-        const struct element *e = &offered[i];
-        if (e->id <= last || e->health > 0xCF || (e->kind != 1 && e->blocks != 0) || e->blocks > (1ull << 48) - sum)
-            return 0;
-        last = e->id;
-        sum += e->blocks;
-    }
-    return sum < 2 ? 0 : sum;
-}
-
-static int make(uint64_t limit)
-{
-    uint64_t sum = check_table(limit);
-    size_t count = offered_count;
+    uint8_t number = recorder_make(&device, offered, offered_count, limit);
     offered_count = 0;
-    if (sum == 0)
-        return 8;
-    memcpy(device.elements, offered, count * sizeof *offered);
-    device.count = count;
-    device.limit = limit;
-    device.native = device.accessible = sum - 1;
-    device.failed = device.under_way = 0;
-    device.position = WORK_1;
-    is_made = 1;
-    return 0;
+    is_made |= number == 0;
+    answer(number);
 }
 
 // ---- What a call writes into the lent buffer
@@ -118,7 +103,8 @@ static void print_row(const uint8_t *row, size_t size)
 
 static int is_zero(const uint8_t *row)
 {
-    return (load(row, 8, LITTLE) | load(row + 8, 8, LITTLE) | load(row + 16, 8, LITTLE) | load(row + 24, 8, LITTLE)) == 0;
+    static const uint8_t zeros[32];
+    return memcmp(row, zeros, 32) == 0;
 }
 
 static void print_page(void)
@@ -150,11 +136,21 @@ static void print_touched(size_t written, size_t length)
 
 // ---- The front call, and those for a SCSI host
 
-static void command(enum security security, const uint64_t *n)
+static struct recorder_request request_of(const uint64_t *n)
+{
+    return (struct recorder_request){n[0], n[1], n[2]};
+}
+
+static struct recorder_query query_of(const uint64_t *n)
+{
+    return (struct recorder_query){n[0], n[1], n[2]};
+}
+
+static void command(uint8_t security, const uint64_t *n)
 {
     size_t length = n[4], written = 0;
     lend(length);
-    int number = plain_command(&device, security, n[0], n[1], n[2], n[3], lent, length);
+    uint8_t number = recorder_command(&device, security, n[0], n[1], n[2], n[3], lent, length);
     answer(number);
     if (n[0] == 0x12 && number == 0) {
         written = 512 * n[2];
@@ -166,50 +162,76 @@ static void command(enum security security, const uint64_t *n)
 
 static void send(const uint64_t *n)
 {
-    size_t length = n[4], written;
+    size_t length = n[4];
     lend(length);
-    int number = plain_send(&device, n[0], n[1], n[2], n[3], lent, length, &written);
-    answer(number);
-    if (number == 0) {
-        keep(written);
+    struct recorder_written w = recorder_send(&device, query_of(n), n[3], lent, length);
+    answer(w.answer);
+    if (w.answer == 0) {
+        keep(w.count);
         print_data();
     }
-    print_touched(written, length);
+    print_touched(w.count, length);
 }
 
 // Says what came of a conversion, keeps it, and prints it as its kind is printed.
-static void convert(struct outcome outcome, void (*print)(void), size_t length)
+static void convert(struct recorder_converted c, void (*print)(void), size_t length)
 {
-    size_t written = 0;
-    if (outcome.answer == 9)
-        say_number("9 at ", outcome.number);
-    else if (outcome.answer == 7)
-        say("7");
-    else {
-        say("0");
-        written = outcome.number;
-        keep(written);
+    if (c.answer == 9)
+        say_number("9 at ", c.place);
+    else
+        say_number("", c.answer);
+    if (c.answer == 0) {
+        keep(c.count);
         print();
     }
-    print_touched(written, length);
+    print_touched(c.count, length);
 }
 
 static void convert_to_scsi(const uint64_t *n)
 {
     lend(n[3]);
-    convert(to_scsi(lent, n[3], page, kept, n[0], n[1], n[2]), print_data, n[3]);
+    convert(recorder_to_scsi(page, kept, request_of(n), lent, n[3]), print_data, n[3]);
 }
 
 static void convert_to_ata(const uint64_t *n)
 {
     lend(n[4]);
-    convert(to_ata(lent, n[4], page, kept, n[0], n[1], n[2], n[3]), print_page, n[4]);
+    convert(recorder_to_ata(page, kept, query_of(n), n[3], lent, n[4]), print_page, n[4]);
 }
 
 // ---- What the device holds
 
+static void print_note(void)
+{
+    if (!device.note_full) {
+        *to++ = '-';
+        return;
+    }
+    to = put_hex(to, device.note_element, 8);
+    *to++ = ' ';
+    to = put_decimal(to, device.note_old);
+    *to++ = ' ';
+    to = put_decimal(to, device.note_new);
+}
+
+static void print_element(const struct recorder_part *part, uint8_t health)
+{
+    begin();
+    to = put_hex(to, part->id, 8);
+    *to++ = ' ';
+    to = put_hex(to, part->kind, 2);
+    *to++ = ' ';
+    to = put_hex(to, health, 2);
+    *to++ = ' ';
+    to = put_decimal(to, part->blocks);
+    *to++ = ' ';
+    *to++ = '0' + (part->unreported != 0);
+    *to++ = '\n';
+}
+
 static void print_cells(void)
 {
+    static const char *const positions[] = {"work1", "work2", "work3", "work4", "work5", "wind1", "wind2", "wind3", "wind4"};
     begin();
     to = put_words(to, "limit ");
     to = put_decimal(to, device.limit);
@@ -218,31 +240,12 @@ static void print_cells(void)
     to = put_words(to, " accessible ");
     to = put_decimal(to, device.accessible);
     to = put_words(to, device.failed ? " failed 1 note " : " failed 0 note ");
-    if (device.under_way) {
-        to = put_hex(to, device.noted, 8);
-        *to++ = ' ';
-        to = put_decimal(to, device.old);
-        *to++ = ' ';
-        to = put_decimal(to, device.new);
-    } else
-        *to++ = '-';
-    to = put_words(to, device.position < WIND_1 ? " position work" : " position wind");
-    *to++ = '1' + (device.position < WIND_1 ? device.position : device.position - WIND_1);
+    print_note();
+    to = put_words(to, " position ");
+    to = put_words(to, positions[device.position]);
     *to++ = '\n';
-    for (size_t i = 0; i < device.count; i++) {
-        const struct element *e = &device.elements[i];
-        begin();
-        to = put_hex(to, e->id, 8);
-        *to++ = ' ';
-        to = put_hex(to, e->kind, 2);
-        *to++ = ' ';
-        to = put_hex(to, e->health, 2);
-        *to++ = ' ';
-        to = put_decimal(to, e->blocks);
-        *to++ = ' ';
-        *to++ = '0' + e->unreported;
-        *to++ = '\n';
-    }
+    for (size_t i = 0; i < device.count; i++)
+        print_element(&device.parts[i], device.healths[i]);
 }
 
 // ---- The kept page
@@ -263,62 +266,79 @@ static void poke(size_t place, uint8_t byte)
         say("outside");
 }
 
-// What was read of a list of which so many descriptors are there.
-static void print_list(size_t count, enum order order)
+static void print_header(struct recorder_header h)
 {
-    say("0");
     begin();
-    to = put_header(to, page, order);
-    const uint8_t *end = page + 32 + 32 * count;
-    for (const uint8_t *descriptor = page + 32; descriptor < end; descriptor += 32) {
+    to = put_words(to, "number ");
+    to = put_decimal(to, h.number);
+    to = put_words(to, " returned ");
+    to = put_decimal(to, h.returned);
+    to = put_words(to, " busy ");
+    to = put_hex(to, h.busy, 8);
+    to = put_words(to, " limit ");
+    to = put_decimal(to, h.limit);
+    to = put_words(to, " removed ");
+    to = put_decimal(to, h.removed);
+    *to++ = '\n';
+}
+
+static void print_descriptor(struct recorder_descriptor d)
+{
+    begin();
+    to = put_hex(to, d.id, 8);
+    *to++ = ' ';
+    *to++ = '0' + d.restorable;
+    *to++ = ' ';
+    to = put_hex(to, d.kind, 2);
+    *to++ = ' ';
+    to = put_hex(to, d.health, 2);
+    *to++ = ' ';
+    if (d.capacity == UINT64_MAX)
+        *to++ = '-';
+    else
+        to = put_decimal(to, d.capacity);
+    *to++ = '\n';
+}
+
+// What of a list is not there, if anything.
+static void print_missing(uint32_t whole, uint32_t number, int torn)
+{
+    if (whole == number)
+        return;
+    begin();
+    to = put_words(to, torn ? "torn " : "cut ");
+    to = put_decimal(to, whole);
+    to = put_numbered(to, " of ", number);
+}
+
+typedef struct recorder_slot descriptor_of(const uint8_t *bytes, size_t size, uint32_t k);
+
+// What was read, by the kind's own access to a descriptor. Of what a page returns none is missing.
+static void print_reading(struct recorder_reading r, descriptor_of *descriptor)
+{
+    if (r.answer != 0) {
+        say_number("9 at ", r.place);
+        return;
+    }
+    say("0");
+    print_header(r.header);
+    for (uint32_t k = 0; k < r.whole; k++)
+        print_descriptor(descriptor(page, kept, k).descriptor);
+    print_missing(r.whole, r.header.returned, r.torn);
+}
+
+static void print_next(struct recorder_move m)
+{
+    if (m.answer != 0)
+        say_number("9 at ", m.place);
+    else if (!m.asks)
+        say("end");
+    else {
         begin();
-        to = put_hex(to, id_of(descriptor, order), 8);
-        *to++ = ' ';
-        *to++ = '0' + flag_of(descriptor);
-        *to++ = ' ';
-        to = put_values(to, descriptor, order);
+        to = put_words(to, "ask ");
+        to = put_hex(to, m.start, 8);
         *to++ = '\n';
     }
-}
-
-static void print_reading(const uint64_t *n)
-{
-    ssize_t offence = check(page, kept, n[0], n[1], n[2]);
-    if (offence >= 0)
-        say_number("9 at ", offence);
-    else
-        print_list(returned_of(page, LITTLE), LITTLE);
-}
-
-static void print_data_reading(const uint64_t *n)
-{
-    ssize_t offence = check_data(page, kept, n[0], n[1], n[2]);
-    if (offence >= 0) {
-        say_number("9 at ", offence);
-        return;
-    }
-    print_list(whole_of(page, kept), BIG);
-    begin();
-    to = put_tally(to, page, kept);
-}
-
-static void print_next(const uint64_t *n)
-{
-    ssize_t offence = check(page, kept, n[0], n[1], n[2]);
-    if (offence >= 0) {
-        say_number("9 at ", offence);
-        return;
-    }
-    uint32_t returned = returned_of(page, LITTLE);
-    uint32_t last = id_of(page + 32 * returned, LITTLE); // That of the last descriptor, if there is one.
-    if (returned == number_of(page, LITTLE) || last == 0xFFFFFFFF) {
-        say("end");
-        return;
-    }
-    begin();
-    to = put_words(to, "ask ");
-    to = put_hex(to, last + 1, 8);
-    *to++ = '\n';
 }
 
 // ---- The calls
@@ -335,9 +355,9 @@ static const struct {
     size_t count;
     uint64_t most[5];
 } calls[NAMES] = {
-    [ELEMENT] = {"element", 0, 5, {0xFFFFFFFF, 0xFF, 0xFF, ~0ull, 1}},
+    [ELEMENT] = {"element", 0, 5, {0xFFFFFFFF, 0xFF, 0xFF, UINT64_MAX, 1}},
     [MAKE] = {"make", 0, 1, {0xFFFF}},
-    [COMMAND] = {"command", 1, 5, {0xFF, 0xFFFF, 0xFFFF, ~0ull, 0x10000}},
+    [COMMAND] = {"command", 1, 5, {0xFF, 0xFFFF, 0xFFFF, UINT64_MAX, 0x10000}},
     [STEP] = {"step", 1, 0, {0}},
     [ERROR] = {"error", 1, 0, {0}},
     [CUT] = {"cut", 1, 0, {0}},
@@ -348,37 +368,46 @@ static const struct {
     [CELLS] = {"cells", 1, 0, {0}},
     [LENGTH] = {"length", 0, 1, {0x10000}},
     [POKE] = {"poke", 0, 2, {0x10000, 0xFF}},
-    [READ] = {"read", 0, 3, {0xFFFF, 0xFFFF, ~0ull}},
-    [NEXT] = {"next", 0, 3, {0xFFFF, 0xFFFF, ~0ull}},
+    [READ] = {"read", 0, 3, {0xFFFF, 0xFFFF, UINT64_MAX}},
+    [NEXT] = {"next", 0, 3, {0xFFFF, 0xFFFF, UINT64_MAX}},
     [SCSI] = {"scsi", 1, 5, {0xFF, 0xFF, 0xFFFFFFFF, 0xFFFFFFFF, 0x10000}},
     [SCSIREAD] = {"scsiread", 0, 3, {0xFF, 0xFF, 0xFFFFFFFF}},
-    [TOSCSI] = {"toscsi", 0, 4, {0xFFFF, 0xFFFF, ~0ull, 0x10000}},
+    [TOSCSI] = {"toscsi", 0, 4, {0xFFFF, 0xFFFF, UINT64_MAX, 0x10000}},
     [TOATA] = {"toata", 0, 5, {0xFF, 0xFF, 0xFFFFFFFF, 0xFFFF, 0x10000}},
 };
 
-static void call(enum name name, enum security security, const uint64_t *n)
+static void call(enum name name, uint8_t security, const uint64_t *n)
 {
     switch (name) {
     case ELEMENT:
         offer(n);
         break;
     case MAKE:
-        answer(make(n[0]));
+        make(n[0]);
         break;
     case COMMAND:
         command(security, n);
         break;
     case STEP:
-        answer(plain_step(&device));
+        answer(recorder_step(&device));
         break;
     case ERROR:
-        answer(plain_media_error(&device));
+        answer(recorder_media_error(&device));
         break;
     case CUT:
-        answer(plain_power_cut(&device));
+        answer(recorder_power_cut(&device));
+        break;
+    case COMRESET:
+        answer(recorder_comreset(&device));
+        break;
+    case HARDRESET:
+        answer(recorder_hardware_reset(&device));
+        break;
+    case SOFTRESET:
+        answer(recorder_software_reset(&device));
         break;
     case GRADE:
-        answer(plain_grade(&device, n[0], n[1]));
+        answer(recorder_grade(&device, n[0], n[1]));
         break;
     case CELLS:
         print_cells();
@@ -390,16 +419,16 @@ static void call(enum name name, enum security security, const uint64_t *n)
         poke(n[0], n[1]);
         break;
     case READ:
-        print_reading(n);
+        print_reading(recorder_read(page, kept, request_of(n)), recorder_descriptor);
         break;
     case NEXT:
-        print_next(n);
+        print_next(recorder_next(page, kept, request_of(n)));
         break;
     case SCSI:
         send(n);
         break;
     case SCSIREAD:
-        print_data_reading(n);
+        print_reading(recorder_scsi_read(page, kept, query_of(n)), recorder_scsi_descriptor);
         break;
     case TOSCSI:
         convert_to_scsi(n);
@@ -407,15 +436,19 @@ static void call(enum name name, enum security security, const uint64_t *n)
     case TOATA:
         convert_to_ata(n);
         break;
-    default:
-        answer(plain_reset(&device));
+    case NAMES:
+        break;
     }
 }
 
-static int get_security(struct word word, enum security *security)
+static int get_security(struct word word, uint8_t *security)
 {
-    static const char *const states[] = {"locked", "unlocked", "frozen"};
-    for (size_t i = 0; i < 3; i++)
+    static const char *const states[] = {
+        [RECORDER_LOCKED] = "locked",
+        [RECORDER_UNLOCKED] = "unlocked",
+        [RECORDER_FROZEN] = "frozen",
+    };
+    for (size_t i = 0; i < sizeof states / sizeof *states; i++)
         if (is_word(word, states[i])) {
             *security = i;
             return 1;
@@ -434,7 +467,7 @@ static enum name name_of(struct word word)
 static void obey(const char *line, size_t length)
 {
     struct word words[MOST_WORDS], *word = words + 1;
-    enum security security = LOCKED;
+    uint8_t security = RECORDER_LOCKED;
     uint64_t numbers[5];
     if (length > 200) {
         say("not a call");
