@@ -1,5 +1,5 @@
-# The calls of crate `calls` on a device, as compiled, beside plain C that does the same in place. The compiled code is taken from the run of
-# an unproved program. Read by `measure`.
+# The calls of crate `calls` on a device, and those of the library for C, as compiled, beside plain C that does the same in place. The code of the
+# first is taken from the run of an unproved program. Read by `measure`.
 
 # reach CRATE: adds it and all that it builds on to `libraries`.
 reach() {
@@ -43,7 +43,7 @@ END
 # The calls made visible to C, and compiled with those options.
 compile_calls() {
     calls=$(sed -n 's/^ *calls::\([a-z_]*\)(.*/\1/p' "$here/reach.txt" | paste -s -d '|' -)
-    compile -x ir "$work/module.bc" -S -emit-llvm -Xclang -disable-llvm-passes -o "$work/module.ll"
+    try compile -x ir "$work/module.bc" -S -emit-llvm -Xclang -disable-llvm-passes -o "$work/module.ll"
     sed -E -e "s/^define internal (.*@\"calls::($calls)\")/define \1/" -e "s/@\"calls::($calls)\"/@calls_\1/g" \
         -e 's/^define i32 @main\(/define internal i32 @reach(/' "$work/module.ll" > "$work/calls.ll"
     set --
@@ -55,11 +55,12 @@ compile_calls() {
 }
 
 measure_calls() {
+    [ -e "$archive" ] || die "$archive is missing"
     compile_module
     compile_calls
-    compile_c plain -fPIE -O3
-    compile_c count -fPIE -O1 -fno-builtin
-    link count "$work/count.o" "$work/proved.o" "$work/plain.o"
+    make_object plain "$here/plain.c" -fPIE -O3
+    make_object count "$here/count.c" -fPIE -O1 -fno-builtin
+    try link "$work/count" "$work/count.o" "$work/proved.o" "$work/plain.o" "$archive"
     ended=0
     table=$(load "$work/count") || ended=$?
     case $ended in

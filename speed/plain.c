@@ -14,17 +14,21 @@ static size_t count_of(const struct recorder_device *d)
     return d->count < MOST ? d->count : MOST;
 }
 
-// The place of an element, or -1.
-static int find(const struct recorder_device *d, uint32_t id)
+static const struct recorder_part *find(const struct recorder_device *d, uint32_t id)
 {
-    size_t count = count_of(d);
-    for (size_t i = 0; i < count; i++) {
-        if (d->parts[i].id == id)
-            return i;
-        if (d->parts[i].id > id)
-            return -1;
+    const struct recorder_part *end = d->parts + count_of(d);
+    for (const struct recorder_part *part = d->parts; part < end; part++) {
+        if (part->id == id)
+            return part;
+        if (part->id > id)
+            return NULL;
     }
-    return -1;
+    return NULL;
+}
+
+static uint8_t *health_of(struct recorder_device *d, const struct recorder_part *part)
+{
+    return &d->healths[part - d->parts];
 }
 
 static unsigned removed(const struct recorder_device *d)
@@ -87,18 +91,18 @@ uint8_t plain_remove(struct recorder_device *d, uint8_t security, uint16_t featu
         return 1;
     if (d->note_full)
         return 2;
-    int i = find(d, id);
-    if (i < 0 || d->parts[i].kind != 1)
+    const struct recorder_part *part = find(d, id);
+    if (!part || part->kind != 1)
         return 4;
-    if (d->healths[i] == 0xFF) {
+    if (*health_of(d, part) == 0xFF) {
         d->failed = 0;
         return 0;
     }
     if (d->limit && removed(d) >= d->limit)
         return 4;
-    if (d->native <= d->parts[i].blocks)
+    if (d->native <= part->blocks)
         return 4;
-    uint64_t difference = d->native - d->parts[i].blocks;
+    uint64_t difference = d->native - part->blocks;
     if (lba > difference)
         return 4;
     d->note_full = 1;
@@ -110,17 +114,17 @@ uint8_t plain_remove(struct recorder_device *d, uint8_t security, uint16_t featu
 }
 
 // Where winding up takes the addresses.
-static uint64_t wound_up(const struct recorder_device *d)
+static uint64_t wound_up(struct recorder_device *d)
 {
-    int i = find(d, d->note_element);
-    return i >= 0 && d->healths[i] == 0xFF ? d->note_new : d->note_old;
+    const struct recorder_part *part = find(d, d->note_element);
+    return part && *health_of(d, part) == 0xFF ? d->note_new : d->note_old;
 }
 
 static void mark_noted(struct recorder_device *d)
 {
-    int i = find(d, d->note_element);
-    if (i >= 0)
-        d->healths[i] = 0xFF;
+    const struct recorder_part *part = find(d, d->note_element);
+    if (part)
+        *health_of(d, part) = 0xFF;
 }
 
 // A work step, or a step of winding up.
@@ -204,10 +208,10 @@ uint8_t plain_software_reset(struct recorder_device *d)
 
 uint8_t plain_grade(struct recorder_device *d, uint32_t id, uint8_t health)
 {
-    int i = find(d, id);
-    if (i < 0 || d->healths[i] == 0xFF || health > 0xCF)
+    const struct recorder_part *part = find(d, id);
+    if (!part || *health_of(d, part) == 0xFF || health > 0xCF)
         return 11;
-    d->healths[i] = health;
+    *health_of(d, part) = health;
     return 0;
 }
 

@@ -1,4 +1,6 @@
 // The library's calls in plain C, over its records. `library.h` gives them the library's names.
+#ifndef PLAIN_H
+#define PLAIN_H
 #include "../c/recorder.h"
 
 // The next step of the step list.
@@ -43,3 +45,5 @@ struct recorder_difference plain_next_difference(const uint8_t *older, size_t ol
                                                  struct recorder_cursor from);
 struct recorder_span plain_part(const uint8_t *older, size_t older_size, const uint8_t *newer, size_t newer_size,
                                 struct recorder_difference difference);
+
+#endif

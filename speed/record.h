@@ -1,16 +1,9 @@
-// The device record and the lent calls as the kit's compiler lays them out: the fields are those of crates/table, crates/device,
-// crates/query and crates/paper, in their order. A slip here shows as a difference from plain C.
-#include <stddef.h>
-#include <stdint.h>
-
-struct part {
-    uint32_t id;
-    uint8_t kind, unreported;
-    uint64_t blocks;
-};
+// The device record and the lent calls as the kit's compiler lays them out: the fields are those of crates/table, crates/device and
+// crates/paper, in their order. A slip here shows as a difference from plain C.
+#include "../c/recorder.h"
 
 struct table {
-    struct part parts[128];
+    struct recorder_part parts[128];
     size_t count;
     uint16_t limit;
 };
@@ -36,16 +29,6 @@ struct device {
     uint8_t position;
 };
 
-struct request {
-    uint16_t feature, count;
-    uint64_t lba;
-};
-
-struct query {
-    uint8_t filter, report;
-    uint32_t start;
-};
-
 struct written {
     uint8_t answer;
     size_t count;
@@ -69,5 +52,5 @@ void calls_remove(uint8_t *answer, struct device *d, const uint8_t *security, ui
 void calls_grade(uint8_t *answer, struct device *d, const uint32_t *id, uint8_t health);
 void calls_command(uint8_t *answer, struct device *d, const uint8_t *security, uint8_t code, uint16_t feature, uint16_t count,
                    const uint64_t *lba, const struct buffer *buf);
-void calls_show(uint8_t *answer, const struct device *d, const uint8_t *security, const struct request *request, const struct buffer *buf);
-void calls_send(struct written *written, const struct device *d, const struct query *query, uint32_t allocation, const struct buffer *buf);
+void calls_show(uint8_t *answer, const struct device *d, const uint8_t *security, const struct recorder_request *request, const struct buffer *buf);
+void calls_send(struct written *written, const struct device *d, const struct recorder_query *query, uint32_t allocation, const struct buffer *buf);
