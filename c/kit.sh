@@ -1,5 +1,5 @@
-# C by the Rattle kit alone, with no package: compiled, linked with the kit's C library, and run. Read by scripts that have `die`, and have put this
-# folder's name into `headers`.
+# C by the Rattle kit alone, with no package: compiled, linked with the kit's C library, and run. Read by scripts that have `die`, and have
+# put this folder's name into `headers`.
 
 # use_kit FOLDER: before all else.
 use_kit() {

@@ -1,5 +1,5 @@
-# The calls of crate `calls` on a device, and those of the library for C, as compiled, beside plain C that does the same in place. The code of the
-# first is taken from the run of an unproved program. Read by `measure`.
+# The calls of crate `calls` on a device, and those of the library for C, as compiled, beside plain C that does the same in place. The code of
+# the first is taken from the run of an unproved program. Read by `measure`.
 
 # reach CRATE: adds it and all that it builds on to `libraries`.
 reach() {

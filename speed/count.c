@@ -1,5 +1,5 @@
-// Makes the call of each case in three forms, lent, as the library has it for C, and in plain C, counts them by the trap flag and compares what
-// they leave. Exit status: 0 within the limits, 1 a figure is over its limit, 2 trouble, a difference among it.
+// Makes the call of each case in three forms, lent, as the library has it for C, and in plain C, counts them by the trap flag and compares
+// what they leave. Exit status: 0 within the limits, 1 a figure is over its limit, 2 trouble, a difference among it.
 #include "cases.h"
 #include "forms.h"
 #include "lent.h"

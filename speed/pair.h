@@ -5,8 +5,8 @@
 
 static inline uint64_t nearer_of(uint64_t a, uint64_t b) { return a < b ? a : b; }
 
-// A page that was cut short reaches up to its last identifier. `last` is its last descriptor, or without one its header, whose returned number
-// stands where an identifier does, and is 0.
+// A page that was cut short reaches up to its last identifier. `last` is its last descriptor, or without one its header, whose returned
+// number stands where an identifier does, and is 0.
 static inline uint64_t reach(const uint8_t *header, const uint8_t *last)
 {
     return number_of(header, LITTLE) > returned_of(header, LITTLE) ? id_of(last, LITTLE) : PAST;

@@ -40,7 +40,8 @@ static inline struct recorder_converted too_small(void) { return (struct recorde
 static inline struct recorder_converted refused_at(size_t place) { return (struct recorder_converted){.place = place, .answer = 9}; }
 
 // A page as the answer to a request.
-static inline struct recorder_converted to_scsi(const uint8_t *page, size_t length, struct recorder_request request, uint8_t *to, size_t room)
+static inline struct recorder_converted to_scsi(const uint8_t *page, size_t length, struct recorder_request request, uint8_t *to,
+                                                size_t room)
 {
     ssize_t offence = check(page, length, request);
     if (offence >= 0)
