@@ -58,9 +58,9 @@ measure_calls() {
     [ -e "$archive" ] || die "$archive is missing"
     compile_module
     compile_calls
-    make_object plain "$here/plain.c" -fPIE -O3
+    for piece in plain host; do make_object "$piece" "$here/$piece.c" -fPIE -O3; done
     make_object count "$here/count.c" -fPIE -O1 -fno-builtin
-    try link "$work/count" "$work/count.o" "$work/proved.o" "$work/plain.o" "$archive"
+    try link "$work/count" "$work/count.o" "$work/proved.o" "$work/plain.o" "$work/host.o" "$archive"
     ended=0
     table=$(load "$work/count") || ended=$?
     case $ended in

@@ -5,8 +5,8 @@
 // Limits  copies of the table;
 //         instructions: so many, or, of a path that walks the table, per cent of plain C's, with 128 elements;
 //         bytes of stack.
-// Library A call of it may copy the table no more often than the lent call, and take so many instructions more. Its stack is that of one
-//         frame; 12h in the front call has that of the page, too.
+// Library Beside a lent call the library's may copy the table no more often, and take so many instructions more; its stack is that of one
+//         frame, and for 12h in the front call that of the page, too. Without a lent call it has the limits of the case.
 #include "kase.h"
 
 enum { MORE = 20, FRAME = 2560 };
@@ -79,4 +79,6 @@ static const struct kase cases[] = {
     {SEND, "no-byte",                  0, IDLE,   {.allocation = 0, .room = 512},                           {2, OF_C(100),   2560}},
     {SEND, "refused",                  0, IDLE,   {.filter = 2, .allocation = 512, .room = 512},            {0, UP_TO(100),  2560}},
     {SEND, "small-buffer",             0, IDLE,   {.allocation = 512, .room = 100},                         {1, OF_C(115),   2560}},
+    {LIST, "9-pages",                  0, IDLE,   {.count = 9, .room = 8192},                               {0, OF_C(100),   2560}},
+    {LIST, "small-buffer",             0, IDLE,   {.count = 9, .room = 100},                                {0, OF_C(100),   2560}},
 };

@@ -7,7 +7,7 @@
 #include <stdio.h>
 
 static const char *const names[CALLS] = {"step",  "media_error", "power_cut", "comreset", "hardware_reset", "software_reset", "remove",
-                                         "grade", "command",     "show",      "send"};
+                                         "grade", "command",     "show",      "send",     "list"};
 
 // ---- The counting
 
@@ -69,7 +69,7 @@ static void count(uint64_t at, uint64_t stack)
 struct run {
     struct recorder_device device; // Of a lent call that in `lent`.
     struct recorder_written said;
-    uint8_t page[4608];
+    uint8_t page[8192];
     struct figures figures;
 };
 
@@ -203,7 +203,8 @@ static int is_over(const struct row *row, const char *what, long figure, long li
     return 1;
 }
 
-static int does_lent_exceed(const struct row *row)
+// By the limits of its case.
+static int does_exceed(const struct row *row)
 {
     const struct kase *k = row->kase;
     const struct figures *p = &row->run->figures;
@@ -216,7 +217,8 @@ static int does_lent_exceed(const struct row *row)
     return over;
 }
 
-static int does_library_exceed(const struct row *row)
+// By the limits beside the lent call.
+static int does_exceed_lent(const struct row *row)
 {
     const struct figures *p = &row->run->figures, *beside = &in_lent.figures;
     int shows = row->kase->call == COMMAND && row->kase->asked.code == 0x12;
@@ -237,31 +239,48 @@ static int has_trouble(const struct row *row, const char *trouble)
     return 1;
 }
 
-// Makes the call of a case in all of its forms: whether one is over its limit, or 2.
+static int measure_lent(const struct kase *k, int elements, const struct asked *a)
+{
+    struct row row = {k, "", elements, &in_lent};
+    run_lent(k, a);
+    const char *trouble = says_otherwise(&in_lent);
+    if (has_trouble(&row, trouble ? trouble : differs(&in_plain.device)))
+        return 2;
+    return does_exceed(&row);
+}
+
+static int measure_library(const struct kase *k, int elements, const struct asked *a)
+{
+    struct row row = {k, "recorder_", elements, &in_library};
+    run_form(&in_library, &library, k, a);
+    const char *trouble = says_otherwise(&in_library);
+    if (has_trouble(&row, trouble ? trouble : leaves_otherwise()))
+        return 2;
+    return lent_calls[k->call] ? does_exceed_lent(&row) : does_exceed(&row);
+}
+
+// Makes the call of a case in all forms that it has: whether one is over its limit, or 2.
 static int measure(const struct kase *k, int elements)
 {
     static struct recorder_device device;
-    struct row by_lent = {k, "", elements, &in_lent}, by_library = {k, "recorder_", elements, &in_library};
+    static uint8_t page[4608];
     struct asked asked = k->asked;
+    int over = 0;
     if (asked.element != NONE)
         asked.count = identifier(asked.element, elements);
     set_up(&device, k, elements);
+    if (k->call == LIST)
+        plain_show(&device, UNLOCKED, (struct recorder_request){.count = asked.count}, page, sizeof page);
+    asked.page = page;
     begin(&in_lent, &device);
     begin(&in_library, &device);
     begin(&in_plain, &device);
     run_form(&in_plain, &plain, k, &asked);
-    run_lent(k, &asked);
-    const char *trouble = says_otherwise(&in_lent);
-    if (has_trouble(&by_lent, trouble ? trouble : differs(&in_plain.device)))
-        return 2;
-    int over = does_lent_exceed(&by_lent);
-    if (!start_of(&library, k->call))
-        return over;
-    run_form(&in_library, &library, k, &asked);
-    trouble = says_otherwise(&in_library);
-    if (has_trouble(&by_library, trouble ? trouble : leaves_otherwise()))
-        return 2;
-    return over | does_library_exceed(&by_library);
+    if (lent_calls[k->call])
+        over |= measure_lent(k, elements, &asked);
+    if (over < 2 && start_of(&library, k->call))
+        over |= measure_library(k, elements, &asked);
+    return over;
 }
 
 int main(void)
@@ -271,10 +290,9 @@ int main(void)
     print_names();
     for (size_t s = 0; s < sizeof sizes / sizeof *sizes; s++)
         for (size_t i = 0; i < sizeof cases / sizeof *cases; i++) {
-            int ended = measure(&cases[i], sizes[s]);
-            if (ended == 2)
+            over |= measure(&cases[i], sizes[s]);
+            if (over >= 2)
                 return 2;
-            over |= ended;
         }
     return over;
 }

@@ -1,4 +1,4 @@
-// The calls on a device that C makes: the library's, and those in plain C.
+// The calls that C makes: the library's, and those in plain C.
 #include "kase.h"
 #include "plain.h"
 
@@ -11,6 +11,7 @@ struct form {
     uint8_t (*show)(const struct recorder_device *d, uint8_t security, struct recorder_request request, uint8_t *buf, size_t size);
     struct recorder_written (*send)(const struct recorder_device *d, struct recorder_query query, uint32_t allocation, uint8_t *buf,
                                     size_t size);
+    struct recorder_written (*list)(const uint8_t *page, size_t size, uint8_t *out, size_t room);
 };
 
 static const struct form library = {
@@ -20,6 +21,7 @@ static const struct form library = {
     recorder_command,
     recorder_show,
     recorder_send,
+    recorder_list,
 };
 
 static const struct form plain = {
@@ -29,6 +31,7 @@ static const struct form plain = {
     plain_command,
     plain_show,
     plain_send,
+    plain_list,
 };
 
 // Where a call begins; NULL if there is none.
@@ -45,6 +48,8 @@ static void *start_of(const struct form *form, enum call call)
         return form->show;
     case SEND:
         return form->send;
+    case LIST:
+        return form->list;
     default:
         return form->events[call];
     }
@@ -71,6 +76,9 @@ static struct recorder_written call_form(const struct form *form, enum call call
         break;
     case SEND:
         w = form->send(d, query, a->allocation, page, a->room);
+        break;
+    case LIST:
+        w = form->list(a->page, 512 * (size_t)a->count, page, a->room);
         break;
     default:
         w.answer = form->events[call](d);

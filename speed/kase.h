@@ -3,7 +3,7 @@
 #define KASE_H
 #include "plain.h"
 
-enum call { STEP, MEDIA_ERROR, POWER_CUT, COMRESET, HARDWARE_RESET, SOFTWARE_RESET, REMOVE, GRADE, COMMAND, SHOW, SEND, CALLS };
+enum call { STEP, MEDIA_ERROR, POWER_CUT, COMRESET, HARDWARE_RESET, SOFTWARE_RESET, REMOVE, GRADE, COMMAND, SHOW, SEND, LIST, CALLS };
 
 enum { IDLE = -1 };
 enum which { NONE, FIRST, SECOND, LAST, UNKNOWN };
@@ -16,6 +16,7 @@ struct asked {
     uint8_t filter, type; // Of SEND, which begins at identifier 0.
     uint32_t allocation;
     size_t room;
+    const uint8_t *page; // Of LIST, on COUNT pages: all elements of the device.
 };
 
 struct kase {

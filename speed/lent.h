@@ -45,6 +45,7 @@ static const char *differs(const struct recorder_device *d)
     return lent.position == d->position ? NULL : "another position than plain C";
 }
 
+// Where each begins; the listing is none of them.
 static void *const lent_calls[CALLS] = {
     [STEP] = calls_step,
     [MEDIA_ERROR] = calls_media_error,
