@@ -79,6 +79,6 @@ static const struct kase cases[] = {
     {SEND, "no-byte",                  0, IDLE,   {.allocation = 0, .room = 512},                           {2, OF_C(100),   2560}},
     {SEND, "refused",                  0, IDLE,   {.filter = 2, .allocation = 512, .room = 512},            {0, UP_TO(100),  2560}},
     {SEND, "small-buffer",             0, IDLE,   {.allocation = 512, .room = 100},                         {1, OF_C(115),   2560}},
-    {LIST, "9-pages",                  0, IDLE,   {.count = 9, .room = 8192},                               {0, OF_C(100),   2560}},
+    {LIST, "9-pages",                  0, IDLE,   {.count = 9, .room = 8192},                               {0, OF_C(120),   2560}},
     {LIST, "small-buffer",             0, IDLE,   {.count = 9, .room = 100},                                {0, OF_C(100),   2560}},
 };
