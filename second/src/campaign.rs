@@ -11,8 +11,10 @@ use crate::cases::random_pair::random_pair;
 use crate::cases::random_walk::random_walk_script;
 use crate::cases::rng::Rng;
 use crate::cases::script_text::Text;
+use crate::library::{calls_without_difference, Library};
 use crate::own::{in_rows, own_answers, own_comparison, own_conversion, own_listing};
-use crate::recorder::{Recorder, Said};
+use crate::program::{Program, Said};
+use crate::recorder::Recorder;
 use crate::rules::convert::{input_to_ata, input_to_scsi};
 use crate::rules::listing::{list, list_scsi};
 use crate::rules::script::{meaning, Call, Line};
@@ -27,21 +29,29 @@ const BATCH: usize = 60;
 const LAST_GAP: usize = 11;
 /// Differences shown in full; more are only counted.
 const SHOWN: u64 = 5;
+/// The part of the time that the library's random calls get, one in so many.
+const PART: u64 = 5;
+/// Seconds of random calls between two lines of progress.
+const SPELL: u64 = 5;
 
 struct Campaign {
     recorder: Recorder,
+    /// The programs that run scripts, with what they are called in words.
+    benches: Vec<(&'static str, Program)>,
     start: Instant,
     last_progress: Instant,
     cases: u64,
     calls: u64,
     /// Calls of `cut`.
     cuts: u64,
+    /// Random calls through the library, beside plain C.
+    random: u64,
     differences: u64,
 }
 
-/// The whole campaign; 1 if there is a difference, 2 if RECORDER cannot be run.
-pub fn run(path: &str, seconds: u64) -> i32 {
-    match Recorder::at(path).and_then(|recorder| side_by_side(recorder, seconds)) {
+/// The whole campaign; 1 if there is a difference, 2 if a program cannot be run.
+pub fn run(path: &str, seconds: u64, library: Option<Library>) -> i32 {
+    match side_by_side(path, seconds, library) {
         Ok(0) => 0,
         Ok(_) => 1,
         Err(error) => {
@@ -51,19 +61,31 @@ pub fn run(path: &str, seconds: u64) -> i32 {
     }
 }
 
-fn side_by_side(recorder: Recorder, seconds: u64) -> io::Result<u64> {
+fn side_by_side(path: &str, seconds: u64, library: Option<Library>) -> io::Result<u64> {
+    let mut benches = vec![("bench", Program::bench(path, &["bench"])?)];
+    if let Some(library) = &library {
+        benches.push(("bench in C", library.bench()?));
+    }
     let now = Instant::now();
     let mut campaign = Campaign {
-        recorder,
+        recorder: Recorder::at(path)?,
+        benches,
         start: now,
         last_progress: now,
         cases: 0,
         calls: 0,
         cuts: 0,
+        random: 0,
         differences: 0,
     };
+    let part = library.as_ref().map_or(0, |_| (seconds / PART).max(1));
+    let seed = time_seed();
+    println!("first seed {}", seed);
     campaign.all_placements()?;
-    campaign.fresh_seeds(Duration::from_secs(seconds))?;
+    campaign.fresh_seeds(seed, Duration::from_secs(seconds.saturating_sub(part)))?;
+    if let Some(library) = &library {
+        campaign.random_calls(library, seed, part)?;
+    }
     println!("{}", campaign.figures());
     Ok(campaign.differences)
 }
@@ -124,9 +146,8 @@ impl Campaign {
     }
 
     /// Seed after seed: a script, a page, a pair and SCSI data each.
-    fn fresh_seeds(&mut self, duration: Duration) -> io::Result<()> {
-        let mut seed = time_seed();
-        println!("first seed {}", seed);
+    fn fresh_seeds(&mut self, first: u64, duration: Duration) -> io::Result<()> {
+        let mut seed = first;
         while self.start.elapsed() < duration {
             self.script(&format!("seed {}", seed), &seeded_script(seed), 1)?;
             self.page(seed, &seeded_page(seed))?;
@@ -139,13 +160,39 @@ impl Campaign {
         Ok(())
     }
 
+    /// Random calls through the library, beside plain C, in spells. The cases of
+    /// a spell have one seed after the other, fewer than calls.
+    fn random_calls(&mut self, library: &Library, first: u64, seconds: u64) -> io::Result<()> {
+        let mut seed = first;
+        let mut left = seconds;
+        while left > 0 {
+            let spell = left.min(SPELL);
+            let said = library.random(seed, spell)?;
+            match calls_without_difference(&said) {
+                Some(calls) => self.random += calls,
+                None => {
+                    self.differences += 1;
+                    println!("difference: random calls (status {:?})", said.status);
+                    return io::stdout().write_all(&said.text);
+                }
+            }
+            seed = first.wrapping_add(self.random);
+            left -= spell;
+            self.progress();
+        }
+        Ok(())
+    }
+
     fn script(&mut self, label: &str, script: &[u8], cases: usize) -> io::Result<()> {
         self.cases += cases as u64;
         self.count_calls(script);
-        if self.script_differs(script)? {
-            self.differences += 1;
-            if self.differences <= SHOWN {
-                self.show_script(label, script)?;
+        for (name, bench) in &self.benches {
+            if script_differs(bench, script)? {
+                self.differences += 1;
+                if self.differences <= SHOWN {
+                    println!("difference: {}, {}", name, label);
+                    show_script(bench, script)?;
+                }
             }
         }
         self.progress();
@@ -161,36 +208,10 @@ impl Campaign {
         }
     }
 
-    fn script_differs(&self, script: &[u8]) -> io::Result<bool> {
-        let said = self.recorder.run("bench", script)?;
-        Ok(said != own_answers(script))
-    }
-
-    /// The smallest prefix that differs, found by halving.
-    fn show_script(&self, label: &str, script: &[u8]) -> io::Result<()> {
-        let lines: Vec<&[u8]> = script.split_inclusive(|&byte| byte == b'\n').collect();
-        let (mut same, mut differs) = (0, lines.len());
-        while differs - same > 1 {
-            let middle = same + (differs - same) / 2;
-            if self.script_differs(&lines[..middle].concat())? {
-                differs = middle;
-            } else {
-                same = middle;
-            }
-        }
-        let prefix = lines[..differs].concat();
-        println!("difference: bench, {}", label);
-        println!("smallest failing prefix, {} lines:", differs);
-        io::stdout().write_all(&prefix)?;
-        let said = self.recorder.run("bench", &prefix)?;
-        show_both(&own_answers(&prefix), &said);
-        Ok(())
-    }
-
     /// A page listed, and converted.
     fn page(&mut self, seed: u64, page: &[u8]) -> io::Result<()> {
         let inputs = [("page", page)];
-        let said = self.recorder.run("list", page)?;
+        let said = self.recorder.list(page)?;
         self.judge("list", seed, (own_listing(list(page)), said), &inputs);
         let said = in_rows(self.recorder.convert(&["scsi"], page)?);
         let own = in_rows(own_conversion(input_to_scsi(page)));
@@ -238,10 +259,11 @@ impl Campaign {
 
     fn figures(&self) -> String {
         format!(
-            "cases {} calls {} cuts {} seconds {} differences {}",
+            "cases {} calls {} cuts {} random {} seconds {} differences {}",
             self.cases,
             self.calls,
             self.cuts,
+            self.random,
             self.start.elapsed().as_secs(),
             self.differences
         )
@@ -253,6 +275,29 @@ impl Campaign {
             eprintln!("{}", self.figures());
         }
     }
+}
+
+fn script_differs(bench: &Program, script: &[u8]) -> io::Result<bool> {
+    Ok(bench.run(script)? != own_answers(script))
+}
+
+/// The smallest prefix that differs, found by halving.
+fn show_script(bench: &Program, script: &[u8]) -> io::Result<()> {
+    let lines: Vec<&[u8]> = script.split_inclusive(|&byte| byte == b'\n').collect();
+    let (mut same, mut differs) = (0, lines.len());
+    while differs - same > 1 {
+        let middle = same + (differs - same) / 2;
+        if script_differs(bench, &lines[..middle].concat())? {
+            differs = middle;
+        } else {
+            same = middle;
+        }
+    }
+    let prefix = lines[..differs].concat();
+    println!("smallest failing prefix, {} lines:", differs);
+    io::stdout().write_all(&prefix)?;
+    show_both(&own_answers(&prefix), &bench.run(&prefix)?);
+    Ok(())
 }
 
 /// Writes an input that shows a difference to a file.

@@ -8,7 +8,9 @@ mod cases;
 #[cfg(test)]
 mod examples;
 mod folder;
+mod library;
 mod own;
+mod program;
 mod recorder;
 mod rules;
 mod vectors;
@@ -19,6 +21,7 @@ use std::io::{self, Read, Write};
 use std::path::Path;
 use std::process::exit;
 
+use library::Library;
 use rules::answer::Answer;
 use rules::listing::Listing;
 use rules::{bench, compare, convert, listing};
@@ -30,7 +33,7 @@ const USAGE: &str = "usage: second list < PAGE
        second bench < SCRIPT
        second compare OLDER NEWER
        second vectors DIR
-       second campaign RECORDER [SECONDS]
+       second campaign RECORDER [SECONDS [RUN FOLDER]]
        second seeded script|page|dock|older|newer SEED";
 
 /// How long a campaign lasts if nothing else is said.
@@ -65,16 +68,23 @@ fn run(words: &[&str]) -> io::Result<i32> {
         ["bench"] => bench_input(),
         ["compare", older, newer] => compare_files(older, newer),
         ["vectors", dir] => vectors::write_vectors(Path::new(dir)).map(|()| 0),
-        ["campaign", recorder] => Ok(campaign::run(recorder, SECONDS)),
-        ["campaign", recorder, seconds] => match seconds.parse() {
-            Ok(seconds) => Ok(campaign::run(recorder, seconds)),
-            Err(_) => usage(),
-        },
+        ["campaign", recorder] => Ok(campaign::run(recorder, SECONDS, None)),
+        ["campaign", recorder, seconds] => run_campaign(recorder, seconds, None),
+        ["campaign", recorder, seconds, run, folder] => {
+            run_campaign(recorder, seconds, Some(Library { run, folder }))
+        }
         ["seeded", what, seed] => match seed.parse() {
             Ok(seed) => seeded(what, seed),
             Err(_) => usage(),
         },
         _ => usage(),
+    }
+}
+
+fn run_campaign(recorder: &str, seconds: &str, library: Option<Library>) -> io::Result<i32> {
+    match seconds.parse() {
+        Ok(seconds) => Ok(campaign::run(recorder, seconds, library)),
+        Err(_) => usage(),
     }
 }
 

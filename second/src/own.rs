@@ -1,6 +1,6 @@
 //! What this program says of a campaign's cases.
 
-use crate::recorder::Said;
+use crate::program::Said;
 use crate::rules::answer::Answer;
 use crate::rules::bench;
 use crate::rules::compare::compare;
