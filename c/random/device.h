@@ -101,17 +101,32 @@ static struct registers draw_media(void)
     return r;
 }
 
+// The forms that are open during a removal, as they are or with a bit changed.
 static struct registers draw_other(void)
 {
-    struct registers r = {.code = ONE_OF(0xEC, 0xE1, 0xE1, 0x2F, 0x47, 0x0B, 0xF2, 0xEF, 0xB0, 0xB0)};
-    r.feature = ONE_OF(0x44, 0x07, 0xD5, 0xDA);
+    static const struct registers forms[] = {
+        {.code = 0xEC},
+        {.code = 0x0B},
+        {.code = 0xF2},
+        {.code = 0xE1, .feature = 0x44, .lba = 0x0554E4C},
+        {.code = 0x2F, .lba = 0x04},
+        {.code = 0x2F, .lba = 0xE0},
+        {.code = 0x47, .lba = 0x10},
+        {.code = 0x47, .lba = 0x30},
+        {.code = 0xEF, .feature = 0x07},
+        {.code = 0xB0, .feature = 0xD5, .lba = 0x30},
+        {.code = 0xB0, .feature = 0xD5, .lba = 0xE0},
+        {.code = 0xB0, .feature = 0xDA},
+    };
+    struct registers r = forms[below(sizeof forms / sizeof *forms)];
+    if (one_in(8))
+        r.code = ONE_OF(0x2F, 0x47, 0xB0, 0xE1, 0xEF);
     if (one_in(4))
-        r.feature ^= one_in(2) ? 1 << below(16) : 0xFF00;
-    r.count = wild();
-    r.lba = ONE_OF(0x0554E4C, 0x0554E4C, 0x04, 0x10, 0x30, 0xE0);
+        r.feature ^= 1 << below(16);
     if (one_in(4))
         r.lba ^= 1ull << below(48);
     r.lba = with_high_bits(r.lba);
+    r.count = wild();
     return r;
 }
 

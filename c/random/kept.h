@@ -152,18 +152,21 @@ static void make_up(void)
 
 // ---- Pages with something wrong, and any bytes
 
-// Where a change tells: in the header's numbers, in a descriptor's, or anywhere.
+// Where a change tells: at the end, in the header's numbers, in a descriptor's, or anywhere.
 static size_t draw_place(size_t size)
 {
     size_t row = 32 * (size_t)below(size / 32 + 1);
-    switch (below(4)) {
+    switch (below(8)) {
     case 0:
-        return below(8);
+        return size - 1;
     case 1:
     case 2:
-        return row + ONE_OF(4, 5, 7, 13, 14, 15, 16, 23);
-    default:
+        return below(8);
+    case 3:
+    case 4:
         return below(size);
+    default:
+        return row + ONE_OF(4, 5, 7, 13, 14, 15, 16, 23);
     }
 }
 

@@ -13,9 +13,9 @@ static struct {
 // Small devices mostly: a big one costs more time.
 static size_t draw_count(void)
 {
-    if (one_in(32))
+    if (one_in(16))
         return one_in(4) ? ONE_OF(0, 127, 128, 129, 130, RECORDS) : 1 + below(128);
-    return one_in(8) ? 1 + below(40) : 1 + below(6);
+    return one_in(4) ? 1 + below(40) : 1 + below(6);
 }
 
 static uint8_t draw_health(void) { return one_in(2) ? below(0xD0) : ONE_OF(0, 0x64, 0x65, 0xCE, 0xCF); }
