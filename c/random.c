@@ -1,8 +1,8 @@
 // Random calls through the library and through plain C, side by side: after each call answers, records and buffers have to be the same.
 // usage: random [reach | trace] SEED calls|seconds NUMBER
 //
-// A case is some hundred calls, all of which come from its seed; the next case has the next seed. The first difference is shown with the seed
-// of its case, and `random trace SEED calls 1` shows the calls of that case. `reach` prints what the calls have reached.
+// A case is some hundred calls, all of which come from its seed; the next case has the next seed. The first difference is shown with the
+// seed of its case, and `random trace SEED calls 1` shows the calls of that case. `reach` prints what the calls have reached.
 // Exit status: 0 no difference, 1 a difference, 2 wrong words.
 #include "random/device.h"
 #include "random/host.h"

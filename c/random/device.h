@@ -76,7 +76,7 @@ static struct registers draw_status(void)
     struct registers r = {.code = 0x12, .security = draw_security()};
     r.feature = ONE_OF(0, 0, 0x4000, 0x0100, 0x4100);
     if (one_in(8))
-        r.feature = one_in(2) ? r.feature ^ 1 << below(16) : wild();
+        r.feature = one_in(2) ? r.feature ^ 1u << below(16) : wild();
     r.count = draw_pages();
     r.lba = one_in(2) ? 0 : draw_id();
     if (one_in(16))

@@ -72,7 +72,7 @@ static struct row draw_row(uint32_t id, struct recorder_request request)
     struct row row = {.id = id};
     row.kind = query.report ? 1 : ONE_OF(1, 1, 2, 0xFF);
     row.health = query.filter ? ONE_OF(0x65, 0x70, 0xCF, 0xFF) : ONE_OF(0, 0x64, 0x65, 0xCF, 0xD0, 0xFE, 0xFF);
-    row.flag = row.health == 0xFF ? below(2) : one_in(400);
+    row.flag = one_in(row.health == 0xFF ? 2 : 400);
     row.capacity = one_in(8) ? ~0ull : wild();
     return row;
 }
@@ -174,7 +174,7 @@ static void change_bytes(int which)
 {
     for (int bytes = 1 + below(2); bytes > 0; bytes--) {
         size_t place = draw_place(kept[which].size);
-        uint8_t byte = one_in(2) ? 1 << below(8) : below(256);
+        uint8_t byte = one_in(2) ? 1u << below(8) : below(256);
         if (place < kept[which].size)
             kept_bytes(which)[place] ^= byte;
     }

@@ -24,9 +24,9 @@ static struct {
     uint64_t calls;
     uint64_t answers[KINDS][ANSWERS];
     uint64_t found[KINDS][2];
-    uint64_t accepted;                    // Removals that have begun.
-    uint64_t positions[3][POSITIONS];     // While a removal is under way: steps, errors and cuts at each.
-    uint64_t junk, on_junk;               // How often a record was junked, and calls on such records.
+    uint64_t accepted;                // Removals that have begun.
+    uint64_t positions[3][POSITIONS]; // While a removal is under way: steps, errors and cuts at each.
+    uint64_t junk, on_junk;           // How often a record was junked, and calls on such records.
 } reach;
 
 static void print_answers(enum kind kind)
