@@ -6,10 +6,11 @@
 //         instructions: so many, or, of a path that walks the table, per cent of plain C's, with 128 elements;
 //         bytes of stack.
 // Library Beside a lent call the library's may copy the table no more often, and take so many instructions more; its stack is that of one
-//         frame, and for 12h in the front call that of the page, too. Without a lent call it has the limits of the case.
+//         frame, and for 12h in the front call that of the page, too. A page by itself has, around its frame, that of the function that C
+//         calls, which puts down the request. Without a lent call it has the limits of the case.
 #include "kase.h"
 
-enum { MORE = 20, FRAME = 2560 };
+enum { MORE = 20, FRAME = 2560, AROUND = 24 };
 
 enum { LOCKED = RECORDER_LOCKED, UNLOCKED = RECORDER_UNLOCKED };
 

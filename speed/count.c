@@ -222,8 +222,9 @@ static int does_exceed_lent(const struct row *row)
 {
     const struct figures *p = &row->run->figures, *beside = &in_lent.figures;
     int shows = row->kase->call == COMMAND && row->kase->asked.code == 0x12;
+    int frames = shows ? 2 * FRAME : row->kase->call == SHOW ? AROUND + FRAME : FRAME;
     int over = is_over(row, "copies of the table", p->tables, beside->tables);
-    over |= is_over(row, "bytes of stack", p->stack, shows ? 2 * FRAME : FRAME);
+    over |= is_over(row, "bytes of stack", p->stack, frames);
     return over | is_over(row, "instructions", p->own, beside->own + MORE);
 }
 
