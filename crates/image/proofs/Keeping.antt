@@ -127,32 +127,11 @@ abbrev healed : Image → List ℕ → Cells
 healed i hs =
     record { native = i .native; accessible = i .accessible; healths = hs; failed = markOf (i .failed); note = noteOf (i .full) (removalIn i) }
 
--- an image with its own note, mark and position put down again, and these healths
-pub graded-kept : (i : Image) (hs : List ℕ)
-    → withHealths hs i ≡ keeps i (record { table = deviceOf i .table; cells = healed i hs; position = deviceOf i .position })
+-- an image with its own addresses, note and mark put down again, these healths, and this position
+own-kept : (i : Image) (hs : List ℕ) (p : Position)
+    → withHealths hs (atPosition p i) ≡ keeps i (record { table = deviceOf i .table; cells = healed i hs; position = p })
 unfolding keeps deviceOf
-graded-kept i hs =
-    sym (λ k.
-    record {
-      parts = i .parts;
-      native = i .native;
-      accessible = i .accessible;
-      old = old-stays (removalIn i) (isOn (i .full)) k;
-      new = new-stays (removalIn i) (isOn (i .full)) k;
-      element = element-stays (removalIn i) (isOn (i .full)) k;
-      count = i .count;
-      limit = i .limit;
-      full = note-stays (i .full) (removalIn i) k;
-      failed = mark-stays (i .failed) k;
-      position = place-stays (i .position) k;
-      healths = hs;
-    })
-
--- and so with another position
-pub moved-kept : (i : Image) (p : Position)
-    → atPosition p i ≡ keeps i (record { table = deviceOf i .table; cells = deviceOf i .cells; position = p })
-unfolding keeps deviceOf
-moved-kept i p =
+own-kept i hs p =
     sym (λ k.
     record {
       parts = i .parts;
@@ -166,8 +145,35 @@ moved-kept i p =
       full = note-stays (i .full) (removalIn i) k;
       failed = mark-stays (i .failed) k;
       position = placeFor (i .position) p;
-      healths = i .healths;
+      healths = hs;
     })
+
+pub moved-kept : (i : Image) (p : Position) → atPosition p i ≡ keeps i (record { table = deviceOf i .table; cells = deviceOf i .cells; position = p })
+unfolding deviceOf
+moved-kept i p = own-kept i (i .healths) p
+
+own-position : (i : Image) → i ≡ atPosition (positionOf (i .position)) i
+own-position i =
+    λ k.
+    record {
+      parts = i .parts;
+      native = i .native;
+      accessible = i .accessible;
+      old = i .old;
+      new = i .new;
+      element = i .element;
+      count = i .count;
+      limit = i .limit;
+      full = i .full;
+      failed = i .failed;
+      position = sym (place-stays (i .position)) k;
+      healths = i .healths;
+    }
+
+pub graded-kept : (i : Image) (hs : List ℕ)
+    → withHealths hs i ≡ keeps i (record { table = deviceOf i .table; cells = healed i hs; position = deviceOf i .position })
+unfolding deviceOf
+graded-kept i hs = ap (withHealths hs) (own-position i) ∙ own-kept i hs (positionOf (i .position))
 
 pub kept-stays : Kept-stays
 unfolding deviceOf
