@@ -26,13 +26,13 @@ use Rattle.table.specs.declared.Part.{Part}
 use Rattle.calls.proofs.Data.{device}
 
 -- what a fact of an element tells holds of each element of an array
-of-each : (R : RattleType) {B : Type 0} (into : B → R .Denot) (P : B → Type 0) → ((x : B) (vs : List Val) → Is R (into x) vs → P x)
+pub of-each : (R : RattleType) {B : Type 0} (into : B → R .Denot) (P : B → Type 0) → ((x : B) (vs : List Val) → Is R (into x) vs → P x)
     → (xs : List B) (us : List Val) → shadow (each (R .Denot) (R .own) (map into xs) us) → Every P xs
 of-each R into P tells [] us s = tt
 of-each R into P tells (x ∷ xs) [] s = absurd s
 of-each R into P tells (x ∷ xs) (u ∷ us) s = (tells x (u ∷ []) (s .0), of-each R into P tells xs us (s .1))
 
-part-fits : (p : Part) (vs : List Val) → Is Part.the-row p vs → PartFits p
+pub part-fits : (p : Part) (vs : List Val) → Is Part.the-row p vs → PartFits p
 part-fits p vs is =
     let fields = is .1 .1 in
     record { id = fields .0 .1 .1 .0 .1; kind = fields .1 .0 .1; blocks = fields .1 .1 .1 .1 .0 .1 }

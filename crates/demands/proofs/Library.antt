@@ -1,66 +1,90 @@
--- Demands 1 and 3 of the library (specs/Library): what is put down in a record is what is read, call by call.
+-- What holds of the library (specs/Library): what is put down in a record is what is read, call by call.
 use Prim.Native.Nat.{ℕ}
-use mathlib.Core.List.{List, _∷_}
-use mathlib.Core.Path.{_≡_, refl, sym, ap, subst, subst⁻¹, _∙_}
+use mathlib.Core.Bool.{true}
+use mathlib.Core.List.{List}
+use mathlib.Core.Path.{_≡_, refl, sym, ap, subst, _∙_}
 use lib.ListN.{length}
 use Rattle.calls.proofs.Lists.{made-alike}
 use Rattle.calls.proofs.Refusals.{refusal-leaves-both}
 use Rattle.calls.specs.Offered.{offerOf, madeFrom}
-use Rattle.device.specs.Machine.{Event, command, told}
+use Rattle.cells.specs.declared.Note.the-variants.{Empty, Full}
+use Rattle.cells.specs.declared.Note.{Note}
+use Rattle.device.specs.Machine.{Event, command, step, powerCut, told}
 use Rattle.device.specs.declared.Device.{Device}
-use Rattle.history.proofs.Promise.{kept}
-use Rattle.history.specs.Promise.{Kept-by-runs}
-use Rattle.history.specs.Runs.{history}
-use Rattle.history.specs.Starts.{Made-of}
+use Rattle.history.specs.Runs as runs
+use Rattle.history.specs.Runs.{begin, _▸_, after}
 use Rattle.image.proofs.Every.{reads-on, refusal-leaves-image, reads-made, refused-making-leaves}
 use Rattle.image.specs.Calls.{toldOf}
 use Rattle.image.specs.Reading.{securityOf, deviceOf}
 use Rattle.image.specs.declared.Image.{Image}
+use Rattle.offer.specs.Check.{good}
 use Rattle.offer.specs.declared.Element.{Element}
-use Rattle.paper.specs.Told.{Told, tells, said}
+use Rattle.paper.specs.Told.{Told, tells}
 use Rattle.paper.specs.declared.Answer.the-variants.{Done}
 use Rattle.recorder.proofs.Front.{made-in}
 use Rattle.recorder.specs.Made.{madeIn}
-use Rattle.demands.specs.Library.{none, call, Library-runs, Library-keeps, Refused-command-leaves, Refused-list-leaves-image, Library-refuses}
-use Rattle.demands.proofs.Starts.{listed-starts}
+use Rattle.demands.specs.Library.{none, call, Library-runs, Library-starts, Library-after, Library-keeps, Library-forgets, Library-rests, Refused-command-leaves, Refused-list-leaves-image, Library-refuses}
+use Rattle.demands.proofs.Starts.{listed-starts, listed-keeps}
 
--- what a call promises of the record, read
-module _ (x y : Image) (e : Event) (n : ℕ) (is : tells n y ≡ toldOf x e) where
-  state-read : deviceOf y ≡ told (deviceOf x) e .state
-  state-read = ap (λ (t : Told Image). deviceOf (t .state)) is ∙ reads-on x e .1
+-- ## The record and the device that it is
 
-  number-read : n ≡ told (deviceOf x) e .number
-  number-read = ap (λ (t : Told Image). t .number) is ∙ reads-on x e .0
+read : (x y : Image) (e : Event) (n : ℕ) → tells n y ≡ toldOf x e → tells n (deviceOf y) ≡ told (deviceOf x) e
+read x y e n is =
+    ap (λ (t : Told Image). tells (t .number) (deviceOf (t .state))) is ∙ (λ k. tells (reads-on x e .0 k) (reads-on x e .1 k))
 
 pub library-runs : Library-runs
-library-runs i _ _ _ none = (refl, refl)
-library-runs i _ _ _ (call {s} {ns} {x} ran e n y is) =
-    let past = library-runs i s ns x ran in (
-      state-read x y e n is ∙ ap (λ (d : Device). told d e .state) (past .0),
-      λ k. (number-read x y e n is ∙ ap (λ (d : Device). told d e .number) (past .0)) k ∷ past .1 k,
-    )
-
--- ## A device made of C's own list
+library-runs i _ _ _ none = runs.none
+library-runs i _ _ _ (call {s} {ns} {x} ran e n y is) = runs.call (library-runs i s ns x ran) e n (deviceOf y) (read x y e n is)
 
 module _ (there : Image) (es : List Element) (limit : ℕ) where
-  made-read : (madeIn there es limit .number ≡ madeFrom (deviceOf there) es limit .number)
-      × (deviceOf (madeIn there es limit .state) ≡ madeFrom (deviceOf there) es limit .state)
-  made-read =
-      let same = made-in there es limit in
-      let alike = made-alike (deviceOf there) es limit in
-      let read = reads-made there (offerOf es limit) in (
-        ap (λ (t : Told Image). t .number) (sym same) ∙ read .0 ∙ ap (λ (t : Told Device). t .number) (sym alike),
-        ap (λ (t : Told Image). deviceOf (t .state)) (sym same) ∙ read .1 ∙ ap (λ (t : Told Device). t .state) (sym alike),
-      )
+  -- the making, read
+  made-read : (n : ℕ) (i : Image) → tells n i ≡ madeIn there es limit → tells n (deviceOf i) ≡ madeFrom (deviceOf there) es limit
+  made-read n i is =
+      let both = reads-made there (offerOf es limit) in
+      ap (λ (t : Told Image). tells (t .number) (deviceOf (t .state))) (is ∙ sym (made-in there es limit)) ∙ (λ k. tells (both .0 k) (both .1 k))
+      ∙ sym (made-alike (deviceOf there) es limit)
 
-  made-done : (i : Image) → tells 0 i ≡ madeIn there es limit → said Done (deviceOf i) ≡ madeFrom (deviceOf there) es limit
-  made-done i is =
-      λ k. tells ((ap (λ (t : Told Image). t .number) is ∙ made-read .0) k) ((ap (λ (t : Told Image). deviceOf (t .state)) is ∙ made-read .1) k)
+accepted : (d : Device) (es : List Element) (limit : ℕ) → good (length es) es limit ≡ true → madeFrom d es limit .number ≡ 0
+unfolding madeFrom
+accepted d es limit g = rw g refl
+
+pub library-starts : Library-starts
+library-starts there es limit n i is =
+    let made = made-read there es limit n i is in (
+      λ z. listed-starts (deviceOf there) es limit Done (deviceOf i) (ap (λ (m : ℕ). tells m (deviceOf i)) (sym z) ∙ made) .0 refl,
+      λ g. ap (λ (t : Told Device). t .number) made ∙ accepted (deviceOf there) es limit g,
+    )
+
+pub library-after : Library-after
+library-after P holds there es limit i (is, fits) s ns x ran =
+    holds (deviceOf there) es limit Done (deviceOf i) (made-read there es limit 0 i is, fits) refl s ns (deviceOf x) (library-runs i s ns x ran)
+
+-- ## Demand 3
 
 pub library-keeps : Library-keeps
 library-keeps there es limit i is s ns x ran =
-    let made : Made-of es limit (deviceOf i) = listed-starts (deviceOf there) es limit Done (deviceOf i) (made-done there es limit i is) .0 refl .1 in
-    subst⁻¹ (Kept-by-runs (deviceOf i) (history (deviceOf i) s)) (library-runs i s ns x ran .0) (kept (deviceOf i) (made .startable) s)
+    listed-keeps (deviceOf there) es limit Done (deviceOf i) (made-read there es limit 0 i is) refl s ns (deviceOf x) (library-runs i s ns x ran)
+
+pub library-forgets : Library-forgets
+unfolding deviceOf
+library-forgets i n = record { table = refl; cells = refl }
+
+-- a device, by its note
+abbrev noting : Device → Note → Device
+noting d n =
+    record {
+      table = d .table;
+      cells =
+          record { native = d .cells .native; accessible = d .cells .accessible; healths = d .cells .healths; failed = d .cells .failed; note = n };
+      position = d .position;
+    }
+
+rests : (d : Device) (n : Note) → after (noting d n) (begin ▸ powerCut ▸ step ▸ step ▸ step ▸ step) .cells .note ≡ Empty
+rests d Empty = refl
+rests d (Full w) = refl
+
+pub library-rests : Library-rests
+library-rests i = rests (deviceOf i) (deviceOf i .cells .note)
 
 -- ## A refusal
 

@@ -7,9 +7,7 @@ use Rattle.cells.specs.declared.Store.{Store}
 use Rattle.conduct.specs.Promises.{But-position}
 use Rattle.device.specs.Machine.{Event, command, step, mediaError, powerCut, comreset, hardwareReset, softwareReset, grade, rule, told}
 use Rattle.device.specs.declared.Device.{Device}
-use Rattle.paper.specs.Answers.{numberOf}
-use Rattle.paper.specs.Told.{said}
-use Rattle.paper.specs.declared.Answer.{Answer}
+use Rattle.paper.specs.Told.{tells}
 use Rattle.paper.specs.declared.ElementId.{ElementId}
 
 infixl 20 _▸_
@@ -60,10 +58,11 @@ history d (s ▸ e) = history d s ▹ entry (after d s) e
 
 -- ## Runs of the code
 
--- a chain of calls that keep their promises, each on the device that the one before it left; their numbers, the latest first
+-- a chain of calls that keep their promises, each on the device that the one before it left; their numbers, the latest first. A call that answers a
+-- and leaves y says that `said a y ≡ told x e`, which is `tells (numberOf a) y ≡ told x e`
 pub data Ran (d : Device) : Script → List ℕ → Device → Type 0 where
   none : Ran d begin [] d
-  call : {s : Script} {ns : List ℕ} {x : Device} → Ran d s ns x → (e : Event) (a : Answer) (y : Device) → said a y ≡ told x e → Ran d (s ▸ e) (numberOf a ∷ ns) y
+  call : {s : Script} {ns : List ℕ} {x : Device} → Ran d s ns x → (e : Event) (n : ℕ) (y : Device) → tells n y ≡ told x e → Ran d (s ▸ e) (n ∷ ns) y
 
 abbrev pub answersIn : History → List ℕ
 answersIn empty = []

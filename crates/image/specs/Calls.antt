@@ -1,9 +1,6 @@
 -- The calls on an image: what the call by value tells of the device that the image is, put down in it.
-use Prim.Native.Nat.{ℕ}
 use mathlib.Core.Bool.{cond}
-use mathlib.Core.List.{List}
 use lib.Dec.{eqb}
-use lib.ListN.{length}
 use Rattle.device.specs.Machine.{Event, told}
 use Rattle.device.specs.declared.Device.{Device}
 use Rattle.making.specs.Making.{madeOf}

@@ -1,5 +1,4 @@
 -- What holds of an image. Each is a statement; proofs/ has the proof under the same name in lower case.
-use Prim.Native.Nat.{ℕ, _≤_}
 use mathlib.Core.Path.{_≡_}
 use Rattle.device.specs.Machine.{Event, comreset, hardwareReset, softwareReset, told}
 use Rattle.making.specs.Making.{madeOf}

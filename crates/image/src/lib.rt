@@ -8,7 +8,7 @@ ghost use Rattle.sender.specs.Sent.{sent};
 ghost use Rattle.status.specs.Page.{shown};
 ghost use Rattle.image.specs.Calls.{toldOf, madeBy};
 ghost use Rattle.image.specs.Keeping as keeping;
-ghost use Rattle.image.specs.Keeping.{flagFor, placeFor, elementFor, oldFor, newFor, keeps, imageOf};
+ghost use Rattle.image.specs.Keeping.{flagFor, placeFor, elementFor, oldFor, newFor, keeps};
 ghost use Rattle.image.specs.Private as private;
 ghost use Rattle.image.specs.Reading.{securityOf, markOf, noteOf, positionOf, placeOf, deviceOf};
 use cells::Cells;

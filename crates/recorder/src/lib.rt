@@ -4,6 +4,7 @@
 ghost use mathlib.Core.Path.{_≡_};
 ghost use lib.ListN.{length};
 ghost use Rattle.compare.specs.Walk as comparing;
+ghost use Rattle.conduct.specs.Fits.{Fits};
 ghost use Rattle.convert.specs.Convert.{bufferOf, toScsi, toAta};
 ghost use Rattle.device.specs.Machine as machine;
 ghost use Rattle.docklist.specs.Docklist as docklist;
@@ -45,9 +46,10 @@ use spelt::Turned;
 
 // ---- The device
 
+// What every record of the code has, that its numbers fit their types, is promised here, where each run begins.
 #[no_mangle]
 pub extern "C" fn recorder_make(d: &mut Image, list: &[Element], limit: u16) -> u8
-    ensures { λ r. ⌜ tells r (now (d .exit)) ≡ madeIn (now (d .entry)) (now (list .entry)) limit ⌝ }
+    ensures { λ r. ⌜ (tells r (now (d .exit)) ≡ madeIn (now (d .entry)) (now (list .entry)) limit) × Fits (deviceOf (now (d .exit))) ⌝ }
 {
     let r = (*d).make(copied(list), list.len(), limit);
     *d = r.image;
@@ -268,7 +270,7 @@ pub extern "C" fn recorder_next_difference(older: &[u8], newer: &[u8], from: Cur
 }
 
 #[no_mangle]
-pub extern "C" fn recorder_part(older: &[u8], newer: &[u8], difference: Difference) -> Span
+pub extern "C" fn recorder_span(older: &[u8], newer: &[u8], difference: Difference) -> Span
     ensures { λ r. ⌜ r ≡ spans.spanOf (now (older .entry)) (now (newer .entry)) difference ⌝ }
 {
     spelt::span_of(older, newer, difference)

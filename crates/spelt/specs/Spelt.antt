@@ -56,19 +56,19 @@ abbrev pub refused : ℕ → ℕ → Reading
 refused p n = record { place = p; header = noHeader; whole = 0; torn = false; answer = n }
 
 -- of a page every descriptor that is returned is there
-abbrev pub pageReadingOf : ℕ → pages.Values → Reading
-pageReadingOf n (pages.header h) = accepted h (h .returned) false n
-pageReadingOf n (pages.place p) = refused p n
+abbrev pub pageReadingFor : ℕ → pages.Values → Reading
+pageReadingFor n (pages.header h) = accepted h (h .returned) false n
+pageReadingFor n (pages.place p) = refused p n
 
 abbrev pub pageReading : Told pages.Values → Reading
-pageReading t = pageReadingOf (t .number) (t .state)
+pageReading t = pageReadingFor (t .number) (t .state)
 
-abbrev pub dataReadingOf : ℕ → dock.Values → Reading
-dataReadingOf n (dock.reading h whole torn) = accepted h whole torn n
-dataReadingOf n (dock.place p) = refused p n
+abbrev pub dataReadingFor : ℕ → dock.Values → Reading
+dataReadingFor n (dock.reading h whole torn) = accepted h whole torn n
+dataReadingFor n (dock.place p) = refused p n
 
 abbrev pub dataReading : Told dock.Values → Reading
-dataReading t = dataReadingOf (t .number) (t .state)
+dataReading t = dataReadingFor (t .number) (t .state)
 
 abbrev pub noDescriptor : Descriptor
 noDescriptor = record { id = noElement; restorable = false; kind = 0; health = 0; capacity = 0 }

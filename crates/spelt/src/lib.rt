@@ -1,4 +1,5 @@
-// What calls say, in numbers alone, for C: a struct in the place of each enum that an answer is. What an answer does not name is 0.
+// What calls say, in numbers alone, for C: a struct in the place of each enum that an answer is, by its name in c/recorder.h. What an answer does not
+// name is 0.
 ghost use Prim.Native.Nat.{ℕ};
 ghost use mathlib.Core.List.{List};
 ghost use mathlib.Core.Path.{_≡_};
@@ -23,14 +24,14 @@ use reach::Opening;
 use reach::Turn;
 use walk::Move;
 
-// How many bytes a call wrote into a lent buffer; its number in document 01's table.
+// `recorder_written`: how many bytes a call wrote into a lent buffer; its number in document 01's table.
 #[repr(C)]
 pub struct Count {
     pub count: usize,
     pub answer: u8,
 }
 
-// 0: the header's numbers, how many descriptors are there whole, and whether one was cut through; 9: a place.
+// `recorder_reading`, 0: the header's numbers, how many descriptors are there whole, and whether one was cut through; 9: a place.
 #[repr(C)]
 pub struct Reading {
     pub place: usize,
@@ -40,14 +41,14 @@ pub struct Reading {
     pub answer: u8,
 }
 
-// What stands at a descriptor's number.
+// `recorder_slot`: what stands at a descriptor's number.
 #[repr(C)]
 pub struct Stand {
     pub descriptor: Descriptor,
     pub there: bool,
 }
 
-// 0: whether a walk asks once more, and from which start; 9: a place.
+// `recorder_move`, 0: whether a walk asks once more, and from which start; 9: a place.
 #[repr(C)]
 pub struct Onward {
     pub place: usize,
@@ -56,7 +57,7 @@ pub struct Onward {
     pub answer: u8,
 }
 
-// 0: the last identifier that is compared, and whether a page was cut short there; 9: a page's turn.
+// `recorder_opening`, 0: the last identifier that is compared, and whether a page was cut short there; 9: a page's turn.
 #[repr(C)]
 pub struct Opened {
     pub end: ElementId,
@@ -65,7 +66,7 @@ pub struct Opened {
     pub answer: u8,
 }
 
-// A difference and where the comparison goes on, or kind 0. Its descriptors' numbers are those in the pages that have it.
+// `recorder_difference`: a difference and where the comparison goes on, or kind 0. Its descriptors' numbers are those in the pages that have it.
 #[repr(C)]
 pub struct Difference {
     pub at: Cursor,
@@ -73,7 +74,7 @@ pub struct Difference {
     pub kind: u8,
 }
 
-// A part of one of two pages.
+// `recorder_span`: a part of one of two pages.
 #[repr(C)]
 pub struct Span {
     pub place: usize,
@@ -81,7 +82,7 @@ pub struct Span {
     pub turn: u8,
 }
 
-// 0: how many bytes were written; 9: a place.
+// `recorder_converted`, 0: how many bytes were written; 9: a place.
 #[repr(C)]
 pub struct Turned {
     pub count: usize,
@@ -89,7 +90,7 @@ pub struct Turned {
     pub answer: u8,
 }
 
-// A number's sense, if it has one.
+// `recorder_sense`: a number's sense, if it has one.
 #[repr(C)]
 pub struct Sense {
     pub there: bool,
