@@ -50,7 +50,7 @@ static const struct {
     {call_next_request, 1, 1},
     {call_open, 5, 5},
     {call_differences, 5, 5},
-    {call_part, 1, 1},
+    {call_span, 1, 1},
 };
 
 enum { ACTS = sizeof mix / sizeof *mix };

@@ -1,13 +1,41 @@
-/* The recorder's library as C sees it: librecorder.a, for x86-64 Linux (System V). It needs memcpy and memset, and nothing else.
+/* The recorder's library as C11 and C++ see it: librecorder.a, for x86-64 Linux (System V). It needs memcpy and memset, and nothing else.
 
-   Every call is answered for every input. What it answers is a number of document 01, "What a call says": 0 is done, and with any other number
-   the device and every byte that was lent are as they were. A pointer is never null, also where its size is 0, and points to as many bytes or
-   records as are said; what one call writes does not overlap what else it is lent. */
+   Every call is answered for every input. What it answers, where it has an answer, is a number of document 01, "What a call says": 0 is done,
+   and with any other number the device and every byte that was lent are as they were. A pointer is never null, also where its size is 0, and
+   points to as many bytes or records as are said; what one call writes does not overlap what else it is lent. A record is aligned to 8, and
+   nothing that is lent changes during a call. The library keeps no state.
+
+   A cut is between calls: a call writes several fields, in no promised order. Firmware that keeps the record itself through a loss of power
+   saves it whole after a call, in two copies, say; the note is one cell, its four fields are saved together.
+
+   The stack: about 2.2 to 2.6 KB for a call on a device, 4.8 KB for 12h in the front call, 6.5 KB for recorder_make. */
 #ifndef RECORDER_H
 #define RECORDER_H
 
 #include <stddef.h>
 #include <stdint.h>
+
+#ifdef __cplusplus
+#define RECORDER_ASSERT static_assert
+extern "C" {
+#else
+#define RECORDER_ASSERT _Static_assert
+#endif
+
+enum {
+    RECORDER_DONE = 0,            /* done, or let through */
+    RECORDER_SECURITY_LOCKED = 1, /* a removal while the security state is locked */
+    RECORDER_IN_PROGRESS = 2,     /* a removal is under way */
+    RECORDER_FAILED = 3,          /* media access while the failed mark is set */
+    RECORDER_INVALID_FIELD = 4,   /* a field that the command or the query does not take */
+    RECORDER_BEYOND_MAX = 5,      /* beyond the accessible maximum */
+    RECORDER_UNKNOWN_COMMAND = 6, /* a code that the device does not have */
+    RECORDER_SMALL_BUFFER = 7,    /* no room for what is to be written */
+    RECORDER_TABLE_REFUSED = 8,   /* no device can be made of the list */
+    RECORDER_PAGE_REFUSED = 9,    /* with a place, or which page */
+    RECORDER_NO_REMOVAL = 10,     /* none is under way */
+    RECORDER_GRADE_REFUSED = 11   /* no such element, or a removed one, or a health above CFh */
+};
 
 /* ---- The device */
 
@@ -21,7 +49,7 @@ struct recorder_element {
     uint64_t blocks;
 };
 
-/* What of an element is no cell. */
+/* An element as built; its health is in `healths`, at the same index. */
 struct recorder_part {
     uint32_t id;
     uint8_t kind;
@@ -31,7 +59,8 @@ struct recorder_part {
 };
 
 /* The firmware keeps one, and lends it to each call. Each of its bytes is a field's, and any bytes are a device: elements past the 128th do not
-   count, and a position above 8 is the first winding-up step, 5. A number that says so already stays as it is. */
+   count, and a position above 8 is the first winding-up step, 5. A number that says so already stays as it is: a flag of 7 stays 7 while it is
+   set. */
 struct recorder_device {
     struct recorder_part parts[128]; /* the table as built, with count and limit: only recorder_make writes them */
     uint64_t native, accessible;     /* the maximum addresses */
@@ -54,7 +83,7 @@ struct recorder_request {
 };
 
 struct recorder_query {
-    uint8_t filter, report;
+    uint8_t filter, report; /* 0 or 1; above, the device says 4 and a reader 9 */
     uint32_t start;
 };
 
@@ -73,12 +102,12 @@ uint8_t recorder_command(struct recorder_device *d, uint8_t security, uint8_t co
 
 /* A work step, or a step of winding up; 10 where no removal is under way. After power came back: a cut, and steps until 10. */
 uint8_t recorder_step(struct recorder_device *d);
-uint8_t recorder_media_error(struct recorder_device *d);
-uint8_t recorder_power_cut(struct recorder_device *d);
+uint8_t recorder_media_error(struct recorder_device *d); /* without a removal 10 */
+uint8_t recorder_power_cut(struct recorder_device *d);   /* without a removal 0 */
 uint8_t recorder_comreset(struct recorder_device *d);
 uint8_t recorder_hardware_reset(struct recorder_device *d);
 uint8_t recorder_software_reset(struct recorder_device *d);
-uint8_t recorder_grade(struct recorder_device *d, uint32_t id, uint8_t health);
+uint8_t recorder_grade(struct recorder_device *d, uint32_t id, uint8_t health); /* 0 or 11 */
 
 /* A status page by itself, and the data for a SCSI host, cut at an allocation length. */
 uint8_t recorder_show(const struct recorder_device *d, uint8_t security, struct recorder_request request, uint8_t *buf, size_t size);
@@ -114,7 +143,7 @@ struct recorder_reading {
     uint8_t answer;
 };
 
-/* The descriptor at a number, from 0, if it is there. */
+/* The descriptor at a number, from 0, if the header counts it: of a page that recorder_read accepted, or of SCSI data, if it is there whole. */
 struct recorder_slot {
     struct recorder_descriptor descriptor;
     uint8_t there;
@@ -125,11 +154,12 @@ struct recorder_slot recorder_descriptor(const uint8_t *page, size_t size, uint3
 struct recorder_reading recorder_scsi_read(const uint8_t *data, size_t size, struct recorder_query query);
 struct recorder_slot recorder_scsi_descriptor(const uint8_t *data, size_t size, uint32_t k);
 
-/* A listing's whole text, or 7; a refused page's is the line that says so. */
+/* A listing's whole text, or 7; a refused page's is the line that says so. It is judged as the answer to filter 0, report type 0 and start 0;
+   more than 65,536 bytes are refused at 65536. A room of 80,000 bytes is always enough. */
 struct recorder_written recorder_list(const uint8_t *page, size_t size, uint8_t *out, size_t room);
 struct recorder_written recorder_scsi_list(const uint8_t *data, size_t size, uint8_t *out, size_t room);
 
-/* One kind turned into the other: 0 and how many bytes, 7, or 9 and the place of the first offence. */
+/* One kind turned into the other: 0 and how many bytes, 7, or 9 and the place of the first offence. `pages` is how many pages are filled. */
 struct recorder_converted {
     size_t count, place;
     uint8_t answer;
@@ -139,7 +169,8 @@ struct recorder_converted recorder_to_scsi(const uint8_t *page, size_t size, str
 struct recorder_converted recorder_to_ata(const uint8_t *data, size_t size, struct recorder_query query, uint16_t pages, uint8_t *out,
                                           size_t room);
 
-/* A walk over small pages. 0: whether it asks once more, and where that request starts; 9: the place of the first offence. */
+/* A walk over small pages. 0: whether it asks once more, and where that request starts; 9: the place of the first offence. `pages` is the next
+   request's COUNT. */
 struct recorder_move {
     size_t place;
     uint32_t start;
@@ -152,13 +183,13 @@ struct recorder_request recorder_next_request(struct recorder_request request, u
 
 /* ---- Two pages compared */
 
-enum { RECORDER_OLDER = 1, RECORDER_NEWER = 2 };
+enum { RECORDER_OLDER = 1, RECORDER_NEWER = 2 }; /* a turn: which page */
 
 /* 0: the last identifier that is compared, and whether a page was cut short there; 9: the page's turn. */
 struct recorder_opening {
     uint32_t end;
     uint8_t cut;
-    uint8_t turn;
+    uint8_t turn; /* which page */
     uint8_t answer;
 };
 
@@ -178,22 +209,24 @@ struct recorder_difference {
 /* A part of one of the pages; no bytes where there is none. */
 struct recorder_span {
     size_t place, length;
-    uint8_t turn;
+    uint8_t turn; /* which page */
 };
 
 struct recorder_opening recorder_open(const uint8_t *older, size_t older_size, const uint8_t *newer, size_t newer_size,
                                       struct recorder_request request);
+
+/* These two are for pages that recorder_open accepted; others are answered too, in time that goes by what their headers say. */
 struct recorder_difference recorder_next_difference(const uint8_t *older, size_t older_size, const uint8_t *newer, size_t newer_size,
                                                     struct recorder_cursor from);
 
 /* The 32 bytes of the descriptor that a difference speaks of, the newer if it is in both. */
-struct recorder_span recorder_part(const uint8_t *older, size_t older_size, const uint8_t *newer, size_t newer_size,
+struct recorder_span recorder_span(const uint8_t *older, size_t older_size, const uint8_t *newer, size_t newer_size,
                                    struct recorder_difference difference);
 
 /* ---- As the library lays them out (crates/recorder/proofs/Layouts has the same numbers) */
 
-#define RECORDER_AT(type, field, place) _Static_assert(offsetof(struct type, field) == place, #type "." #field)
-#define RECORDER_SIZE(type, size) _Static_assert(sizeof(struct type) == size, #type)
+#define RECORDER_AT(type, field, place) RECORDER_ASSERT(offsetof(struct type, field) == place, #type "." #field)
+#define RECORDER_SIZE(type, size) RECORDER_ASSERT(sizeof(struct type) == size, #type)
 
 RECORDER_SIZE(recorder_element, 16);
 RECORDER_AT(recorder_element, id, 0);
@@ -223,5 +256,9 @@ RECORDER_AT(recorder_device, note_full, 2090);
 RECORDER_AT(recorder_device, failed, 2091);
 RECORDER_AT(recorder_device, position, 2092);
 RECORDER_AT(recorder_device, healths, 2096);
+
+#ifdef __cplusplus
+}
+#endif
 
 #endif

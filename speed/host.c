@@ -241,7 +241,7 @@ static struct recorder_span span_of(const uint8_t *bytes, size_t size, uint32_t 
     return (struct recorder_span){place, 32, turn};
 }
 
-struct recorder_span plain_part(const uint8_t *older, size_t older_size, const uint8_t *newer, size_t newer_size,
+struct recorder_span plain_span(const uint8_t *older, size_t older_size, const uint8_t *newer, size_t newer_size,
                                 struct recorder_difference difference)
 {
     switch (difference.kind) {

@@ -24,4 +24,4 @@
 #define plain_next_request recorder_next_request
 #define plain_open recorder_open
 #define plain_next_difference recorder_next_difference
-#define plain_part recorder_part
+#define plain_span recorder_span

@@ -43,7 +43,7 @@ struct recorder_opening plain_open(const uint8_t *older, size_t older_size, cons
                                    struct recorder_request request);
 struct recorder_difference plain_next_difference(const uint8_t *older, size_t older_size, const uint8_t *newer, size_t newer_size,
                                                  struct recorder_cursor from);
-struct recorder_span plain_part(const uint8_t *older, size_t older_size, const uint8_t *newer, size_t newer_size,
+struct recorder_span plain_span(const uint8_t *older, size_t older_size, const uint8_t *newer, size_t newer_size,
                                 struct recorder_difference difference);
 
 #endif

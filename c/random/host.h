@@ -295,16 +295,16 @@ static void call_open(void)
     compare_pages();
 }
 
-static void find_part(struct recorder_difference d)
+static void find_span(struct recorder_difference d)
 {
-    ask((struct asked){"part", "older newer at.older at.newer next.older next.newer kind",
+    ask((struct asked){"span", "older newer at.older at.newer next.older next.newer kind",
                        {kept[0].size, kept[1].size, d.at.older, d.at.newer, d.next.older, d.next.newer, d.kind}});
-    struct recorder_span our = recorder_part(our_page(0), kept[0].size, our_page(1), kept[1].size, d);
-    struct recorder_span their = plain_part(their_page(0), kept[0].size, their_page(1), kept[1].size, d);
+    struct recorder_span our = recorder_span(our_page(0), kept[0].size, our_page(1), kept[1].size, d);
+    struct recorder_span their = plain_span(their_page(0), kept[0].size, their_page(1), kept[1].size, d);
     same("place", our.place, their.place);
     same("length", our.length, their.length);
     same("turn", our.turn, their.turn);
-    settle_found(PART, our.length > 0);
+    settle_found(SPAN, our.length > 0);
     compare_pages();
 }
 
@@ -326,7 +326,7 @@ static struct recorder_difference find_difference(struct recorder_cursor from)
 // A page whose header says that it has millions of descriptors is walked to its end, which takes its time: such pages are left out here.
 static int is_short(int which) { return kept[which].size >= 8 && load(our_page(which) + 4, 4, LITTLE) < 4096; }
 
-// The first few differences, each with its part; from the start, or from anywhere.
+// The first few differences, each with its span; from the start, or from anywhere.
 static void call_differences(void)
 {
     struct recorder_difference found = {.kind = RECORDER_CHANGED};
@@ -339,12 +339,12 @@ static void call_differences(void)
     for (int left = 1 + below(4); left > 0 && found.kind != RECORDER_NO_MORE; left--) {
         found = find_difference(found.next);
         if (one_in(2))
-            find_part(found);
+            find_span(found);
     }
 }
 
 // A difference that no comparison has found.
-static void call_part(void)
+static void call_span(void)
 {
     struct recorder_difference d;
     d.at.older = draw_number(0);
@@ -352,7 +352,7 @@ static void call_part(void)
     d.next.older = draw_number(0);
     d.next.newer = draw_number(1);
     d.kind = one_in(4) ? below(256) : below(4);
-    find_part(d);
+    find_span(d);
 }
 
 #endif

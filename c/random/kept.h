@@ -142,7 +142,7 @@ static void make_up(void)
     }
     put_lists(counts, one_in(2) ? most : 1 + below(most), order);
     for (int which = 0; which < 2; which++) {
-        uint32_t more = order == LITTLE && counts[which] == most ? below(2) * below(300) : 0;
+        uint32_t more = order == LITTLE && counts[which] == most && one_in(2) ? below(300) : 0;
         put_heading(kept_bytes(which), counts[which] + more, counts[which] + (order == BIG ? more : 0), order);
         copy_kept(which);
         if (order == BIG)

@@ -8,14 +8,14 @@
 enum kind {
     MAKE, REMOVE, STATUS, OTHER, STEP, MEDIA_ERROR, POWER_CUT, COMRESET, HARDWARE_RESET, SOFTWARE_RESET, GRADE, SHOW, SEND,
     READ, SCSI_READ, LIST, SCSI_LIST, TO_SCSI, TO_ATA, NEXT, OPEN,
-    SENSE, DESCRIPTOR, SCSI_DESCRIPTOR, NEXT_REQUEST, NEXT_DIFFERENCE, PART,
+    SENSE, DESCRIPTOR, SCSI_DESCRIPTOR, NEXT_REQUEST, NEXT_DIFFERENCE, SPAN,
     KINDS
 };
 
 static const char *const kind_names[KINDS] = {
     "make", "command 7Ch", "command 12h", "command", "step", "media_error", "power_cut", "comreset", "hardware_reset", "software_reset",
     "grade", "show", "send", "read", "scsi_read", "list", "scsi_list", "to_scsi", "to_ata", "next", "open",
-    "sense", "descriptor", "scsi_descriptor", "next_request", "next_difference", "part",
+    "sense", "descriptor", "scsi_descriptor", "next_request", "next_difference", "span",
 };
 
 enum { ANSWERS = 12, POSITIONS = 10 }; // Positions 0 to 8, and all above.

@@ -65,13 +65,15 @@ static void same(const char *field, uint64_t our, uint64_t their)
     end_case();
 }
 
+#define FIELD(name) {#name, offsetof(struct recorder_device, name)}
+
 static const char *field_at(size_t place)
 {
     static const struct {
         const char *name;
         size_t place;
-    } fields[] = {{"healths", 2096},     {"position", 2092}, {"failed", 2091},   {"note_full", 2090}, {"limit", 2088},      {"count", 2084},
-                  {"note_element", 2080}, {"note_new", 2072}, {"note_old", 2064}, {"accessible", 2056}, {"native", 2048}, {"parts", 0}};
+    } fields[] = {FIELD(healths), FIELD(position), FIELD(failed), FIELD(note_full), FIELD(limit), FIELD(count),
+                  FIELD(note_element), FIELD(note_new), FIELD(note_old), FIELD(accessible), FIELD(native), FIELD(parts)};
     size_t i = 0;
     while (fields[i].place > place)
         i++;
