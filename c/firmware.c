@@ -1,12 +1,18 @@
 // An example of a firmware's main loop over the library. What stands for the hardware is the list of turns; the rest is there to be copied.
 #include "recorder.h"
 #include <stdio.h>
+#include <stdlib.h>
+#include <string.h>
 
 // ---- What the firmware keeps
 
-static struct recorder_device device; // It survives a loss of power, but for its position.
-static int is_made;                   // And so does this.
+static struct recorder_device device; // Lost with power.
 static uint8_t page[512];             // For answers.
+
+static struct {
+    uint64_t number; // The higher one counts; 0: nothing was saved yet.
+    struct recorder_device device;
+} copies[2]; // Stands for memory that lasts without power.
 
 static const struct recorder_element elements[] = {
     {.id = 0x00000001, .kind = 1, .health = 0x20, .blocks = 1000},
@@ -29,6 +35,7 @@ struct turn {
 };
 
 static const struct turn turns[] = {
+    {COMMAND, 0x12, 0, 2, 0},      // No room: 7 has no sense, and is the firmware's own to settle.
     {COMMAND, 0x12, 0x4100, 1, 0}, // Which storage elements are slow? 0001_0003h.
     {COMMAND, 0x7C, 1, 3, 0},      // It is removed,
     {COMMAND, 0x25, 0, 1, 5},      // and nothing is read meanwhile.
@@ -70,24 +77,56 @@ static void send_page(void)
     printf("\n");
 }
 
-// At the first start there is no device yet. What was under way when power failed is wound up before any command.
+static int last_copy(void) { return copies[1].number > copies[0].number; }
+
+// Over the older copy, with its number last, in one store: if power fails before that, the other one counts, and the call was never made.
+static void save(void)
+{
+    int last = last_copy();
+    if (memcmp(&copies[last].device, &device, sizeof device) == 0)
+        return; // Most calls change nothing.
+    copies[!last].device = device;
+    copies[!last].number = copies[last].number + 1;
+}
+
+// What a call said, which goes out when its changes are saved.
+static uint8_t saved(uint8_t number)
+{
+    if (number == RECORDER_DONE)
+        save();
+    return number;
+}
+
+// Once only: making it again forgets every removal. Without a device nothing may be answered.
+static void make(void)
+{
+    if (saved(recorder_make(&device, elements, ELEMENTS, LIMIT)) == RECORDER_DONE)
+        return;
+    printf("the table is refused\n");
+    exit(1);
+}
+
+// What was under way when power failed is wound up before any command. The position need not last.
 static void power_up(void)
 {
     int steps = 0;
-    if (!is_made)
-        is_made = recorder_make(&device, elements, ELEMENTS, LIMIT) == 0;
-    recorder_power_cut(&device);
-    while (recorder_step(&device) != 10)
+    if (copies[last_copy()].number == 0)
+        make();
+    device = copies[last_copy()].device;
+    device.position = 0xA5A5A5A5;
+    saved(recorder_power_cut(&device));
+    while (saved(recorder_step(&device)) == RECORDER_DONE)
         steps++;
     printf("power up: %d steps, maximum %lu, failed %u\n", steps, (unsigned long)device.accessible, device.failed);
 }
 
+// The security state is that of the drive's Security feature set, which is the firmware's own.
 static void obey(const struct turn *t)
 {
-    uint8_t number = recorder_command(&device, RECORDER_UNLOCKED, t->code, t->feature, t->count, t->lba, page, sizeof page);
+    uint8_t number = saved(recorder_command(&device, RECORDER_UNLOCKED, t->code, t->feature, t->count, t->lba, page, sizeof page));
     printf("command %02X: ", t->code);
     show(number);
-    if (t->code == 0x12 && number == 0)
+    if (t->code == 0x12 && number == RECORDER_DONE)
         send_page();
 }
 
@@ -101,10 +140,10 @@ static void meet(const struct turn *t)
         break;
     case MEDIA_ERROR:
         printf("media error: ");
-        show(recorder_media_error(&device));
+        show(saved(recorder_media_error(&device)));
         break;
     case POWER_LOSS:
-        device.position = 0xA5A5A5A5; // Whatever is there then.
+        memset(&device, 0xA5, sizeof device); // Whatever is there then.
         power_up();
     }
 }
@@ -115,7 +154,7 @@ int main(void)
     power_up();
     for (int i = 0; i < TURNS; i++) {
         meet(&turns[i]);
-        if (recorder_step(&device) == 0)
+        if (saved(recorder_step(&device)) == RECORDER_DONE)
             printf("step\n");
     }
     return 0;
