@@ -4,6 +4,7 @@
 #include "script.h"
 #include "text.h"
 #include <stdio.h>
+#include <stdlib.h>
 
 static struct recorder_element offered[129];
 static size_t offered_count;
@@ -21,8 +22,10 @@ static char *to = text;
 
 static void flush(void)
 {
-    if (write_whole(1, text, to - text) < 0)
+    if (write_whole(1, text, to - text) < 0) {
         perror("bench: standard output");
+        exit(2);
+    }
     to = text;
 }
 

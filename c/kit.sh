@@ -36,5 +36,9 @@ link() {
         "$tools/lib/crtbeginS.o" "$@" "$tools/lib/libc.so.6" "$tools/lib/libc_nonshared.a" "$tools/lib/crtendS.o" "$tools/lib/crtn.o"
 }
 
-# load WORDS..: a program under the kit's loader, and on Arm under its emulator, in the place of this process.
-load() { exec ${emulator:+"$emulator"} "$tools/lib/ld-linux-x86-64.so.2" --library-path "$tools/lib" "$@"; }
+# load WORDS..: a program under the kit's loader, and on Arm under its emulator, in the place of this process; nothing is preloaded, as that
+# would be for another libc.
+load() {
+    export LD_PRELOAD='' LD_AUDIT=''
+    exec ${emulator:+"$emulator"} "$tools/lib/ld-linux-x86-64.so.2" --library-path "$tools/lib" "$@"
+}

@@ -1,4 +1,6 @@
 // A line of the bench language in plain C: its words, and the numbers among them (docs/BENCH.md).
+#ifndef SCRIPT_H
+#define SCRIPT_H
 #include <stdint.h>
 #include <string.h>
 
@@ -67,3 +69,5 @@ static inline int get_numbers(const struct word *words, const uint64_t *most, si
             return 0;
     return 1;
 }
+
+#endif
