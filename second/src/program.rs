@@ -71,8 +71,8 @@ impl Program {
         Ok(output)
     }
 
-    fn trouble(&self, what: &str) -> io::Error {
-        let words = format!("{} {} {}", self.path, self.words.join(" "), what);
+    pub fn trouble(&self, what: &str) -> io::Error {
+        let words = format!("{} {}: {}", self.path, self.words.join(" "), what);
         io::Error::new(io::ErrorKind::Other, words)
     }
 }
