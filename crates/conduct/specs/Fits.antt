@@ -1,5 +1,6 @@
 -- The numbers of a device that a page shows fit their fields, and its arrays have 128 places. The lent making promises it of the device that
--- it leaves, whose types bound them (calls/src/lib.rt, `make_device`; recorder/src/lib.rt, `recorder_make`), and every event keeps it (Promises, `Keeps-fit`).
+-- it leaves, whose types bound them (calls/src/lib.rt, `make_device`; recorder/src/lib.rt, `recorder_make`), and every event keeps it (Promises,
+-- `Keeps-fit`).
 use Prim.Native.Nat.{ℕ, _^_, _<_}
 use mathlib.Core.Path.{_≡_}
 use lib.ListN.{length}

@@ -1,4 +1,4 @@
--- What is put down of a device in an image. The table as built stays; a number that says so already stays as it is.
+-- What is put down of a device in an image. The table as built stays; "A number that says so already stays as it is" (c/recorder.h).
 use Prim.Native.Nat.{ℕ, min}
 use mathlib.Core.Bool.{Bool, cond}
 use lib.Dec.{eqb}
@@ -18,6 +18,7 @@ use Rattle.image.specs.declared.Image.{Image}
 abbrev pub flagFor : ℕ → Bool → ℕ
 flagFor flag on = cond on (cond (eqb flag 0) 1 flag) 0
 
+-- and a number above 8 where the next step is the first of winding up
 abbrev pub placeFor : ℕ → Position → ℕ
 placeFor n p = cond (eqb (placeOf (positionOf n)) (placeOf p)) n (placeOf p)
 

@@ -1,4 +1,4 @@
--- What the numbers of an image say. Any bytes are a device: each number has a reading, whatever it is.
+-- What the numbers of an image say. "any bytes are a device" (c/recorder.h): each number has a reading, whatever it is.
 use Prim.Native.Nat.{ℕ}
 use mathlib.Core.Bool.{cond}
 use lib.Dec.{eqb}
@@ -15,7 +15,7 @@ use Rattle.paper.specs.declared.Security.the-variants.{Locked, Unlocked, Frozen
 use Rattle.paper.specs.declared.Security.{Security}
 use Rattle.image.specs.declared.Image.{Image}
 
--- 0 locked, 1 unlocked, 2 frozen; "an unknown security state: locked"
+-- 0 locked, 1 unlocked, 2 frozen; "any other security state is locked"
 abbrev pub securityOf : ℕ → Security
 securityOf n = cond (eqb n 1) Unlocked (cond (eqb n 2) Frozen Locked)
 
@@ -26,7 +26,7 @@ markOf flag = cond (isOn flag) Set Clear
 abbrev pub noteOf : ℕ → Removal → Note
 noteOf flag w = cond (isOn flag) (Full w) Empty
 
--- work steps 0 to 4, winding up 5 to 8; "a position out of range" is where a power cut would lead, the first winding-up step
+-- work steps 0 to 4, winding up 5 to 8; "a position above 8 is the first winding-up step", where a power cut would lead
 abbrev pub positionOf : ℕ → Position
 positionOf n =
     cond (eqb n 0) Work1 (cond (eqb n 1) Work2 (cond (eqb n 2) Work3 (cond (eqb n 3) Work4 (cond (eqb n 4) Work5
