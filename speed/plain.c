@@ -17,12 +17,9 @@ static size_t count_of(const struct recorder_device *d)
 static const struct recorder_part *find(const struct recorder_device *d, uint32_t id)
 {
     const struct recorder_part *end = d->parts + count_of(d);
-    for (const struct recorder_part *part = d->parts; part < end; part++) {
-        if (part->id == id)
-            return part;
-        if (part->id > id)
-            return NULL;
-    }
+    for (const struct recorder_part *part = d->parts; part < end; part++)
+        if (part->id >= id)
+            return part->id == id ? part : NULL;
     return NULL;
 }
 
