@@ -1,6 +1,7 @@
 #ifndef STDINT_H
 #define STDINT_H
 
+typedef __INT64_TYPE__ int64_t;
 typedef __UINT8_TYPE__ uint8_t;
 typedef __UINT16_TYPE__ uint16_t;
 typedef __UINT32_TYPE__ uint32_t;

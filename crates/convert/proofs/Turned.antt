@@ -14,6 +14,8 @@ use Rattle.offences.proofs.Laid.{length-laid}
 use Rattle.offences.specs.Checks.{baseOf, descriptorAt}
 use Rattle.slices.proofs.Lists.{length-upTo, upTo-at, length-stored, stored-none, stored-more, stored-each, part-stored}
 use Rattle.slices.specs.Lists.{upTo, flat, stored}
+use Rattle.strokes.specs.Rows.{rowBytes}
+use Rattle.strokes.specs.declared.Row.{Row}
 use Rattle.words.specs.declared.Order.{Order}
 use Rattle.convert.specs.Convert.{listIn}
 use Rattle.convert.specs.Private.{other, Turned}
@@ -43,10 +45,11 @@ module _ (from to : Order) (s : List ℕ) (count : ℕ) (d : List ℕ) where
 
   module _ (x : List ℕ) (at : ℕ) (before : Put-before from to s count d x at) (room : baseOf count ≤ length d) where
     -- m is 32: a descriptor read in a part of the source, and stored in one of the target
-    pub put-on : at < baseOf count → (m : ℕ) → m ≡ 32 → (b : List ℕ) → Turned from to (take m (drop at s)) b
-        → (z : List ℕ) → z ≡ stored (take m (drop at x)) 0 b → Put-before from to s count d (take at x ++ (z ++ drop m (drop at x))) (at + 32)
-    put-on less m is-m b turned z is-z =
+    pub put-on : at < baseOf count → (m : ℕ) → m ≡ 32 → (r : Row) → Turned from to (take m (drop at s)) r
+        → (z : List ℕ) → z ≡ stored (take m (drop at x)) 0 (rowBytes r) → Put-before from to s count d (take at x ++ (z ++ drop m (drop at x))) (at + 32)
+    put-on less m is-m r turned z is-z =
         let k = before .k in
+        let b : List ℕ = rowBytes r in
         let y : List ℕ = take at x ++ (z ++ drop m (drop at x)) in
         let whole : turned .descriptor ≡ descriptorIn from (drop at s) = turned .read ∙ rw is-m (part-read from (drop at s)) in
         let wide-b : length b ≡ 32 = ap length (turned .written) ∙ wide to (turned .descriptor) in
@@ -71,14 +74,14 @@ module _ (from to : Order) (s : List ℕ) (count : ℕ) (d : List ℕ) where
         before .so ∙ (λ i. stored d 32 (flat (descriptorBytes (is-to i)) (all i)))
 
 -- the header, and the list behind it
-pub both-put : (from to t : Order) (s : List ℕ) (count : ℕ) (d₀ d x : List ℕ) (h : Header) (b : List ℕ) → h ≡ headerIn from s → t ≡ to → b ≡ headerBytes t h
-    → d ≡ stored d₀ 0 b → baseOf count ≤ length d₀ → x ≡ stored d 32 (flat (descriptorBytes to) (listIn from s count)) → x ≡ stored d₀ 0 (laid to (headerIn from s) (listIn from s count))
-both-put from to t s count d₀ d x h b is-h is-t is-b is-d room is-x =
+pub both-put : (from to t : Order) (s : List ℕ) (count : ℕ) (d₀ d x : List ℕ) (h : Header) (r : Row) → h ≡ headerIn from s → t ≡ to → rowBytes r ≡ headerBytes t h
+    → d ≡ stored d₀ 0 (rowBytes r) → baseOf count ≤ length d₀ → x ≡ stored d 32 (flat (descriptorBytes to) (listIn from s count)) → x ≡ stored d₀ 0 (laid to (headerIn from s) (listIn from s count))
+both-put from to t s count d₀ d x h r is-h is-t is-r is-d room is-x =
     let H : List ℕ = headerBytes to (headerIn from s) in
     let F : List ℕ = flat (descriptorBytes to) (listIn from s count) in
     let place : 32 ≡ 0 + length H = omega (arith, header-wide to (headerIn from s)) in
     let fits : 0 + length (H ++ F) ≤ length d₀ = omega (arith, length-laid to (headerIn from s) (listIn from s count), length-list from s count) in
     is-x
     ∙ (λ i. stored (is-d i) (place i) F)
-    ∙ (λ i. stored (stored d₀ 0 ((is-b ∙ (λ j. headerBytes (is-t j) (is-h j))) i)) (0 + length H) F)
+    ∙ (λ i. stored (stored d₀ 0 ((is-r ∙ (λ j. headerBytes (is-t j) (is-h j))) i)) (0 + length H) F)
     ∙ stored-more d₀ 0 H F fits

@@ -4,6 +4,8 @@ use mathlib.Core.List.{List}
 use mathlib.Core.Path.{_≡_}
 use Rattle.layout.specs.Bytes.{descriptorBytes, descriptorIn}
 use Rattle.layout.specs.declared.Descriptor.{Descriptor}
+use Rattle.strokes.specs.Rows.{rowBytes}
+use Rattle.strokes.specs.declared.Row.{Row}
 use Rattle.words.specs.declared.Order.the-variants.{Little, Big}
 use Rattle.words.specs.declared.Order.{Order}
 
@@ -12,7 +14,7 @@ other Little = Big
 other Big = Little
 
 -- the descriptor that some bytes start with, in another order
-pub record Turned (from to : Order) (s b : List ℕ) : Type 0 where
+pub record Turned (from to : Order) (s : List ℕ) (r : Row) : Type 0 where
   pub descriptor : Descriptor
   pub read : descriptor ≡ descriptorIn from s
-  pub written : b ≡ descriptorBytes to descriptor
+  pub written : rowBytes r ≡ descriptorBytes to descriptor

@@ -15,6 +15,7 @@ pub use from_page::to_scsi;
 use layout::Descriptor;
 use layout::Header;
 use offences::Offence;
+use strokes::Row;
 use words::Order;
 
 // How many bytes were written; that the buffer is too short; or the place of the first offence.
@@ -45,11 +46,11 @@ fn other(o: Order) -> Order
 }
 
 // The descriptor of a part in another order; its reserved bytes are zeros, whatever stood there.
-fn turned_part(part: &[u8], from: Order, to: Order) -> [u8; 32]
+fn turned_part(part: &[u8], from: Order, to: Order) -> Row
     ensures { λ r. ⌜ private.Turned from to (now (part .entry)) r ⌝ }
 {
     let d = Descriptor::read(part, from);
-    d.bytes(to)
+    d.row(to)
 }
 
 // Stores the first `count` descriptors in the other order behind the header. All their bytes are there.
@@ -61,8 +62,8 @@ fn put_list(bytes: &[u8], count: u32, from: Order, buf: &mut [u8])
     let end = 32 + 32 * (count as usize);
     let mut at: usize = 32;
     while at < end {
-        let descriptor = turned_part(&bytes[at..at + 32], from, to);
-        slices::put(&mut buf[at..at + 32], 0, &descriptor);
+        let row = turned_part(&bytes[at..at + 32], from, to);
+        row.put(&mut buf[at..at + 32], 0);
         at += 32;
     }
 }
@@ -73,7 +74,7 @@ fn put_turned(bytes: &[u8], count: u32, from: Order, buf: &mut [u8])
     ensures { λ _. ⌜ now (buf .exit) ≡ stored (now (buf .entry)) 0 (laid (private.other from) (headerIn from (now (bytes .entry))) (listIn from (now (bytes .entry)) count)) ⌝ }
 {
     let h = Header::read(bytes, from);
-    let header = h.bytes(other(from));
-    slices::put(buf, 0, &header);
+    let row = h.row(other(from));
+    row.put(buf, 0);
     put_list(bytes, count, from, buf);
 }

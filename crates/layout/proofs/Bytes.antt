@@ -1,5 +1,5 @@
 -- The header's and the descriptor's 32 bytes: as the code lays them, and read back. Both orders compute, so each law goes by the order.
-use Prim.Native.Nat.{ℕ, _+_, _-_, _%_, _≤_}
+use Prim.Native.Nat.{ℕ, _+_, _-_, _%_, _≤_, _<_}
 use mathlib.Core.Bool.{Bool, true, false}
 use mathlib.Core.List.{List, [], _∷_, _++_}
 use mathlib.Core.Path.{_≡_, refl, sym, ap, _∙_}
@@ -8,9 +8,10 @@ use lib.Dec.{eqb}
 use lib.ListN.{length, getD, take, drop, replicate, length-drop}
 use borrow.Author.Tests.{leb-true}
 use Rattle.slices.proofs.Lists.{part-end}
-use Rattle.slices.specs.Lists.{fits, stored, one}
-use Rattle.words.proofs.Bytes.{number-bytesOf, placed, number-placed}
-use Rattle.words.specs.Bytes.{bytesOf, number, numberAt}
+use Rattle.slices.specs.Lists.{fits, one}
+use Rattle.strokes.specs.Rows.{rowBytes}
+use Rattle.words.proofs.Bytes.{lowBytes-value, number-bytesOf, bytes-turned, placed, number-placed}
+use Rattle.words.specs.Bytes.{lowBytes, bytesOf, number, numberAt}
 use Rattle.words.specs.declared.Order.the-variants.{Little, Big}
 use Rattle.words.specs.declared.Order.{Order}
 use Rattle.layout.specs.Bytes.{headerBytes, headerIn, descriptorBytes, descriptorIn}
@@ -26,24 +27,48 @@ pub wide : (o : Order) (d : Descriptor) → length (descriptorBytes o d) ≡ 32
 wide Little d = refl
 wide Big d = refl
 
--- each field stored at its place, over zeros
-pub header-laid : (o : Order) (h : Header) (n r b l m : List ℕ) (a₁ a₂ a₃ a₄ a₅ : List ℕ)
-    → n ≡ bytesOf o 4 (h .number) → a₁ ≡ stored (replicate 32 0) 0 n
-    → r ≡ bytesOf o 4 (h .returned) → a₂ ≡ stored a₁ 4 r
-    → b ≡ bytesOf o 4 (h .busy .0) → a₃ ≡ stored a₂ 8 b
-    → l ≡ bytesOf o 2 (h .limit) → a₄ ≡ stored a₃ 12 l
-    → m ≡ bytesOf o 2 (h .removed) → a₅ ≡ stored a₄ 14 m
-    → a₅ ≡ headerBytes o h
-header-laid Little h n r b l m a₁ a₂ a₃ a₄ a₅ is-n e₁ is-r e₂ is-b e₃ is-l e₄ is-m e₅ = rw (e₅, e₄, e₃, e₂, e₁, is-n, is-r, is-b, is-l, is-m)
-header-laid Big h n r b l m a₁ a₂ a₃ a₄ a₅ is-n e₁ is-r e₂ is-b e₃ is-l e₄ is-m e₅ = rw (e₅, e₄, e₃, e₂, e₁, is-n, is-r, is-b, is-l, is-m)
+-- ## Laid as a row: each number turned, and joined to its neighbour
 
-pub descriptor-laid : (o : Order) (d : Descriptor) (i c : List ℕ) (f : ℕ) (a₁ a₂ a₃ : List ℕ)
-    → i ≡ bytesOf o 4 (d .id .0) → a₁ ≡ stored (replicate 32 0) 4 i
-    → f ≡ one (d .restorable) → a₂ ≡ stored a₁ 13 (f ∷ d .kind ∷ d .health ∷ [])
-    → c ≡ bytesOf o 8 (d .capacity) → a₃ ≡ stored a₂ 16 c
-    → a₃ ≡ descriptorBytes o d
-descriptor-laid Little d i c f a₁ a₂ a₃ is-i e₁ is-f e₂ is-c e₃ = rw (e₃, e₂, e₁, is-i, is-f, is-c)
-descriptor-laid Big d i c f a₁ a₂ a₃ is-i e₁ is-f e₂ is-c e₃ = rw (e₃, e₂, e₁, is-i, is-f, is-c)
+header-joined : (o : Order) (h : Header)
+    → ((bytesOf o 4 (h .number) ++ bytesOf o 4 (h .returned)) ++ (bytesOf o 4 (h .busy .0) ++ (bytesOf o 2 (h .limit) ++ bytesOf o 2 (h .removed)))) ++ replicate 8 0 ++ replicate 8 0
+    ≡ headerBytes o h
+header-joined Little h = refl
+header-joined Big h = refl
+
+pub header-row : (o : Order) (h : Header) (n t b l m e f g : ℕ)
+    → n ≡ number o (lowBytes 4 (h .number)) → t ≡ number o (lowBytes 4 (h .returned)) → b ≡ number o (lowBytes 4 (h .busy .0))
+    → l ≡ number o (lowBytes 2 (h .limit)) → m ≡ number o (lowBytes 2 (h .removed))
+    → lowBytes 8 f ≡ lowBytes 4 n ++ lowBytes 4 t → lowBytes 4 e ≡ lowBytes 2 l ++ lowBytes 2 m → lowBytes 8 g ≡ lowBytes 4 b ++ lowBytes 4 e
+    → rowBytes (record { first = f; second = g; third = 0; fourth = 0 }) ≡ headerBytes o h
+unfolding rowBytes
+header-row o h n t b l m e f g is-n is-t is-b is-l is-m is-f is-e is-g =
+    let ends : lowBytes 4 e ≡ bytesOf o 2 (h .limit) ++ bytesOf o 2 (h .removed) =
+    is-e ∙ (λ i. bytes-turned o 2 (h .limit) l is-l i ++ bytes-turned o 2 (h .removed) m is-m i) in
+    let first : lowBytes 8 f ≡ bytesOf o 4 (h .number) ++ bytesOf o 4 (h .returned) =
+    is-f ∙ (λ i. bytes-turned o 4 (h .number) n is-n i ++ bytes-turned o 4 (h .returned) t is-t i) in
+    let second : lowBytes 8 g ≡ bytesOf o 4 (h .busy .0) ++ (bytesOf o 2 (h .limit) ++ bytesOf o 2 (h .removed)) =
+    is-g ∙ (λ i. bytes-turned o 4 (h .busy .0) b is-b i ++ ends i) in
+    (λ i. (first i ++ second i) ++ replicate 8 0 ++ replicate 8 0) ∙ header-joined o h
+
+descriptor-joined : (o : Order) (d : Descriptor)
+    → ((replicate 4 0 ++ bytesOf o 4 (d .id .0)) ++ (replicate 4 0 ++ (0 ∷ one (d .restorable) ∷ d .kind ∷ d .health ∷ []))) ++ bytesOf o 8 (d .capacity) ++ replicate 8 0
+    ≡ descriptorBytes o d
+descriptor-joined Little d = refl
+descriptor-joined Big d = refl
+
+pub descriptor-row : (o : Order) (d : Descriptor) (j q m f g c : ℕ)
+    → j ≡ number o (lowBytes 4 (d .id .0)) → q ≡ one (d .restorable) → m ≡ number Little (0 ∷ q ∷ d .kind ∷ d .health ∷ [])
+    → q < 256 → d .kind < 256 → d .health < 256
+    → lowBytes 8 f ≡ lowBytes 4 0 ++ lowBytes 4 j → lowBytes 8 g ≡ lowBytes 4 0 ++ lowBytes 4 m → c ≡ number o (lowBytes 8 (d .capacity))
+    → rowBytes (record { first = f; second = g; third = c; fourth = 0 }) ≡ descriptorBytes o d
+unfolding rowBytes
+descriptor-row o d j q m f g c is-j is-q is-m small-q small-k small-h is-f is-g is-c =
+    let marks : lowBytes 4 m ≡ 0 ∷ one (d .restorable) ∷ d .kind ∷ d .health ∷ [] =
+    ap (lowBytes 4) is-m ∙ lowBytes-value (0 ∷ q ∷ d .kind ∷ d .health ∷ []) (omega arith, (small-q, (small-k, (small-h, tt))))
+    ∙ ap (λ (x : ℕ). 0 ∷ x ∷ d .kind ∷ d .health ∷ []) is-q in
+    let first : lowBytes 8 f ≡ replicate 4 0 ++ bytesOf o 4 (d .id .0) = is-f ∙ ap (λ (l : List ℕ). replicate 4 0 ++ l) (bytes-turned o 4 (d .id .0) j is-j) in
+    let second : lowBytes 8 g ≡ replicate 4 0 ++ (0 ∷ one (d .restorable) ∷ d .kind ∷ d .health ∷ []) = is-g ∙ ap (λ (l : List ℕ). replicate 4 0 ++ l) marks in
+    (λ i. (first i ++ second i) ++ bytes-turned o 8 (d .capacity) c is-c i ++ replicate 8 0) ∙ descriptor-joined o d
 
 -- ## Read field by field
 

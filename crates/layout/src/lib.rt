@@ -2,8 +2,10 @@
 ghost use mathlib.Core.Path.{_≡_};
 ghost use Prim.Native.Nat.{_≤_};
 ghost use lib.ListN.{length, drop};
+ghost use Rattle.strokes.specs.Rows.{rowBytes};
 ghost use Rattle.layout.specs.Bytes.{headerBytes, headerIn, descriptorBytes, descriptorIn};
 use paper::ElementId;
+use strokes::Row;
 use words::Order;
 
 // The numbers of a page's first 32 bytes.
@@ -27,16 +29,21 @@ pub struct Descriptor {
 }
 
 impl Header {
-    pub fn bytes(self, o: Order) -> [u8; 32]
-        ensures { λ r. ⌜ r ≡ headerBytes o self ⌝ }
+    // Its 32 bytes.
+    pub fn row(self, o: Order) -> Row
+        ensures { λ r. ⌜ rowBytes r ≡ headerBytes o self ⌝ }
     {
-        let mut b = [0; 32];
-        slices::put(&mut b, 0, &words::bytes4(self.number, o));
-        slices::put(&mut b, 4, &words::bytes4(self.returned, o));
-        slices::put(&mut b, 8, &words::bytes4(self.busy.0, o));
-        slices::put(&mut b, 12, &words::bytes2(self.limit, o));
-        slices::put(&mut b, 14, &words::bytes2(self.removed, o));
-        b
+        let number = words::turned4(self.number, o);
+        let returned = words::turned4(self.returned, o);
+        let busy = words::turned4(self.busy.0, o);
+        let limit = words::turned2(self.limit, o);
+        let removed = words::turned2(self.removed, o);
+        Row {
+            first: words::joined4(number, returned),
+            second: words::joined4(busy, words::joined2(limit, removed)),
+            third: 0,
+            fourth: 0,
+        }
     }
 
     // The header that a slice starts with; a byte past its end counts as 0. Of 32 bytes in the order of ATA pages none is tested for, since a
@@ -80,18 +87,24 @@ impl Header {
 }
 
 impl Descriptor {
-    pub fn bytes(self, o: Order) -> [u8; 32]
-        ensures { λ r. ⌜ r ≡ descriptorBytes o self ⌝ }
+    // Its 32 bytes.
+    pub fn row(self, o: Order) -> Row
+        ensures { λ r. ⌜ rowBytes r ≡ descriptorBytes o self ⌝ }
     {
-        let mut b = [0; 32];
-        slices::put(&mut b, 4, &words::bytes4(self.id.0, o));
-        slices::put(
-            &mut b,
-            13,
-            &[slices::bit(self.restorable), self.kind, self.health],
+        let id = words::turned4(self.id.0, o);
+        let marks = words::of4(
+            0,
+            slices::bit(self.restorable),
+            self.kind,
+            self.health,
+            Order::Little,
         );
-        slices::put(&mut b, 16, &words::bytes8(self.capacity, o));
-        b
+        Row {
+            first: words::joined4(0, id),
+            second: words::joined4(0, marks),
+            third: words::turned8(self.capacity, o),
+            fourth: 0,
+        }
     }
 
     // The descriptor that a slice starts with; of 32 bytes none is tested for.

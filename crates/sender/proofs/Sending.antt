@@ -5,10 +5,8 @@ use mathlib.Core.List.{List, _++_, append-nil}
 use mathlib.Core.Path.{_≡_, refl, sym, ap, _∙_}
 use native.Mathlib.Nat.{add-zero, sub-zero}
 use native.Mathlib.Omega.{arith}
-use lib.Dec.{leb}
 use lib.ListN.{length, take, drop, getD, length-append, length-take, drop-of-length-le}
-use lib.Seq.{take-all, take-take, take-length, take-append-le, take-append-add, length-take-le}
-use borrow.Author.Tests.{leb-true, leb-false}
+use lib.Seq.{take-all, take-take, take-length, length-take-le}
 use mir.Val.{boolByte}
 use Rattle.device.specs.Record.{removedNumber}
 use Rattle.device.specs.declared.Device.{Device}
@@ -23,8 +21,10 @@ use Rattle.paper.specs.declared.Answer.the-variants.{Done, InvalidField, SmallB
 use Rattle.query.specs.Queries.{dueFour, asked}
 use Rattle.query.specs.declared.Query.{Query}
 use Rattle.request.specs.declared.Request.{Request}
-use Rattle.slices.proofs.Lists.{take-min, stored-none, stored-front, stored-more, stored-each, length-stored, length-flat, flat-cut}
+use Rattle.slices.proofs.Lists.{take-min, stored-none, stored-front, stored-each, cut-more, length-flat, flat-cut}
 use Rattle.slices.specs.Lists.{flat, stored}
+use Rattle.strokes.specs.Rows.{rowBytes}
+use Rattle.strokes.specs.declared.Row.{Row}
 use Rattle.table.specs.Elements.{blankPart}
 use Rattle.table.specs.declared.Part.{Part}
 use Rattle.view.specs.Shown.{shownOf, asks}
@@ -37,40 +37,8 @@ use Rattle.sender.specs.Sent.{sentHeader, dataOf, sent}
 use Rattle.status.proofs.Places.{wanted, all-listed}
 use Rattle.sender.proofs.Walk.{count, count-low, count-turn, next-less, next-here}
 
--- ## What there is room for
-
-pub some-stored : (d out b c : List ℕ) (at : ℕ) → c ≡ take (length d - at) b → out ≡ stored d at c → out ≡ stored d at (take (length d - at) b)
-some-stored d out b c at is-c is-out = is-out ∙ ap (stored d at) is-c
-
-some-put : (d out b : List ℕ) (at : ℕ) → out ≡ stored d at (take (length d - at) b) → (c : List ℕ) → b ≡ c → out ≡ stored d at (take (length d - at) c)
-some-put d out b at is-out c is-b = is-out ∙ ap (λ (l : List ℕ). stored d at (take (length d - at) l)) is-b
-
-pub none-stored : (d b : List ℕ) (at : ℕ) → length d ≤ at → d ≡ stored d at (take (length d - at) b)
-none-stored d b at past =
-    let none : length d - at ≡ 0 = omega arith in
-    sym (rw none (stored-none d at))
-
--- one after another, each with as much as there is room for
-cut-more : (d : List ℕ) (at : ℕ) (a b x y : List ℕ) → x ≡ stored d at (take (length d - at) a)
-    → y ≡ stored x (at + length a) (take (length x - (at + length a)) b) → y ≡ stored d at (take (length d - at) (a ++ b))
-cut-more d at a b x y is-x is-y = by-test (leb (at + length a) (length d)) refl
-  where
-    same : length x ≡ length d
-    same = ap length is-x ∙ length-stored d (take (length d - at) a) at
-
-    by-test : (t : Bool) → leb (at + length a) (length d) ≡ t → y ≡ stored d at (take (length d - at) (a ++ b))
-    by-test true e =
-        let room : at + length a ≤ length d = leb-true _ _ e in
-        let r : ℕ = length d - (at + length a) in
-        let whole : x ≡ stored d at a = is-x ∙ ap (stored d at) (take-all (length d - at) a (omega arith)) in
-        let more : length d - at ≡ length a + r = omega arith in
-        let cut : take (length d - at) (a ++ b) ≡ a ++ take r b = ap (λ (n : ℕ). take n (a ++ b)) more ∙ take-append-add a b r in
-        let fits : at + length (a ++ take r b) ≤ length d = rw (length-append a (take r b), length-take r b) (omega arith) in
-        is-y ∙ (λ i. stored (whole i) (at + length a) (take (same i - (at + length a)) b)) ∙ stored-more d at a (take r b) fits ∙ ap (stored d at) (sym cut)
-    by-test false e =
-        let past : length d < at + length a = leb-false _ _ e in
-        let none : length x - (at + length a) ≡ 0 = omega (arith, same) in
-        is-y ∙ rw none (stored-none x (at + length a)) ∙ is-x ∙ ap (stored d at) (sym (take-append-le (length d - at) a b (omega arith)))
+some-put : (d out : List ℕ) (r : Row) (at : ℕ) → out ≡ stored d at (take (length d - at) (rowBytes r)) → (c : List ℕ) → rowBytes r ≡ c → out ≡ stored d at (take (length d - at) c)
+some-put d out r at is-out c is-r = is-out ∙ ap (λ (l : List ℕ). stored d at (take (length d - at) l)) is-r
 
 -- how many are asked for, of n elements
 abbrev pub Counted : List Part → List ℕ → Request → ℕ → ℕ → ℕ → Type 0
@@ -169,11 +137,11 @@ module _ (d : Device) (q : Request) (n : ℕ) (is-n : n ≡ min (d .table .count
   listed = all-listed d q n (walked .2) is-n
 
   pub asked-cut : i < n → (t : Bool) → t ≡ asks q (shownOf (getD (d .table .parts) i blankPart) (getD (d .cells .healths) i 0)) → t ≡ true → length x < at + 32
-      → (s : Descriptor) → s ≡ shownOf (getD (d .table .parts) i blankPart) (getD (d .cells .healths) i 0) → (c : List ℕ) → c ≡ descriptorBytes Big s
-      → (y : List ℕ) → y ≡ stored x at (take (length x - at) c) → y ≡ stored b 32 (take (length b - 32) (flat (descriptorBytes Big) (listOf d q)))
-  asked-cut low t is-t taken short s is-s c is-c y is-y =
+      → (s : Descriptor) → s ≡ shownOf (getD (d .table .parts) i blankPart) (getD (d .cells .healths) i 0) → (r : Row) → rowBytes r ≡ descriptorBytes Big s
+      → (y : List ℕ) → y ≡ stored x at (take (length x - at) (rowBytes r)) → y ≡ stored b 32 (take (length b - 32) (flat (descriptorBytes Big) (listOf d q)))
+  asked-cut low t is-t taken short s is-s r is-r y is-y =
       walk-cut (d .table .parts) (d .cells .healths) q n b at i x walked low t is-t taken short y
-      (some-put x y c at is-y _ (is-c ∙ ap (descriptorBytes Big) is-s))
+      (some-put x y r at is-y _ (is-r ∙ ap (descriptorBytes Big) is-s))
       ∙ ap (λ (l : List Descriptor). stored b 32 (take (length b - 32) (flat (descriptorBytes Big) l))) listed
 
   pub asked-all : n ≤ i → length b ≤ 32 + 32 * length (listOf d q) → x ≡ stored b 32 (take (length b - 32) (flat (descriptorBytes Big) (listOf d q)))
@@ -186,14 +154,14 @@ pub still-most : (n m there here : ℕ) → n ≡ m → there ≤ 32 + 32 * n �
 still-most n m there here is-m most same = omega arith
 
 pub part-filled : (d : Device) (q : Request) (n : ℕ) (g : Header) → n ≡ length (listOf d q) → g ≡ headed n n (d .cells .note) (d .table .limit) (removedNumber d)
-    → (b b₁ b₂ c : List ℕ) → length b ≤ 32 + 32 * n → c ≡ headerBytes Big g → b₁ ≡ stored b 0 (take (length b - 0) c)
+    → (b b₁ b₂ : List ℕ) (r : Row) → length b ≤ 32 + 32 * n → rowBytes r ≡ headerBytes Big g → b₁ ≡ stored b 0 (take (length b - 0) (rowBytes r))
     → b₂ ≡ stored b₁ 32 (take (length b₁ - 32) (flat (descriptorBytes Big) (listOf d q))) → b₂ ≡ take (length b) (dataFor d q)
-part-filled d q n g is-n is-g b b₁ b₂ c most is-c is-b₁ is-b₂ =
+part-filled d q n g is-n is-g b b₁ b₂ r most is-r is-b₁ is-b₂ =
     let h : Header = headed (length (listOf d q)) (length (listOf d q)) (d .cells .note) (d .table .limit) (removedNumber d) in
     let H : List ℕ = headerBytes Big h in
     let F : List ℕ = flat (descriptorBytes Big) (listOf d q) in
-    let head : c ≡ H = is-c ∙ ap (headerBytes Big) (is-g ∙ (λ i. headed (is-n i) (is-n i) (d .cells .note) (d .table .limit) (removedNumber d))) in
-    let front : b₁ ≡ stored b 0 (take (length b - 0) H) = some-put b b₁ c 0 is-b₁ H head in
+    let head : rowBytes r ≡ H = is-r ∙ ap (headerBytes Big) (is-g ∙ (λ i. headed (is-n i) (is-n i) (d .cells .note) (d .table .limit) (removedNumber d))) in
+    let front : b₁ ≡ stored b 0 (take (length b - 0) H) = some-put b b₁ r 0 is-b₁ H head in
     let place : 32 ≡ 0 + length H = omega (arith, header-wide Big h) in
     let behind : b₂ ≡ stored b₁ (0 + length H) (take (length b₁ - (0 + length H)) F) = is-b₂ ∙ (λ i. stored b₁ (place i) (take (length b₁ - place i) F)) in
     let wide-all : length (take (length b) (H ++ F)) ≡ length b =

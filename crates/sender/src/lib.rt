@@ -31,16 +31,6 @@ fn number_asked(d: Device, request: Request) -> usize
     number
 }
 
-// Stores from a place on as many of the bytes as there is room for.
-fn put_some(bytes: [u8; 32], at: usize, part: &mut [u8])
-    ensures { λ _. ⌜ now (part .exit) ≡ stored (now (part .entry)) at (take (length (now (part .entry)) - at) bytes) ⌝ }
-{
-    let end = part.len();
-    if at < end {
-        slices::put(part, at, slices::head(&bytes, end - at));
-    }
-}
-
 // Stores behind the header the descriptors of the elements asked for, and of the first that does not fit what there is room for.
 fn put_asked(d: Device, request: Request, part: &mut [u8])
     requires { ⌜ length (now part) ≤ 32 + 32 * length (listOf d request) ⌝ }
@@ -57,7 +47,8 @@ fn put_asked(d: Device, request: Request, part: &mut [u8])
             continue;
         }
         if part.len() < at + 32 {
-            put_some(view::shown_of(ps[i], hs[i]).bytes(Order::Big), at, part);
+            let row = view::shown_of(ps[i], hs[i]).row(Order::Big);
+            row.put_some(part, at);
             return;
         }
         view::put_shown(ps[i], hs[i], at, Order::Big, part);
@@ -72,7 +63,8 @@ fn fill_part(d: Device, request: Request, number: usize, part: &mut [u8])
 {
     let count = number as u32;
     let header = status::header_of(d, count, count);
-    put_some(header.bytes(Order::Big), 0, part);
+    let row = header.row(Order::Big);
+    row.put_some(part, 0);
     put_asked(d, request, part);
 }
 

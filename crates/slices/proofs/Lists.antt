@@ -138,7 +138,7 @@ kept-all {A} f (x ∷ xs) = one (f x) refl (kept-all f xs)
 -- ## Flattened
 
 module _ {A B : Type 0} (f : A → List B) where
-  flat-append : (xs ys : List A) → flat f (xs ++ ys) ≡ flat f xs ++ flat f ys
+  pub flat-append : (xs ys : List A) → flat f (xs ++ ys) ≡ flat f xs ++ flat f ys
   flat-append [] ys = refl
   flat-append (x ∷ xs) ys = ap (λ (l : List B). f x ++ l) (flat-append xs ys) ∙ sym (append-assoc (f x) (flat f xs) (flat f ys))
 
@@ -190,6 +190,9 @@ fits-rest n at room h = by-test (leb at (room - n)) refl
     by-test true e = e ∙ sym (le-leb (at + n) room (omega (arith, leb-true at (room - n) e)))
     by-test false e = e ∙ sym (lt-leb (at + n) room (omega (arith, leb-false at (room - n) e)))
 
+pub fits-there : (n at room : ℕ) (t : Bool) → t ≡ fits n at room → t ≡ true → at + n ≤ room
+fits-there n at room t is-t so = leb-true (at + n) room (sym is-t ∙ so)
+
 module _ {A : Type 0} (d b : List A) where
   pub stored-front : length b ≤ length d → stored d 0 b ≡ b ++ drop (length b) d
   stored-front h = rw (zero-add (length b), le-leb _ _ h)
@@ -203,7 +206,7 @@ module _ {A : Type 0} (d b : List A) (at : ℕ) where
 
   module _ (t : Bool) (is-t : t ≡ fits (length b) at (length d)) where
     pub room-there : t ≡ true → at + length b ≤ length d
-    room-there y = leb-true (at + length b) (length d) (sym is-t ∙ y)
+    room-there = fits-there (length b) at (length d) t is-t
 
     pub stored-yes : t ≡ true → (r : List A) → r ≡ paste d at b (length b) → r ≡ stored d at b
     stored-yes y r e = e ∙ sym (stored-paste (room-there y))
@@ -256,6 +259,39 @@ module _ {A : Type 0} (d : List A) (at : ℕ) where
       rw (stored-fits d a at (omega arith), stored-fits d (a ++ b) at h, stored-fits (P ++ drop (at + length a) d) b (at + length a) room, both, ← add-assoc)
       (lay P b d (at + length a) (length b) front ∙ simp append-assoc)
 
+-- one element, set
+pub stored-set : {A : Type 0} (d : List A) (i : ℕ) (b : A) → i < length d → set d i b ≡ stored d i (b ∷ [])
+stored-set d i b h = set-split d i b h ∙ rw (le-leb (i + 1) (length d) (omega arith), add-one i) (sym (append-assoc (take i d) (b ∷ []) (drop (suc i) d)))
+
+-- ## Stored as far as there is room
+
+pub cut-none : (d b : List ℕ) (at : ℕ) → length d ≤ at → d ≡ stored d at (take (length d - at) b)
+cut-none d b at past =
+    let none : length d - at ≡ 0 = omega arith in
+    sym (rw none (stored-none d at))
+
+-- one after another, each with as much as there is room for
+pub cut-more : (d : List ℕ) (at : ℕ) (a b x y : List ℕ) → x ≡ stored d at (take (length d - at) a)
+    → y ≡ stored x (at + length a) (take (length x - (at + length a)) b) → y ≡ stored d at (take (length d - at) (a ++ b))
+cut-more d at a b x y is-x is-y = by-test (leb (at + length a) (length d)) refl
+  where
+    same : length x ≡ length d
+    same = ap length is-x ∙ length-stored d (take (length d - at) a) at
+
+    by-test : (t : Bool) → leb (at + length a) (length d) ≡ t → y ≡ stored d at (take (length d - at) (a ++ b))
+    by-test true e =
+        let room : at + length a ≤ length d = leb-true _ _ e in
+        let r : ℕ = length d - (at + length a) in
+        let whole : x ≡ stored d at a = is-x ∙ ap (stored d at) (take-all (length d - at) a (omega arith)) in
+        let more : length d - at ≡ length a + r = omega arith in
+        let cut : take (length d - at) (a ++ b) ≡ a ++ take r b = ap (λ (n : ℕ). take n (a ++ b)) more ∙ take-append-add a b r in
+        let fits : at + length (a ++ take r b) ≤ length d = rw (length-append a (take r b), length-take r b) (omega arith) in
+        is-y ∙ (λ i. stored (whole i) (at + length a) (take (same i - (at + length a)) b)) ∙ stored-more d at a (take r b) fits ∙ ap (stored d at) (sym cut)
+    by-test false e =
+        let past : length d < at + length a = leb-false _ _ e in
+        let none : length x - (at + length a) ≡ 0 = omega (arith, same) in
+        is-y ∙ rw none (stored-none x (at + length a)) ∙ is-x ∙ ap (stored d at) (sym (take-append-le (length d - at) a b (omega arith)))
+
 -- ## Stored at the front of a part
 
 -- the k elements from a place on, lent and put back
@@ -295,9 +331,7 @@ zero-next d x at i low less long is-x =
     let one-more : i + 1 - at ≡ i - at + 1 = omega arith in
     let more : z ++ (0 ∷ []) ≡ replicate (i + 1 - at) 0 = rw one-more (replicate-append-replicate (i - at) 1 0) in
     let room : at + length (z ++ (0 ∷ [])) ≤ length d = rw (more, length-replicate) (omega arith) in
-    let one : set x i 0 ≡ stored x i (0 ∷ []) =
-    set-split x i 0 (omega arith) ∙ rw (le-leb (i + 1) (length x) (omega arith), add-one i) (sym (append-assoc (take i x) (0 ∷ []) (drop (suc i) x))) in
-    one ∙ (λ j. stored (is-x j) (place j) (0 ∷ [])) ∙ stored-more d at z (0 ∷ []) room ∙ ap (stored d at) more
+    stored-set x i 0 (omega arith) ∙ (λ j. stored (is-x j) (place j) (0 ∷ [])) ∙ stored-more d at z (0 ∷ []) room ∙ ap (stored d at) more
 
 -- zeros that would go on past the end are not stored
 pub zero-past : (d : List ℕ) (at to : ℕ) → length d < to → d ≡ stored d at (replicate (to - at) 0)

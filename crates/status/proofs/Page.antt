@@ -1,5 +1,5 @@
 -- The list and the page: a law for each way out, and the page put together from what its parts store.
-use Prim.Native.Nat.{ℕ, _+_, _-_, _*_, _≤_, _<_, min}
+use Prim.Native.Nat.{ℕ, _+_, _-_, _*_, _/_, _≤_, _<_, min}
 use mathlib.Core.Bool.{Bool}
 use mathlib.Core.List.{List, _++_, map}
 use mathlib.Core.Path.{_≡_, refl, sym, ap, _∙_}
@@ -23,6 +23,8 @@ use Rattle.request.specs.Requests.{pagesOf, statusNumber}
 use Rattle.request.specs.declared.Request.{Request}
 use Rattle.slices.proofs.Lists.{take-min, map-map, map-upTo, map-places, stored-front, stored-more, stored-each, length-flat}
 use Rattle.slices.specs.Lists.{upTo, flat, stored}
+use Rattle.strokes.proofs.Strokes.{times-zero}
+use Rattle.strokes.specs.Rows.{times}
 use Rattle.table.specs.Elements.{live, blankPart, identifiers, size, identifierAt}
 use Rattle.table.specs.declared.Part.{Part}
 use Rattle.view.specs.Shown.{shownOf, asks, busyOf}
@@ -79,6 +81,14 @@ module _ (d : Device) (q : Request) (h : Header) (l : List Descriptor) (r : ℕ)
       three ∙ stored-front b (g ++ z) (omega (arith, wide-all)) ∙ (λ i. whole i ++ drop (wide-all i) b)
 
 -- ## What is collected, and filled in
+
+-- at most 128 are listed, so the number that fills the rows up is 0
+pub zeros-put : (number r pages : ℕ) (b out : List ℕ) → number ≤ 128 → r + 1 ≤ 16 * pages
+    → out ≡ stored b (32 + 32 * r) (times (8 * (16 * pages - 1 - r)) (number / 4096)) → out ≡ stored b (32 + 32 * r) (replicate (512 * pages - (32 + 32 * r)) 0)
+zeros-put number r pages b out few some is-out =
+    let none : number / 4096 ≡ 0 = omega arith in
+    let rows : 4 * (8 * (16 * pages - 1 - r)) ≡ 512 * pages - (32 + 32 * r) = omega arith in
+    is-out ∙ ap (stored b (32 + 32 * r)) (ap (times (8 * (16 * pages - 1 - r))) none ∙ times-zero (8 * (16 * pages - 1 - r)) ∙ ap (λ (n : ℕ). replicate {A = ℕ} n 0) rows)
 
 -- the loop after i turns of n
 abbrev pub Listing : List Part → List ℕ → Request → ℕ → List ℕ → ℕ → ℕ → Type 0

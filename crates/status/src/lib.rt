@@ -1,8 +1,8 @@
 // GET PHYSICAL ELEMENT STATUS: the list and the filled page. The device is only read.
 ghost use mathlib.Core.Path.{_≡_};
 ghost use mathlib.Core.List.{_++_};
-ghost use Prim.Native.Nat.{_+_, _*_, _≤_};
-ghost use lib.ListN.{length, drop};
+ghost use Prim.Native.Nat.{_+_, _-_, _*_, _≤_};
+ghost use lib.ListN.{length, drop, replicate};
 ghost use Rattle.device.specs.Record.{removedNumber};
 ghost use Rattle.layout.specs.Bytes.{descriptorBytes};
 ghost use Rattle.paper.specs.Told.{said};
@@ -47,6 +47,17 @@ fn put_list(ps: [Part; 128], hs: [u8; 128], places: [u8; 128], returned: usize, 
     }
 }
 
+// Stores zeros behind the descriptors, to the end of the page. A zero that the compiler knows would turn the loop into a call of memset, which may
+// store a byte twice. This one is 0 because at most 128 elements are listed, which the compiler does not see.
+fn put_zeros(number: usize, returned: usize, pages: usize, buf: &mut [u8])
+    requires { ⌜ (number ≤ 128) × (returned + 1 ≤ 16 * pages) × (pages ≤ 65535) ⌝ }
+    ensures { λ _. ⌜ now (buf .exit) ≡ stored (now (buf .entry)) (32 + 32 * returned) (replicate (512 * pages - (32 + 32 * returned)) 0) ⌝ }
+{
+    let zero = (number / 4096) as u32;
+    let rows = 16 * pages - 1 - returned;
+    strokes::put_times(buf, 32 + 32 * returned, zero, 8 * rows);
+}
+
 // Fills the page, in ascending order, each byte once: the header, the descriptors, the zeros.
 // The places of what is asked for are put down first, so that each element is judged once.
 fn fill(d: Device, request: Request, buf: &mut [u8])
@@ -68,7 +79,7 @@ fn fill(d: Device, request: Request, buf: &mut [u8])
     let header = header_of(d, number as u32, returned as u32);
     view::put_header(header, buf);
     put_list(ps, hs, places, returned, buf);
-    slices::clear(buf, 32 + 32 * returned, 512 * (request.count.0 as usize));
+    put_zeros(number, returned, request.count.0 as usize, buf);
 }
 
 // The answer, and the page if it is 0.

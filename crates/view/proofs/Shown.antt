@@ -13,6 +13,8 @@ use Rattle.paper.specs.declared.ElementId.{ElementId}
 use Rattle.request.specs.Requests.{filterOf, reportTypeOf, takesId, takesType, takesHealth}
 use Rattle.request.specs.declared.Request.{Request}
 use Rattle.slices.specs.Lists.{stored}
+use Rattle.strokes.specs.Rows.{rowBytes}
+use Rattle.strokes.specs.declared.Row.{Row}
 use Rattle.table.specs.declared.Part.{Part}
 use Rattle.words.specs.declared.Order.{Order}
 use Rattle.view.specs.Shown.{capacityOf, shownOf, asks, busyOf}
@@ -57,8 +59,9 @@ busy-noted n w e = ap element (sym e)
 
 -- ## In the lent buffer
 
-pub put-there : (d out b e : List ℕ) (at : ℕ) → out ≡ stored d at b → b ≡ e → out ≡ stored d at e
-put-there d out b e at is-out is-b = is-out ∙ ap (stored d at) is-b
+pub put-there : (d out e : List ℕ) (at : ℕ) (r : Row) → out ≡ stored d at (rowBytes r) → rowBytes r ≡ e → out ≡ stored d at e
+put-there d out e at r is-out is-r = is-out ∙ ap (stored d at) is-r
 
-pub put-shown : (o : Order) (d out b : List ℕ) (at : ℕ) (x y : Descriptor) → out ≡ stored d at b → b ≡ descriptorBytes o x → x ≡ y → out ≡ stored d at (descriptorBytes o y)
-put-shown o d out b at x y is-out is-b is-x = is-out ∙ ap (stored d at) (is-b ∙ ap (descriptorBytes o) is-x)
+pub put-shown : (o : Order) (d out : List ℕ) (at : ℕ) (r : Row) (x y : Descriptor) → out ≡ stored d at (rowBytes r) → rowBytes r ≡ descriptorBytes o x → x ≡ y
+    → out ≡ stored d at (descriptorBytes o y)
+put-shown o d out at r x y is-out is-r is-x = put-there d out (descriptorBytes o y) at r is-out (is-r ∙ ap (descriptorBytes o) is-x)

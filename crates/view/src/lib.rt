@@ -64,8 +64,8 @@ pub fn busy(note: Note) -> ElementId
 pub fn put_header(header: Header, buf: &mut [u8])
     ensures { λ _. ⌜ now (buf .exit) ≡ stored (now (buf .entry)) 0 (headerBytes Order.Little header) ⌝ }
 {
-    let bytes = header.bytes(Order::Little);
-    slices::put(buf, 0, &bytes);
+    let row = header.row(Order::Little);
+    row.put(buf, 0);
 }
 
 // Stores the descriptor of the element of this part and health from a place on, in either byte order, if it fits there.
@@ -73,6 +73,6 @@ pub fn put_shown(p: Part, health: u8, at: usize, o: Order, buf: &mut [u8])
     ensures { λ _. ⌜ now (buf .exit) ≡ stored (now (buf .entry)) at (descriptorBytes o (shownOf p health)) ⌝ }
 {
     let x = shown_of(p, health);
-    let bytes = x.bytes(o);
-    slices::put(buf, at, &bytes);
+    let row = x.row(o);
+    row.put(buf, at);
 }

@@ -1,16 +1,16 @@
 -- Laws of numbers as bytes, each over the width and the order.
 --     value-lowBytes, lowBytes-value   a number's bytes, and the number of some bytes
 --     number-bytesOf   a number that fits is read back from its bytes
---     low-parts        the bytes of a number of two parts
+--     low-parts, low-split   the bytes of a number of two parts
 --     number-placed    the number of the bytes at a place
 --     number-same      the number at a place goes by its bytes alone
-use Prim.Native.Nat.{ℕ, zero, suc, _+_, _*_, _/_, _%_, _^_, _<_}
+use Prim.Native.Nat.{ℕ, zero, suc, _+_, _*_, _/_, _%_, _^_, _≤_, _<_}
 use mathlib.Core.List.{List, [], _∷_, _++_, reverse, reverseAux, reverse-append, reverse-reverse}
 use mathlib.Core.Path.{_≡_, refl, sym, ap, _∙_, subst}
-use native.Mathlib.Nat.{pow-suc, zero-add, add-zero, suc-add, add-mul, mul-assoc, add-assoc, div-add-mod', div-lt-iff-lt-mul, mul-add-mod-self-right, mul-add-div-right}
+use native.Mathlib.Nat.{pow-suc, zero-add, add-zero, suc-add, add-mul, mul-assoc, add-assoc, not-suc-le-zero, le-of-suc-le-suc, div-add-mod', mod-lt, div-lt-iff-lt-mul, mul-add-mod-self-right, mul-add-div-right}
 use native.Mathlib.Omega.{arith}
 use lib.Dec.{lit<}
-use lib.ListN.{length, getD, drop, length-reverse}
+use lib.ListN.{length, getD, take, drop, length-reverse}
 use lib.Seq.{drop-drop, getD-drop}
 use Rattle.slices.specs.Lists.{Every}
 use Rattle.words.specs.Bytes.{lowBytes, value, ordered, bytesOf, number, front, numberAt}
@@ -28,7 +28,7 @@ value-lowBytes (suc w) x h =
     let high : x / 256 < 256 ^ w = div-lt-iff-lt-mul (lit< tt) .1 (rw (pow-suc 256 w) at h) in
     ap (λ (n : ℕ). n * 256 + x % 256) (value-lowBytes w (x / 256) high) ∙ div-add-mod' x 256
 
-lowBytes-value : (l : List ℕ) → Every Byte l → lowBytes (length l) (value l) ≡ l
+pub lowBytes-value : (l : List ℕ) → Every Byte l → lowBytes (length l) (value l) ≡ l
 lowBytes-value [] e = refl
 lowBytes-value (b ∷ l) (small, e) =
     let low : (value l * 256 + b) % 256 ≡ b = omega arith in
@@ -47,6 +47,21 @@ low-parts (suc v) w a b h =
     let rest : (b * 256 ^ suc v + a) / 256 ≡ b * 256 ^ v + a / 256 = ap (λ (x : ℕ). x / 256) more ∙ mul-add-div-right (lit< tt) (b * 256 ^ v) a in
     rw (suc-add v w, low, rest, low-parts v w (a / 256) b high)
 
+-- those of one number, in two parts
+pub low-split : (v w x : ℕ) → lowBytes (v + w) x ≡ lowBytes v (x % 256 ^ v) ++ lowBytes w (x / 256 ^ v)
+low-split v w x =
+    ap (lowBytes (v + w)) (sym (div-add-mod' x (256 ^ v))) ∙ low-parts v w (x % 256 ^ v) (x / 256 ^ v) (mod-lt x (above v))
+  where
+    above : (v : ℕ) → 0 < 256 ^ v
+    above zero = omega arith
+    above (suc v) = rw (pow-suc 256 v) (omega (arith, above v))
+
+-- and the front of them
+pub take-low : (n w x : ℕ) → n ≤ w → take n (lowBytes w x) ≡ lowBytes n x
+take-low zero w x h = refl
+take-low (suc n) zero x h = absurd (not-suc-le-zero h)
+take-low (suc n) (suc w) x h = ap (λ (l : List ℕ). x % 256 ∷ l) (take-low n w (x / 256) (le-of-suc-le-suc h))
+
 ordered-twice : (o : Order) (bs : List ℕ) → ordered o (ordered o bs) ≡ bs
 ordered-twice Little bs = refl
 ordered-twice Big bs = reverse-reverse bs
@@ -60,7 +75,7 @@ bytes-low : (w x : ℕ) → Every Byte (lowBytes w x)
 bytes-low zero x = tt
 bytes-low (suc w) x = (omega arith, bytes-low w (x / 256))
 
-length-low : (w x : ℕ) → length (lowBytes w x) ≡ w
+pub length-low : (w x : ℕ) → length (lowBytes w x) ≡ w
 length-low zero x = refl
 length-low (suc w) x = ap suc (length-low w (x / 256))
 
@@ -104,7 +119,7 @@ pub turned-big8 : {o : Order} (x low high : ℕ) → low ≡ number Big (lowByte
 turned-big8 x low high is-low is-high e =
     let A : List ℕ = lowBytes 4 (x % 4294967296) in
     let B : List ℕ = lowBytes 4 (x / 4294967296) in
-    let whole : lowBytes 8 x ≡ A ++ B = ap (lowBytes 8) (sym (div-add-mod' x 4294967296)) ∙ low-parts 4 4 (x % 4294967296) (x / 4294967296) (omega arith) in
+    let whole : lowBytes 8 x ≡ A ++ B = low-split 4 4 x in
     let long : length (reverse B) ≡ 4 = length-reverse B ∙ length-low 4 (x / 4294967296) in
     sym (ap (λ (p : Order). number p (lowBytes 8 x)) e
     ∙ ap (number Big) whole

@@ -1,7 +1,7 @@
 // Numbers as bytes, in either order, at widths 2, 4 and 8. Any place will do: past the end a byte is 0.
-ghost use mathlib.Core.List.{[], _∷_};
+ghost use mathlib.Core.List.{[], _∷_, _++_};
 ghost use mathlib.Core.Path.{_≡_};
-ghost use Rattle.words.specs.Bytes.{lowBytes, value, bytesOf, number, numberAt};
+ghost use Rattle.words.specs.Bytes.{lowBytes, value, number, numberAt};
 use slices::byte_at;
 use slices::tail;
 
@@ -13,7 +13,7 @@ pub enum Order {
 
 // ---- The number that the low bytes of another are in an order. Only here is the order asked for, once a number.
 
-fn turned2(x: u16, o: Order) -> u16
+pub fn turned2(x: u16, o: Order) -> u16
     ensures { λ r. ⌜ r ≡ number o (lowBytes 2 x) ⌝ }
 {
     match o {
@@ -22,7 +22,7 @@ fn turned2(x: u16, o: Order) -> u16
     }
 }
 
-fn turned4(x: u32, o: Order) -> u32
+pub fn turned4(x: u32, o: Order) -> u32
     ensures { λ r. ⌜ r ≡ number o (lowBytes 4 x) ⌝ }
 {
     let a = x % 256;
@@ -35,7 +35,7 @@ fn turned4(x: u32, o: Order) -> u32
     }
 }
 
-fn turned8(x: u64, o: Order) -> u64
+pub fn turned8(x: u64, o: Order) -> u64
     ensures { λ r. ⌜ r ≡ number o (lowBytes 8 x) ⌝ }
 {
     match o {
@@ -48,41 +48,52 @@ fn turned8(x: u64, o: Order) -> u64
     }
 }
 
-// ---- The bytes of a number
+// ---- The bytes of a number, the lowest first
 
-pub fn bytes2(x: u16, o: Order) -> [u8; 2]
-    ensures { λ r. ⌜ r ≡ bytesOf o 2 x ⌝ }
+pub fn bytes2(x: u16) -> [u8; 2]
+    ensures { λ r. ⌜ r ≡ lowBytes 2 x ⌝ }
 {
-    let y = turned2(x, o);
-    [(y % 256) as u8, (y / 256 % 256) as u8]
+    [(x % 256) as u8, (x / 256 % 256) as u8]
 }
 
-pub fn bytes4(x: u32, o: Order) -> [u8; 4]
-    ensures { λ r. ⌜ r ≡ bytesOf o 4 x ⌝ }
+pub fn bytes4(x: u32) -> [u8; 4]
+    ensures { λ r. ⌜ r ≡ lowBytes 4 x ⌝ }
 {
-    let y = turned4(x, o);
     [
-        (y % 256) as u8,
-        (y / 256 % 256) as u8,
-        (y / 256 / 256 % 256) as u8,
-        (y / 256 / 256 / 256 % 256) as u8,
+        (x % 256) as u8,
+        (x / 256 % 256) as u8,
+        (x / 256 / 256 % 256) as u8,
+        (x / 256 / 256 / 256 % 256) as u8,
     ]
 }
 
-pub fn bytes8(x: u64, o: Order) -> [u8; 8]
-    ensures { λ r. ⌜ r ≡ bytesOf o 8 x ⌝ }
+pub fn bytes8(x: u64) -> [u8; 8]
+    ensures { λ r. ⌜ r ≡ lowBytes 8 x ⌝ }
 {
-    let y = turned8(x, o);
     [
-        (y % 256) as u8,
-        (y / 256 % 256) as u8,
-        (y / 256 / 256 % 256) as u8,
-        (y / 256 / 256 / 256 % 256) as u8,
-        (y / 256 / 256 / 256 / 256 % 256) as u8,
-        (y / 256 / 256 / 256 / 256 / 256 % 256) as u8,
-        (y / 256 / 256 / 256 / 256 / 256 / 256 % 256) as u8,
-        (y / 256 / 256 / 256 / 256 / 256 / 256 / 256 % 256) as u8,
+        (x % 256) as u8,
+        (x / 256 % 256) as u8,
+        (x / 256 / 256 % 256) as u8,
+        (x / 256 / 256 / 256 % 256) as u8,
+        (x / 256 / 256 / 256 / 256 % 256) as u8,
+        (x / 256 / 256 / 256 / 256 / 256 % 256) as u8,
+        (x / 256 / 256 / 256 / 256 / 256 / 256 % 256) as u8,
+        (x / 256 / 256 / 256 / 256 / 256 / 256 / 256 % 256) as u8,
     ]
+}
+
+// ---- Two numbers as one, whose low bytes are the first one's
+
+pub fn joined2(a: u16, b: u16) -> u32
+    ensures { λ r. ⌜ lowBytes 4 r ≡ lowBytes 2 a ++ lowBytes 2 b ⌝ }
+{
+    (b as u32) * 65536 + (a as u32)
+}
+
+pub fn joined4(a: u32, b: u32) -> u64
+    ensures { λ r. ⌜ lowBytes 8 r ≡ lowBytes 4 a ++ lowBytes 4 b ⌝ }
+{
+    (b as u64) * 4294967296 + (a as u64)
 }
 
 // ---- The number of some bytes

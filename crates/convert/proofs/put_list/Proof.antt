@@ -31,11 +31,10 @@ put-list-spec =
     (λ c. search needs)
     (λ c. search needs)
     (λ c. search needs)
-    (λ c. search needs)
     (λ c κs. search needs)
     (λ c. search needs)
     (λ c. search needs)
-    (λ c. let made = c .before .before .before .before .before in
+    (λ c. let made = c .before .before .before .before in
     let turn = made .before .before in
     let l = turn .before .loop in
     let s = turn .before .before .before .before .before in

@@ -1,0 +1,2 @@
+-- What is proved of numbers stored one after the other.
+pub mod Strokes

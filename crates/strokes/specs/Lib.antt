@@ -1,0 +1,2 @@
+-- Numbers as bytes, side by side.
+pub mod Rows
