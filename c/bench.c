@@ -75,9 +75,9 @@ static void offer(const uint64_t *n)
             (struct recorder_element){.id = n[0], .kind = n[1], .health = n[2], .blocks = n[3], .unreported = n[4]};
 }
 
-static void make(uint16_t limit, uint8_t reading)
+static void make(uint16_t limit)
 {
-    uint8_t number = recorder_make(&device, offered, offered_count, limit, reading);
+    uint8_t number = recorder_make(&device, offered, offered_count, limit);
     offered_count = 0;
     is_made |= number == 0;
     answer(number);
@@ -190,27 +190,19 @@ static void convert(struct recorder_converted c, void (*print)(void), size_t len
     print_touched(c.count, length);
 }
 
-static void convert_to_scsi(const uint64_t *n, uint8_t reading)
+static void convert_to_scsi(const uint64_t *n)
 {
     lend(n[3]);
-    convert(recorder_to_scsi(page, kept, request_of(n), reading, lent, n[3]), print_data, n[3]);
+    convert(recorder_to_scsi(page, kept, request_of(n), lent, n[3]), print_data, n[3]);
 }
 
-static void convert_to_ata(const uint64_t *n, uint8_t reading)
+static void convert_to_ata(const uint64_t *n)
 {
     lend(n[4]);
-    convert(recorder_to_ata(page, kept, query_of(n), reading, n[3], lent, n[4]), print_page, n[4]);
+    convert(recorder_to_ata(page, kept, query_of(n), n[3], lent, n[4]), print_page, n[4]);
 }
 
 // ---- What the device holds
-
-static void print_mark(void)
-{
-    if (device.failed)
-        to = put_hex(to, device.failed_element, 8);
-    else
-        *to++ = '-';
-}
 
 static void print_note(void)
 {
@@ -246,15 +238,11 @@ static void print_cells(void)
     begin();
     to = put_words(to, "limit ");
     to = put_decimal(to, device.limit);
-    to = put_words(to, " reading ");
-    to = put_decimal(to, device.reading);
     to = put_words(to, " native ");
     to = put_decimal(to, device.native);
     to = put_words(to, " accessible ");
     to = put_decimal(to, device.accessible);
-    to = put_words(to, " failed ");
-    print_mark();
-    to = put_words(to, " note ");
+    to = put_words(to, device.failed ? " failed 1 note " : " failed 0 note ");
     print_note();
     to = put_words(to, " position ");
     to = put_words(to, positions[device.position]);
@@ -363,42 +351,42 @@ enum name {
     SCSI, SCSIREAD, TOSCSI, TOATA, NAMES
 };
 
-// The numbers of each call, by the most that each may be; a command's state stands before them, and a reading may stand after them.
+// The numbers of each call, by the most that each may be; a command's state stands before them.
 static const struct {
     const char *name;
-    int needs_device, takes_reading;
+    int needs_device;
     size_t count;
     uint64_t most[5];
 } calls[NAMES] = {
-    [ELEMENT] = {"element", 0, 0, 5, {0xFFFFFFFF, 0xFF, 0xFF, UINT64_MAX, 1}},
-    [MAKE] = {"make", 0, 1, 1, {0xFFFF}},
-    [COMMAND] = {"command", 1, 0, 5, {0xFF, 0xFFFF, 0xFFFF, UINT64_MAX, 0x10000}},
-    [STEP] = {"step", 1, 0, 0, {0}},
-    [ERROR] = {"error", 1, 0, 0, {0}},
-    [CUT] = {"cut", 1, 0, 0, {0}},
-    [COMRESET] = {"comreset", 1, 0, 0, {0}},
-    [HARDRESET] = {"hardreset", 1, 0, 0, {0}},
-    [SOFTRESET] = {"softreset", 1, 0, 0, {0}},
-    [GRADE] = {"grade", 1, 0, 2, {0xFFFFFFFF, 0xFF}},
-    [CELLS] = {"cells", 1, 0, 0, {0}},
-    [LENGTH] = {"length", 0, 0, 1, {0x10000}},
-    [POKE] = {"poke", 0, 0, 2, {0x10000, 0xFF}},
-    [READ] = {"read", 0, 1, 3, {0xFFFF, 0xFFFF, UINT64_MAX}},
-    [NEXT] = {"next", 0, 1, 3, {0xFFFF, 0xFFFF, UINT64_MAX}},
-    [SCSI] = {"scsi", 1, 0, 5, {0xFF, 0xFF, 0xFFFFFFFF, 0xFFFFFFFF, 0x10000}},
-    [SCSIREAD] = {"scsiread", 0, 1, 3, {0xFF, 0xFF, 0xFFFFFFFF}},
-    [TOSCSI] = {"toscsi", 0, 1, 4, {0xFFFF, 0xFFFF, UINT64_MAX, 0x10000}},
-    [TOATA] = {"toata", 0, 1, 5, {0xFF, 0xFF, 0xFFFFFFFF, 0xFFFF, 0x10000}},
+    [ELEMENT] = {"element", 0, 5, {0xFFFFFFFF, 0xFF, 0xFF, UINT64_MAX, 1}},
+    [MAKE] = {"make", 0, 1, {0xFFFF}},
+    [COMMAND] = {"command", 1, 5, {0xFF, 0xFFFF, 0xFFFF, UINT64_MAX, 0x10000}},
+    [STEP] = {"step", 1, 0, {0}},
+    [ERROR] = {"error", 1, 0, {0}},
+    [CUT] = {"cut", 1, 0, {0}},
+    [COMRESET] = {"comreset", 1, 0, {0}},
+    [HARDRESET] = {"hardreset", 1, 0, {0}},
+    [SOFTRESET] = {"softreset", 1, 0, {0}},
+    [GRADE] = {"grade", 1, 2, {0xFFFFFFFF, 0xFF}},
+    [CELLS] = {"cells", 1, 0, {0}},
+    [LENGTH] = {"length", 0, 1, {0x10000}},
+    [POKE] = {"poke", 0, 2, {0x10000, 0xFF}},
+    [READ] = {"read", 0, 3, {0xFFFF, 0xFFFF, UINT64_MAX}},
+    [NEXT] = {"next", 0, 3, {0xFFFF, 0xFFFF, UINT64_MAX}},
+    [SCSI] = {"scsi", 1, 5, {0xFF, 0xFF, 0xFFFFFFFF, 0xFFFFFFFF, 0x10000}},
+    [SCSIREAD] = {"scsiread", 0, 3, {0xFF, 0xFF, 0xFFFFFFFF}},
+    [TOSCSI] = {"toscsi", 0, 4, {0xFFFF, 0xFFFF, UINT64_MAX, 0x10000}},
+    [TOATA] = {"toata", 0, 5, {0xFF, 0xFF, 0xFFFFFFFF, 0xFFFF, 0x10000}},
 };
 
-static void call(enum name name, uint8_t security, const uint64_t *n, uint8_t reading)
+static void call(enum name name, uint8_t security, const uint64_t *n)
 {
     switch (name) {
     case ELEMENT:
         offer(n);
         break;
     case MAKE:
-        make(n[0], reading);
+        make(n[0]);
         break;
     case COMMAND:
         command(security, n);
@@ -434,22 +422,22 @@ static void call(enum name name, uint8_t security, const uint64_t *n, uint8_t re
         poke(n[0], n[1]);
         break;
     case READ:
-        print_reading(recorder_read(page, kept, request_of(n), reading), recorder_descriptor);
+        print_reading(recorder_read(page, kept, request_of(n)), recorder_descriptor);
         break;
     case NEXT:
-        print_next(recorder_next(page, kept, request_of(n), reading));
+        print_next(recorder_next(page, kept, request_of(n)));
         break;
     case SCSI:
         send(n);
         break;
     case SCSIREAD:
-        print_reading(recorder_scsi_read(page, kept, query_of(n), reading), recorder_scsi_descriptor);
+        print_reading(recorder_scsi_read(page, kept, query_of(n)), recorder_scsi_descriptor);
         break;
     case TOSCSI:
-        convert_to_scsi(n, reading);
+        convert_to_scsi(n);
         break;
     case TOATA:
-        convert_to_ata(n, reading);
+        convert_to_ata(n);
         break;
     case NAMES:
         break;
@@ -471,15 +459,6 @@ static int get_security(struct word word, uint8_t *security)
     return 0;
 }
 
-static int get_reading(struct word word, uint8_t *reading)
-{
-    uint64_t number;
-    if (!get_number(word, RECORDER_SECOND, &number) || number < RECORDER_FIRST)
-        return 0;
-    *reading = number;
-    return 1;
-}
-
 static enum name name_of(struct word word)
 {
     enum name name = 0;
@@ -491,7 +470,7 @@ static enum name name_of(struct word word)
 static void obey(const char *line, size_t length)
 {
     struct word words[MOST_WORDS], *word = words + 1;
-    uint8_t security = RECORDER_LOCKED, reading = RECORDER_FIRST;
+    uint8_t security = RECORDER_LOCKED;
     uint64_t numbers[5];
     if (length > 200) {
         say("not a call");
@@ -501,16 +480,13 @@ static void obey(const char *line, size_t length)
     if (count == 0 || words[0].at[0] == '#')
         return;
     enum name name = name_of(words[0]);
-    // A last word that is a reading is taken here.
-    if (name < NAMES && calls[name].takes_reading && count == 2 + calls[name].count)
-        count -= get_reading(words[count - 1], &reading);
     if (name == NAMES || count != 1 + (name == COMMAND) + calls[name].count || (name == COMMAND && !get_security(*word++, &security)) ||
         !get_numbers(word, calls[name].most, calls[name].count, numbers))
         say("not a call");
     else if (calls[name].needs_device && !is_made)
         say("no device");
     else
-        call(name, security, numbers, reading);
+        call(name, security, numbers);
 }
 
 // The bytes of the script one after the other: a line of more than 200 is only counted.

@@ -21,7 +21,7 @@ static const struct recorder_element elements[] = {
     {.id = 0x00020000, .kind = 2},
 };
 
-enum { ELEMENTS = sizeof elements / sizeof *elements, LIMIT = 2, READING = RECORDER_FIRST };
+enum { ELEMENTS = sizeof elements / sizeof *elements, LIMIT = 2 };
 
 // ---- The hardware of this example: what each turn of the loop meets
 
@@ -100,7 +100,7 @@ static uint8_t saved(uint8_t number)
 // Once only: making it again forgets every removal. Without a device nothing may be answered.
 static void make(void)
 {
-    if (saved(recorder_make(&device, elements, ELEMENTS, LIMIT, READING)) == RECORDER_DONE)
+    if (saved(recorder_make(&device, elements, ELEMENTS, LIMIT)) == RECORDER_DONE)
         return;
     printf("the table is refused\n");
     exit(1);

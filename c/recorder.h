@@ -6,7 +6,7 @@
    nothing that is lent changes during a call. The library keeps no state.
 
    A cut is between calls: a call writes several fields, in no promised order. Firmware that keeps the record itself through a loss of power
-   saves it whole after a call, in two copies, say; the note is one cell, its four fields are saved together, and so are the failed mark's two.
+   saves it whole after a call, in two copies, say; the note is one cell, its four fields are saved together.
 
    The stack: up to 2.6 KB for a call on a device, 4.8 KB for 12h in the front call, 6.5 KB for recorder_make. */
 #ifndef RECORDER_H
@@ -31,17 +31,11 @@ enum {
     RECORDER_BEYOND_MAX = 5,      /* beyond the accessible maximum */
     RECORDER_UNKNOWN_COMMAND = 6, /* a code that the device does not have */
     RECORDER_SMALL_BUFFER = 7,    /* no room for what is to be written */
-    RECORDER_TABLE_REFUSED = 8,   /* no device can be made of the list, or for the reading */
+    RECORDER_TABLE_REFUSED = 8,   /* no device can be made of the list */
     RECORDER_PAGE_REFUSED = 9,    /* with a place, or which page */
     RECORDER_NO_REMOVAL = 10,     /* none is under way */
     RECORDER_GRADE_REFUSED = 11   /* no such element, or a removed one, or a health above CFh */
 };
-
-/* A reading: which codes a health has. A table is built for one, and who reads its pages is told which. In the first an element shows its stored
-   health. In the second one that is not at FFh shows FEh while the note holds it, else FDh while the failed mark names it, else its stored health.
-   Filter 01b takes shown healths: 65h to CFh and FFh in the first, 65h to CFh and FBh to FFh in the second. (What a reader says is another thing, a
-   struct recorder_reading.) */
-enum { RECORDER_FIRST = 1, RECORDER_SECOND = 2 };
 
 /* ---- The device */
 
@@ -65,10 +59,10 @@ struct recorder_part {
 };
 
 /* The firmware keeps one, and lends it to each call. Each of its bytes is a field's, and any bytes are a device: elements past the 128th do not
-   count, a position above 8 is the first winding-up step, 5, and a reading other than 2 is the first. A number that says so already stays as it
-   is: a flag of 7 stays 7 while it is set. */
+   count, and a position above 8 is the first winding-up step, 5. A number that says so already stays as it is: a flag of 7 stays 7 while it is
+   set. */
 struct recorder_device {
-    struct recorder_part parts[128]; /* the table as built, with count, limit and reading: only recorder_make writes them */
+    struct recorder_part parts[128]; /* the table as built, with count and limit: only recorder_make writes them */
     uint64_t native, accessible;     /* the maximum addresses */
     uint64_t note_old, note_new;     /* with note_element, what the note holds while it is full */
     uint32_t note_element;
@@ -77,9 +71,7 @@ struct recorder_device {
     uint8_t note_full; /* a flag: a removal is under way */
     uint8_t failed;    /* a flag: the failed mark */
     uint32_t position; /* the next step, work 0 to 4, winding up 5 to 8; lost with power */
-    uint8_t healths[128];    /* as stored */
-    uint32_t failed_element; /* whose removal wound up last: what the failed mark names while it is set */
-    uint32_t reading;
+    uint8_t healths[128];
 };
 
 enum { RECORDER_LOCKED = 0, RECORDER_UNLOCKED = 1, RECORDER_FROZEN = 2 }; /* any other security state is locked */
@@ -101,8 +93,8 @@ struct recorder_written {
     uint8_t answer;
 };
 
-/* A new device of a list, for a reading, in the place of the one that was there, or 8. */
-uint8_t recorder_make(struct recorder_device *d, const struct recorder_element *list, size_t count, uint16_t limit, uint8_t reading);
+/* A new device of a list, in the place of the one that was there, or 8. */
+uint8_t recorder_make(struct recorder_device *d, const struct recorder_element *list, size_t count, uint16_t limit);
 
 /* Any command; a status page (12h) is written into the buffer. */
 uint8_t recorder_command(struct recorder_device *d, uint8_t security, uint8_t code, uint16_t feature, uint16_t count, uint64_t lba,
@@ -129,8 +121,7 @@ struct recorder_sense {
 
 struct recorder_sense recorder_sense(uint8_t number);
 
-/* ---- The host: pages, and SCSI data, which may be cut anywhere after its header. What an answer does not name is 0. `reading` is that of the
-   table; one other than 1 and 2 is refused as a request that is due 4 is: 9 at 0, or the older page. */
+/* ---- The host: pages, and SCSI data, which may be cut anywhere after its header. What an answer does not name is 0. */
 
 struct recorder_header {
     uint32_t number, returned, busy;
@@ -143,8 +134,7 @@ struct recorder_descriptor {
     uint64_t capacity; /* all ones: not reported */
 };
 
-/* What a reader says. 0: the header's numbers, how many descriptors are there whole, and whether one was cut through; 9: the place of the first
-   offence. */
+/* 0: the header's numbers, how many descriptors are there whole, and whether one was cut through; 9: the place of the first offence. */
 struct recorder_reading {
     size_t place;
     struct recorder_header header;
@@ -159,13 +149,13 @@ struct recorder_slot {
     uint8_t there;
 };
 
-struct recorder_reading recorder_read(const uint8_t *page, size_t size, struct recorder_request request, uint8_t reading);
+struct recorder_reading recorder_read(const uint8_t *page, size_t size, struct recorder_request request);
 struct recorder_slot recorder_descriptor(const uint8_t *page, size_t size, uint32_t k);
-struct recorder_reading recorder_scsi_read(const uint8_t *data, size_t size, struct recorder_query query, uint8_t reading);
+struct recorder_reading recorder_scsi_read(const uint8_t *data, size_t size, struct recorder_query query);
 struct recorder_slot recorder_scsi_descriptor(const uint8_t *data, size_t size, uint32_t k);
 
-/* A listing's whole text, or 7; a refused page's is the line that says so. It is judged as the answer to filter 0, report type 0 and start 0,
-   which is the same in both readings; more than 65,536 bytes are refused at 65536. A room of 80,000 bytes is always enough. */
+/* A listing's whole text, or 7; a refused page's is the line that says so. It is judged as the answer to filter 0, report type 0 and start 0;
+   more than 65,536 bytes are refused at 65536. A room of 80,000 bytes is always enough. */
 struct recorder_written recorder_list(const uint8_t *page, size_t size, uint8_t *out, size_t room);
 struct recorder_written recorder_scsi_list(const uint8_t *data, size_t size, uint8_t *out, size_t room);
 
@@ -175,10 +165,9 @@ struct recorder_converted {
     uint8_t answer;
 };
 
-struct recorder_converted recorder_to_scsi(const uint8_t *page, size_t size, struct recorder_request request, uint8_t reading, uint8_t *out,
-                                           size_t room);
-struct recorder_converted recorder_to_ata(const uint8_t *data, size_t size, struct recorder_query query, uint8_t reading, uint16_t pages,
-                                          uint8_t *out, size_t room);
+struct recorder_converted recorder_to_scsi(const uint8_t *page, size_t size, struct recorder_request request, uint8_t *out, size_t room);
+struct recorder_converted recorder_to_ata(const uint8_t *data, size_t size, struct recorder_query query, uint16_t pages, uint8_t *out,
+                                          size_t room);
 
 /* A walk over small pages. 0: whether it asks once more, and where that request starts; 9: the place of the first offence. `pages` is the next
    request's COUNT. */
@@ -189,7 +178,7 @@ struct recorder_move {
     uint8_t answer;
 };
 
-struct recorder_move recorder_next(const uint8_t *page, size_t size, struct recorder_request request, uint8_t reading);
+struct recorder_move recorder_next(const uint8_t *page, size_t size, struct recorder_request request);
 struct recorder_request recorder_next_request(struct recorder_request request, uint32_t start, uint16_t pages);
 
 /* ---- Two pages compared */
@@ -224,7 +213,7 @@ struct recorder_span {
 };
 
 struct recorder_opening recorder_open(const uint8_t *older, size_t older_size, const uint8_t *newer, size_t newer_size,
-                                      struct recorder_request request, uint8_t reading);
+                                      struct recorder_request request);
 
 /* These two are for pages that recorder_open accepted; others are answered too, in time that goes by what their headers say. */
 struct recorder_difference recorder_next_difference(const uint8_t *older, size_t older_size, const uint8_t *newer, size_t newer_size,
@@ -254,7 +243,7 @@ RECORDER_AT(recorder_part, unreported, 5);
 RECORDER_AT(recorder_part, spare, 6);
 RECORDER_AT(recorder_part, blocks, 8);
 
-RECORDER_SIZE(recorder_device, 2232);
+RECORDER_SIZE(recorder_device, 2224);
 RECORDER_AT(recorder_device, parts, 0);
 RECORDER_AT(recorder_device, native, 2048);
 RECORDER_AT(recorder_device, accessible, 2056);
@@ -267,8 +256,6 @@ RECORDER_AT(recorder_device, note_full, 2090);
 RECORDER_AT(recorder_device, failed, 2091);
 RECORDER_AT(recorder_device, position, 2092);
 RECORDER_AT(recorder_device, healths, 2096);
-RECORDER_AT(recorder_device, failed_element, 2224);
-RECORDER_AT(recorder_device, reading, 2228);
 
 #ifdef __cplusplus
 }

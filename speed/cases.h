@@ -1,17 +1,16 @@
 // The cases of `./recorder speed calls`: what is called, on which device, and what it may cost.
 //
 // Device  4 or 128 elements, 2, 4, 6 and so on, of health 70h: 2 is no storage, each other one has 1,000 blocks; limit 2. So many have been
-//         removed, from 4 on. One for the second reading has a failed mark, which names 4. Then, unless IDLE, a removal of the last one is
-//         under way, and this is its next step.
+//         removed, from 4 on. Then, unless IDLE, a removal of the last one is under way, and this is its next step.
 // Limits  copies of the table;
 //         instructions: so many, or, of a path that walks the table, per cent of plain C's, with 128 elements;
 //         bytes of stack.
-// Library Beside a lent call the library's may copy the table no more often, and take so many instructions more, and one an element; its stack is
-//         that of one frame, and for 12h in the front call that of the page, too. A page by itself has, around its frame, that of the function that C
+// Library Beside a lent call the library's may copy the table no more often, and take so many instructions more; its stack is that of one
+//         frame, and for 12h in the front call that of the page, too. A page by itself has, around its frame, that of the function that C
 //         calls, which puts down the request. Without a lent call it has the limits of the case.
 #include "kase.h"
 
-enum { MORE = 45, FRAME = 2624, AROUND = 24 };
+enum { MORE = 20, FRAME = 2560, AROUND = 24 };
 
 enum { LOCKED = RECORDER_LOCKED, UNLOCKED = RECORDER_UNLOCKED };
 
@@ -24,20 +23,17 @@ enum { LOCKED = RECORDER_LOCKED, UNLOCKED = RECORDER_UNLOCKED };
 // Of SEND: slow storage elements alone.
 #define SLOW .filter = 1, .type = 1
 
-// Of SHOW and SEND: a table for the second reading.
-#define LATER UNLOCKED, .is_second = 1
-
 static const struct kase cases[] = {
     // Call, path                      Device     Asked                                                     Limits
     {STEP, "no-removal",               0, IDLE,   {0},                                                      {0, UP_TO(100),  2560}},
-    {STEP, "work-1",                   0, WORK_1, {0},                                                      {0, UP_TO(120),  2560}},
-    {STEP, "work-2",                   0, WORK_2, {0},                                                      {0, UP_TO(120),  2560}},
+    {STEP, "work-1",                   0, WORK_1, {0},                                                      {0, UP_TO(100),  2560}},
+    {STEP, "work-2",                   0, WORK_2, {0},                                                      {0, UP_TO(100),  2560}},
     {STEP, "work-3-marking",           0, WORK_3, {0},                                                      {1, OF_C(120),   2560}},
-    {STEP, "work-4",                   0, WORK_4, {0},                                                      {0, UP_TO(120),  2560}},
+    {STEP, "work-4",                   0, WORK_4, {0},                                                      {0, UP_TO(100),  2560}},
     {STEP, "work-5",                   0, WORK_5, {0},                                                      {0, UP_TO(100),  2560}},
     {STEP, "wind-1",                   0, WIND_1, {0},                                                      {1, OF_C(120),   2560}},
     {STEP, "wind-2",                   0, WIND_2, {0},                                                      {1, OF_C(120),   2560}},
-    {STEP, "wind-3",                   0, WIND_3, {0},                                                      {0, UP_TO(120),  2560}},
+    {STEP, "wind-3",                   0, WIND_3, {0},                                                      {0, UP_TO(100),  2560}},
     {STEP, "wind-4",                   0, WIND_4, {0},                                                      {0, UP_TO(100),  2560}},
     {MEDIA_ERROR, "no-removal",        0, IDLE,   {0},                                                      {0, UP_TO(100),  2560}},
     {MEDIA_ERROR, "under-way",         0, WORK_3, {0},                                                      {0, UP_TO(100),  2560}},
@@ -71,23 +67,19 @@ static const struct kase cases[] = {
     {COMMAND, "7Ch-in-progress",       0, WORK_3, {UNLOCKED, .code = 0x7C, .element = LAST},                {0, UP_TO(200),  5120}},
     {COMMAND, "12h-1-page",            0, IDLE,   {UNLOCKED, .code = 0x12, .count = 1, .room = 512},        {1, OF_C(120),   5120}},
     {COMMAND, "12h-refused",           0, IDLE,   {UNLOCKED, .code = 0x12, .count = 0, .room = 512},        {0, UP_TO(200),  5120}},
-    {SHOW, "1-page",                   0, IDLE,   {UNLOCKED, .count = 1, .room = 512},                      {1, OF_C(110),   2624}},
-    {SHOW, "9-pages",                  0, IDLE,   {UNLOCKED, .count = 9, .room = 4608},                     {1, OF_C(110),   2624}},
-    {SHOW, "9-pages-filtered",         0, IDLE,   {UNLOCKED, .feature = 0x4100, .count = 9, .room = 4608},  {1, OF_C(110),   2624}},
-    {SHOW, "9-pages-second",           0, WORK_3, {LATER, .count = 9, .room = 4608},                        {2, OF_C(110),   2624}},
-    {SHOW, "filtered-second",          0, WORK_3, {LATER, .feature = 0x4100, .count = 9, .room = 4608},     {2, OF_C(110),   2624}},
-    {SHOW, "refused",                  0, IDLE,   {UNLOCKED, .count = 0, .room = 512},                      {0, UP_TO(100),  2624}},
-    {SHOW, "reserved-bit",             0, IDLE,   {UNLOCKED, .count = 1, .lba = 1ull << 32, .room = 512},   {0, UP_TO(100),  2624}},
-    {SHOW, "small-buffer",             0, IDLE,   {UNLOCKED, .count = 2, .room = 512},                      {0, UP_TO(100),  2624}},
-    {SEND, "whole",                    0, IDLE,   {.allocation = 4608, .room = 4608},                       {2, OF_C(100),   2624}},
-    {SEND, "filtered",                 0, IDLE,   {SLOW, .allocation = 4608, .room = 4608},                 {2, OF_C(100),   2624}},
-    {SEND, "second",                   0, WORK_3, {LATER, .allocation = 4608, .room = 4608},                {3, OF_C(100),   2624}},
-    {SEND, "filtered-second",          0, WORK_3, {LATER, SLOW, .allocation = 4608, .room = 4608},          {3, OF_C(100),   2624}},
-    {SEND, "512-bytes",                0, IDLE,   {.allocation = 512, .room = 512},                         {2, OF_C(100),   2624}},
-    {SEND, "cut-through",              0, IDLE,   {.allocation = 144, .room = 144},                         {2, OF_C(105),   2624}},
-    {SEND, "no-byte",                  0, IDLE,   {.allocation = 0, .room = 512},                           {2, OF_C(105),   2624}},
-    {SEND, "refused",                  0, IDLE,   {.filter = 2, .allocation = 512, .room = 512},            {0, UP_TO(100),  2624}},
-    {SEND, "small-buffer",             0, IDLE,   {.allocation = 512, .room = 100},                         {1, OF_C(125),   2624}},
+    {SHOW, "1-page",                   0, IDLE,   {UNLOCKED, .count = 1, .room = 512},                      {1, OF_C(110),   2560}},
+    {SHOW, "9-pages",                  0, IDLE,   {UNLOCKED, .count = 9, .room = 4608},                     {1, OF_C(110),   2560}},
+    {SHOW, "9-pages-filtered",         0, IDLE,   {UNLOCKED, .feature = 0x4100, .count = 9, .room = 4608},  {1, OF_C(110),   2560}},
+    {SHOW, "refused",                  0, IDLE,   {UNLOCKED, .count = 0, .room = 512},                      {0, UP_TO(100),  2560}},
+    {SHOW, "reserved-bit",             0, IDLE,   {UNLOCKED, .count = 1, .lba = 1ull << 32, .room = 512},   {0, UP_TO(100),  2560}},
+    {SHOW, "small-buffer",             0, IDLE,   {UNLOCKED, .count = 2, .room = 512},                      {0, UP_TO(100),  2560}},
+    {SEND, "whole",                    0, IDLE,   {.allocation = 4608, .room = 4608},                       {2, OF_C(100),   2560}},
+    {SEND, "filtered",                 0, IDLE,   {SLOW, .allocation = 4608, .room = 4608},                 {2, OF_C(100),   2560}},
+    {SEND, "512-bytes",                0, IDLE,   {.allocation = 512, .room = 512},                         {2, OF_C(100),   2560}},
+    {SEND, "cut-through",              0, IDLE,   {.allocation = 144, .room = 144},                         {2, OF_C(105),   2560}},
+    {SEND, "no-byte",                  0, IDLE,   {.allocation = 0, .room = 512},                           {2, OF_C(105),   2560}},
+    {SEND, "refused",                  0, IDLE,   {.filter = 2, .allocation = 512, .room = 512},            {0, UP_TO(100),  2560}},
+    {SEND, "small-buffer",             0, IDLE,   {.allocation = 512, .room = 100},                         {1, OF_C(115),   2560}},
     {LIST, "9-pages",                  0, IDLE,   {.count = 9, .room = 8192},                               {0, OF_C(120),   2560}},
     {LIST, "small-buffer",             0, IDLE,   {.count = 9, .room = 100},                                {0, OF_C(100),   2560}},
 };

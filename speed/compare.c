@@ -54,7 +54,7 @@ static char *put_comparison(char *to, size_t older_length, size_t newer_length)
 {
     if (check_listed(older, older_length) >= 0)
         return put_words(to, "refused 9 older\n");
-    if (check(newer, newer_length, request_for(older_length), RECORDER_FIRST) >= 0)
+    if (check(newer, newer_length, request_for(older_length)) >= 0)
         return put_words(to, "refused 9 newer\n");
     uint64_t end = nearer_of(reach_of(older), reach_of(newer));
     to = put_differences(to, end);

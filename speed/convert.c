@@ -12,8 +12,8 @@ static struct recorder_converted convert(size_t length, const char *pages)
     if (length > MOST_LISTED)
         return refused_at(MOST_LISTED);
     if (pages)
-        return to_ata(input, length, (struct recorder_query){0}, RECORDER_FIRST, decimal(pages), output, sizeof output);
-    return to_scsi(input, length, request_for(length), RECORDER_FIRST, output, sizeof output);
+        return to_ata(input, length, (struct recorder_query){0}, decimal(pages), output, sizeof output);
+    return to_scsi(input, length, request_for(length), output, sizeof output);
 }
 
 static int refuse(size_t place)

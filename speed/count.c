@@ -95,31 +95,22 @@ static void take_steps(struct recorder_device *d, int steps)
         plain_step(d);
 }
 
-static void make(struct recorder_device *d, int elements, uint8_t reading)
+static void make(struct recorder_device *d, int elements)
 {
     struct recorder_element list[128];
     for (int i = 0; i < elements; i++)
         list[i] = (struct recorder_element){.id = 2 * i + 2, .kind = i == 0 ? 2 : 1, .health = 0x70, .blocks = i == 0 ? 0 : 1000};
-    plain_make(d, list, elements, 2, reading);
-}
-
-static void wind_up(struct recorder_device *d, uint32_t id)
-{
-    plain_remove(d, UNLOCKED, 0, id, 0);
-    plain_power_cut(d);
-    take_steps(d, 4);
+    plain_make(d, list, elements, 2);
 }
 
 // The device of a case, brought there by plain C's calls.
 static void set_up(struct recorder_device *d, const struct kase *k, int elements)
 {
-    make(d, elements, k->asked.is_second ? RECORDER_SECOND : RECORDER_FIRST);
+    make(d, elements);
     for (int i = 1; i <= k->removed; i++) {
         plain_remove(d, UNLOCKED, 0, d->parts[i].id, 0);
         take_steps(d, 5);
     }
-    if (k->asked.is_second)
-        wind_up(d, identifier(SECOND, elements));
     if (k->step == IDLE)
         return;
     plain_remove(d, UNLOCKED, 0, identifier(LAST, elements), 0);
@@ -234,7 +225,7 @@ static int does_exceed_lent(const struct row *row)
     int frames = shows ? 2 * FRAME : row->kase->call == SHOW ? AROUND + FRAME : FRAME;
     int over = is_over(row, "copies of the table", p->tables, beside->tables);
     over |= is_over(row, "bytes of stack", p->stack, frames);
-    return over | is_over(row, "instructions", p->own, beside->own + MORE + row->elements);
+    return over | is_over(row, "instructions", p->own, beside->own + MORE);
 }
 
 // Prints a row, unless there is trouble, and says it.

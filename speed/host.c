@@ -37,17 +37,17 @@ static struct recorder_reading reading_of(const uint8_t *bytes, size_t whole, in
     return (struct recorder_reading){.header = header, .whole = whole, .torn = torn};
 }
 
-struct recorder_reading plain_read(const uint8_t *page, size_t size, struct recorder_request request, uint8_t reading)
+struct recorder_reading plain_read(const uint8_t *page, size_t size, struct recorder_request request)
 {
-    ssize_t offence = check(page, size, request, reading);
+    ssize_t offence = check(page, size, request);
     if (offence >= 0)
         return offence_at(offence);
     return reading_of(page, returned_of(page, LITTLE), 0, LITTLE);
 }
 
-struct recorder_reading plain_scsi_read(const uint8_t *data, size_t size, struct recorder_query query, uint8_t reading)
+struct recorder_reading plain_scsi_read(const uint8_t *data, size_t size, struct recorder_query query)
 {
-    ssize_t offence = check_data(data, size, query, reading);
+    ssize_t offence = check_data(data, size, query);
     if (offence >= 0)
         return offence_at(offence);
     return reading_of(data, whole_of(data, size), is_torn(data, size), BIG);
@@ -135,23 +135,22 @@ struct recorder_written plain_scsi_list(const uint8_t *data, size_t size, uint8_
 
 // ---- The conversions
 
-struct recorder_converted plain_to_scsi(const uint8_t *page, size_t size, struct recorder_request request, uint8_t reading, uint8_t *out,
-                                        size_t room)
+struct recorder_converted plain_to_scsi(const uint8_t *page, size_t size, struct recorder_request request, uint8_t *out, size_t room)
 {
-    return to_scsi(page, size, request, reading, out, room);
+    return to_scsi(page, size, request, out, room);
 }
 
-struct recorder_converted plain_to_ata(const uint8_t *data, size_t size, struct recorder_query query, uint8_t reading, uint16_t pages,
-                                       uint8_t *out, size_t room)
+struct recorder_converted plain_to_ata(const uint8_t *data, size_t size, struct recorder_query query, uint16_t pages, uint8_t *out,
+                                       size_t room)
 {
-    return to_ata(data, size, query, reading, pages, out, room);
+    return to_ata(data, size, query, pages, out, room);
 }
 
 // ---- The walk (request 2026-04)
 
-struct recorder_move plain_next(const uint8_t *page, size_t size, struct recorder_request request, uint8_t reading)
+struct recorder_move plain_next(const uint8_t *page, size_t size, struct recorder_request request)
 {
-    ssize_t offence = check(page, size, request, reading);
+    ssize_t offence = check(page, size, request);
     if (offence >= 0)
         return (struct recorder_move){.place = offence, .answer = 9};
     uint64_t last = reach(page, page + 32 * (size_t)returned_of(page, LITTLE));
@@ -189,12 +188,12 @@ static uint64_t reach_of(const struct page *p)
 }
 
 struct recorder_opening plain_open(const uint8_t *older, size_t older_size, const uint8_t *newer, size_t newer_size,
-                                   struct recorder_request request, uint8_t reading)
+                                   struct recorder_request request)
 {
     struct page a, b;
-    if (check(older, older_size, request, reading) >= 0)
+    if (check(older, older_size, request) >= 0)
         return (struct recorder_opening){.turn = RECORDER_OLDER, .answer = 9};
-    if (check(newer, newer_size, request, reading) >= 0)
+    if (check(newer, newer_size, request) >= 0)
         return (struct recorder_opening){.turn = RECORDER_NEWER, .answer = 9};
     enter(&a, older, older_size);
     enter(&b, newer, newer_size);

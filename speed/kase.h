@@ -14,7 +14,6 @@ struct asked {
     uint16_t feature, count;
     uint64_t lba;
     uint8_t filter, type; // Of SEND, which begins at identifier 0.
-    int is_second;        // The reading of the table that is asked.
     uint32_t allocation;
     size_t room;
     const uint8_t *page; // Of LIST, on COUNT pages: all elements of the device.

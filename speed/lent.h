@@ -8,17 +8,15 @@ static struct device lent;
 // The device in the proved record.
 static void lend(const struct recorder_device *d)
 {
-    struct mark failed = {d->failed, d->failed_element};
     struct note note = {d->note_full, {d->note_element, d->note_old, d->note_new}};
     memset(&lent, 0, sizeof lent);
     memcpy(lent.table.parts, d->parts, sizeof d->parts);
     lent.table.count = d->count;
     lent.table.limit = d->limit;
-    lent.table.is_second = d->reading == RECORDER_SECOND;
     lent.cells.native = d->native;
     lent.cells.accessible = d->accessible;
     memcpy(lent.cells.healths, d->healths, sizeof d->healths);
-    lent.cells.failed = failed;
+    lent.cells.failed = d->failed;
     lent.cells.note = note;
     lent.position = d->position;
 }
@@ -28,19 +26,16 @@ static const char *differs(const struct recorder_device *d)
 {
     const struct table *table = &lent.table;
     const struct cells *cells = &lent.cells;
-    const struct mark *failed = &cells->failed;
     const struct note *note = &cells->note;
     if (table->count != d->count || table->limit != d->limit)
         return "another count or limit than plain C";
-    if (table->is_second != (d->reading == RECORDER_SECOND))
-        return "another reading than plain C";
     if (memcmp(table->parts, d->parts, sizeof d->parts) != 0)
         return "another element than plain C";
     if (memcmp(cells->healths, d->healths, sizeof d->healths) != 0)
         return "another health than plain C";
     if (cells->native != d->native || cells->accessible != d->accessible)
         return "another address than plain C";
-    if (failed->is_set != d->failed || (failed->is_set && failed->element != d->failed_element))
+    if (cells->failed != d->failed)
         return "another failed mark than plain C";
     if (note->full != d->note_full)
         return "another note than plain C";

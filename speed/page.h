@@ -20,8 +20,13 @@ static inline uint64_t capacity_of(const uint8_t *descriptor, enum order order) 
 
 // ---- The checks: each answers with the place of the first offence, or -1
 
+static inline int passes(uint8_t filter, uint8_t health)
+{
+    return filter == 0 || (health >= 0x65 && health <= 0xCF) || health == 0xFF;
+}
+
 // The first `count` descriptors.
-static inline ssize_t check_list(const uint8_t *page, size_t count, enum order order, struct recorder_query query, uint8_t reading)
+static inline ssize_t check_list(const uint8_t *page, size_t count, enum order order, struct recorder_query query)
 {
     uint32_t last = 0;
     for (size_t at = 32; at < 32 + 32 * count; at += 32) {
@@ -33,7 +38,7 @@ static inline ssize_t check_list(const uint8_t *page, size_t count, enum order o
             return at + 13;
         if (query.report == 1 && type_of(descriptor) != 1)
             return at + 14;
-        if (!passes(query.filter, health_of(descriptor), reading))
+        if (!passes(query.filter, health_of(descriptor)))
             return at + 15;
         last = id;
     }
@@ -41,16 +46,16 @@ static inline ssize_t check_list(const uint8_t *page, size_t count, enum order o
 }
 
 // A page as the answer to a request.
-static inline ssize_t check(const uint8_t *page, size_t length, struct recorder_request request, uint8_t reading)
+static inline ssize_t check(const uint8_t *page, size_t length, struct recorder_request request)
 {
-    if (is_refused(request) || !is_reading(reading))
+    if (is_refused(request))
         return 0;
     if (length != 512 * (size_t)request.count)
         return 0;
     size_t number = number_of(page, LITTLE), most = 16 * (size_t)request.count - 1, returned = number < most ? number : most;
     if (returned_of(page, LITTLE) != returned)
         return 4;
-    ssize_t offence = check_list(page, returned, LITTLE, query_of(request), reading);
+    ssize_t offence = check_list(page, returned, LITTLE, query_of(request));
     if (offence >= 0)
         return offence;
     for (size_t at = 32 + 32 * returned; at < length; at++)
@@ -73,19 +78,18 @@ static inline int is_torn(const uint8_t *data, size_t length)
 }
 
 // SCSI data as the answer to a request.
-static inline ssize_t check_data(const uint8_t *data, size_t length, struct recorder_query query, uint8_t reading)
+static inline ssize_t check_data(const uint8_t *data, size_t length, struct recorder_query query)
 {
-    if (length < 32 || is_refused_query(query) || !is_reading(reading))
+    if (length < 32 || is_refused_query(query))
         return 0;
     if (returned_of(data, BIG) != number_of(data, BIG))
         return 4;
-    ssize_t offence = check_list(data, whole_of(data, length), BIG, query, reading);
+    ssize_t offence = check_list(data, whole_of(data, length), BIG, query);
     size_t end = 32 + 32 * (size_t)number_of(data, BIG);
     return offence < 0 && end < length ? (ssize_t)end : offence;
 }
 
-// What is listed: at most 65,536 bytes, as the answer to filter 0, report type 0 and start 0, and of a page for as many as the input has. Both
-// readings take the same then.
+// What is listed: at most 65,536 bytes, as the answer to filter 0, report type 0 and start 0, and of a page for as many as the input has.
 enum { MOST_LISTED = 65536 };
 
 static inline struct recorder_request request_for(size_t length)
@@ -95,12 +99,12 @@ static inline struct recorder_request request_for(size_t length)
 
 static inline ssize_t check_listed(const uint8_t *page, size_t length)
 {
-    return length > MOST_LISTED ? MOST_LISTED : check(page, length, request_for(length), RECORDER_FIRST);
+    return length > MOST_LISTED ? MOST_LISTED : check(page, length, request_for(length));
 }
 
 static inline ssize_t check_listed_data(const uint8_t *data, size_t length)
 {
-    return length > MOST_LISTED ? MOST_LISTED : check_data(data, length, (struct recorder_query){0}, RECORDER_FIRST);
+    return length > MOST_LISTED ? MOST_LISTED : check_data(data, length, (struct recorder_query){0});
 }
 
 // ---- The text

@@ -61,10 +61,10 @@ static uint64_t check_table(const struct recorder_element *list, size_t count, u
     return sum < 2 ? 0 : sum;
 }
 
-uint8_t plain_make(struct recorder_device *d, const struct recorder_element *list, size_t count, uint16_t limit, uint8_t reading)
+uint8_t plain_make(struct recorder_device *d, const struct recorder_element *list, size_t count, uint16_t limit)
 {
     uint64_t sum = check_table(list, count, limit);
-    if (sum == 0 || !is_reading(reading))
+    if (sum == 0)
         return 8;
     memset(d, 0, sizeof *d);
     for (size_t i = 0; i < count; i++) {
@@ -75,7 +75,6 @@ uint8_t plain_make(struct recorder_device *d, const struct recorder_element *lis
     d->native = d->accessible = sum - 1;
     d->count = count;
     d->limit = limit;
-    d->reading = reading;
     return 0;
 }
 
@@ -153,7 +152,6 @@ uint8_t plain_step(struct recorder_device *d)
     case WIND_3:
         if (!d->failed)
             d->failed = 1;
-        d->failed_element = d->note_element;
         break;
     default: // WORK_5, WIND_4
         d->note_full = 0;
@@ -216,27 +214,15 @@ uint8_t plain_grade(struct recorder_device *d, uint32_t id, uint8_t health)
 
 // ---- GET PHYSICAL ELEMENT STATUS (12h)
 
-// In the second reading an element that is not at FFh tells that its removal is under way, or was the last to be wound up (request 2026-07).
-static uint8_t shown_health(const struct recorder_device *d, size_t i)
-{
-    uint32_t id = d->parts[i].id;
-    uint8_t health = d->healths[i];
-    if (d->reading != RECORDER_SECOND || health == 0xFF)
-        return health;
-    if (d->note_full && id == d->note_element)
-        return 0xFE;
-    if (d->failed && id == d->failed_element)
-        return 0xFD;
-    return health;
-}
-
-static int does_ask(struct recorder_query q, const struct recorder_part *part, uint8_t health, uint32_t reading)
+static int does_ask(struct recorder_query q, const struct recorder_part *part, uint8_t health)
 {
     if (part->id < q.start)
         return 0;
     if (q.report == 1 && part->kind != 1)
         return 0;
-    return passes(q.filter, health, reading);
+    if (q.filter == 1)
+        return (health >= 0x65 && health <= 0xCF) || health == 0xFF;
+    return 1;
 }
 
 static void put_header(uint8_t *to, const struct recorder_device *d, size_t number, size_t returned, enum order order)
@@ -291,7 +277,7 @@ static size_t find_asked(const struct recorder_device *d, struct recorder_query 
     size_t number = 0, count = count_of(d);
     for (size_t i = 0; i < count; i++) {
         places[number] = i;
-        number += does_ask(query, &d->parts[i], shown_health(d, i), d->reading);
+        number += does_ask(query, &d->parts[i], d->healths[i]);
     }
     return number;
 }
@@ -314,7 +300,7 @@ uint8_t plain_show(const struct recorder_device *d, uint8_t security, struct rec
     size_t number = find_asked(d, query_of(request), places), returned = smaller(number, length / 32 - 1);
     put_header(buf, d, number, returned, LITTLE);
     for (size_t k = 0; k < returned; k++)
-        put_descriptor(buf + 32 + 32 * k, &d->parts[places[k]], shown_health(d, places[k]), LITTLE);
+        put_descriptor(buf + 32 + 32 * k, &d->parts[places[k]], d->healths[places[k]], LITTLE);
     put_zeros(buf + 32 + 32 * returned, buf + length);
     return 0;
 }
@@ -325,7 +311,7 @@ static size_t number_asked(const struct recorder_device *d, struct recorder_quer
 {
     size_t number = 0, count = count_of(d);
     for (size_t i = 0; i < count; i++)
-        number += does_ask(query, &d->parts[i], shown_health(d, i), d->reading);
+        number += does_ask(query, &d->parts[i], d->healths[i]);
     return number;
 }
 
@@ -345,13 +331,12 @@ struct recorder_written plain_send(const struct recorder_device *d, struct recor
         put_front(buf, row, length);
     }
     for (size_t i = 0, at = 32; at < length; i++) {
-        uint8_t health = shown_health(d, i);
-        if (!does_ask(query, &d->parts[i], health, d->reading))
+        if (!does_ask(query, &d->parts[i], d->healths[i]))
             continue;
         if (length - at >= 32)
-            put_descriptor(buf + at, &d->parts[i], health, BIG);
+            put_descriptor(buf + at, &d->parts[i], d->healths[i], BIG);
         else {
-            put_descriptor(row, &d->parts[i], health, BIG);
+            put_descriptor(row, &d->parts[i], d->healths[i], BIG);
             put_front(buf + at, row, length - at);
         }
         at += 32;

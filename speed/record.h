@@ -6,12 +6,6 @@ struct table {
     struct recorder_part parts[128];
     size_t count;
     uint16_t limit;
-    uint8_t is_second;
-};
-
-struct mark {
-    uint8_t is_set;
-    uint32_t element;
 };
 
 struct note {
@@ -25,7 +19,7 @@ struct note {
 struct cells {
     uint64_t native, accessible;
     uint8_t healths[128];
-    struct mark failed;
+    uint8_t failed;
     struct note note;
 };
 

@@ -1,4 +1,4 @@
-// A request for status pages in plain C: whether it is refused, by the device and by the reader alike, its fields, and what its filter takes.
+// A request for status pages in plain C: whether it is refused, by the device and by the reader alike, and its fields.
 #ifndef REQUEST_H
 #define REQUEST_H
 #include "../c/recorder.h"
@@ -19,18 +19,6 @@ static inline struct recorder_query query_of(struct recorder_request r)
 static inline int is_refused_query(struct recorder_query q)
 {
     return q.filter > 1 || q.report > 1;
-}
-
-// Whether a number is one of the two (request 2026-07).
-static inline int is_reading(uint8_t reading)
-{
-    return reading == RECORDER_FIRST || reading == RECORDER_SECOND;
-}
-
-// The highest healths tell of removals: FFh, and in the second reading FBh to FEh too.
-static inline int passes(uint8_t filter, uint8_t health, uint32_t reading)
-{
-    return filter == 0 || (health >= 0x65 && health <= 0xCF) || health >= (reading == RECORDER_SECOND ? 0xFB : 0xFF);
 }
 
 #endif

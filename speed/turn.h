@@ -40,10 +40,10 @@ static inline struct recorder_converted too_small(void) { return (struct recorde
 static inline struct recorder_converted refused_at(size_t place) { return (struct recorder_converted){.place = place, .answer = 9}; }
 
 // A page as the answer to a request.
-static inline struct recorder_converted to_scsi(const uint8_t *page, size_t length, struct recorder_request request, uint8_t reading,
-                                                uint8_t *to, size_t room)
+static inline struct recorder_converted to_scsi(const uint8_t *page, size_t length, struct recorder_request request, uint8_t *to,
+                                                size_t room)
 {
-    ssize_t offence = check(page, length, request, reading);
+    ssize_t offence = check(page, length, request);
     if (offence >= 0)
         return refused_at(offence);
     size_t number = number_of(page, LITTLE), size = 32 + 32 * number;
@@ -56,10 +56,10 @@ static inline struct recorder_converted to_scsi(const uint8_t *page, size_t leng
 }
 
 // SCSI data as the answer to a request, on so many pages.
-static inline struct recorder_converted to_ata(const uint8_t *data, size_t length, struct recorder_query query, uint8_t reading,
-                                               uint16_t pages, uint8_t *to, size_t room)
+static inline struct recorder_converted to_ata(const uint8_t *data, size_t length, struct recorder_query query, uint16_t pages, uint8_t *to,
+                                               size_t room)
 {
-    ssize_t offence = check_data(data, length, query, reading);
+    ssize_t offence = check_data(data, length, query);
     if (offence >= 0)
         return refused_at(offence);
     size_t number = number_of(data, BIG), end = 32 + 32 * number, size = 512 * (size_t)pages;

@@ -1,6 +1,6 @@
 // Makes the library's calls that fill a lent buffer, each followed by a write of the memory that `judge` watches: on a device of so many
 // elements, 2 to 128, pages of every count from 1 to 9 with every list from empty to full, some of them filtered, SCSI data whole and cut, and
-// refusals; before, during and after a removal, in each security state; and in the second reading, with a note and a failed mark.
+// refusals; before, during and after a removal, in each security state.
 // usage: calls ELEMENTS [lines | SLIP]
 //
 // `lines` says, for `judge`, what each call is to store. A SLIP is a wrong store that is made with each call, on purpose.
@@ -17,7 +17,7 @@ enum { MOST = 128, PLACES = 17, GUARD = 64, ROOM = 9 * 512 + 64 };
 enum { ALL = 0, STORAGE = 0x0100, SLOW = 0x4000 }; // FEATURE: every element, storage elements alone, slow ones alone.
 enum { STATES = 3 };                               // Status is told in every security state.
 
-static struct recorder_element table[MOST]; // With the healths that are shown.
+static struct recorder_element table[MOST];
 static size_t elements;
 static struct recorder_device device;
 static uint8_t state; // The security state of the next call.
@@ -47,7 +47,7 @@ struct asked {
 
 static int does_ask(const struct asked *a, const struct recorder_element *e)
 {
-    return (!(a->feature & STORAGE) || e->kind == 1) && (!(a->feature & SLOW) || (e->health >= 0x65 && e->health <= 0xCF) || e->health >= 0xFB);
+    return (!(a->feature & STORAGE) || e->kind == 1) && (!(a->feature & SLOW) || (e->health >= 0x65 && e->health <= 0xCF) || e->health == 0xFF);
 }
 
 // What it writes if it is not refused: 512 bytes a page, and of SCSI data as much of header and descriptors as the allocation takes.
@@ -121,8 +121,8 @@ static void call(struct asked a)
     size_t room = a.answer == RECORDER_SMALL_BUFFER ? length - 1 : calls % 3 == 0 ? length : ROOM; // Every third has room for no byte more.
     uint8_t *lent = memory + GUARD + calls++ % PLACES;
     if (is_told) {
-        printf("%lu %lu %s reading %u state %d pages %d feature %x start %lx allocation %u room %lu answer %d\n", stored, lent - memory,
-               names[a.call], device.reading, state, a.pages, a.feature, a.start, a.allocation, room, a.answer);
+        printf("%lu %lu %s state %d pages %d feature %x start %lx allocation %u room %lu answer %d\n", stored, lent - memory, names[a.call],
+               state, a.pages, a.feature, a.start, a.allocation, room, a.answer);
         return;
     }
     struct recorder_written w = ask(&a, slip == LATE ? elsewhere : lent, room);
@@ -202,49 +202,28 @@ static void call_data(uint16_t feature, size_t step)
 
 // ---- The run
 
-static void make(uint8_t reading)
+static void make(void)
 {
     for (size_t i = 0; i < elements; i++) {
         uint8_t kind = i % 5 == 4 ? 2 : 1;
         table[i] = (struct recorder_element){i + 1, kind, i * 37 % 0xD0, i % 7 == 3, 0, kind == 1 ? 2 + i * 123456789 : 0};
     }
-    if (recorder_make(&device, table, elements, 3, reading) != 0)
+    if (recorder_make(&device, table, elements, 3) != 0)
         trouble("no device is made of the table");
 }
 
-static void begin_removal(size_t i)
+// The first element.
+static void begin_removal(void)
 {
-    if (recorder_command(&device, RECORDER_UNLOCKED, 0x7C, 0, table[i].id, 0, elsewhere, 0) != 0)
+    if (recorder_command(&device, RECORDER_UNLOCKED, 0x7C, 0, table[0].id, 0, elsewhere, 0) != 0)
         trouble("the removal is refused");
 }
 
-static void take_steps(void)
+static void end_removal(void)
 {
     while (recorder_step(&device) == 0)
         ;
-}
-
-static void end_removal(size_t i)
-{
-    take_steps();
-    table[i].health = 0xFF;
-}
-
-static void wind_up_removal(size_t i)
-{
-    recorder_power_cut(&device);
-    take_steps();
-    table[i].health = 0xFD;
-}
-
-// Another device: the failed mark names its second element, and the note its first.
-static void make_second(void)
-{
-    make(RECORDER_SECOND);
-    begin_removal(1);
-    wind_up_removal(1);
-    begin_removal(0);
-    table[0].health = 0xFE;
+    table[0].health = 0xFF;
 }
 
 static int get_words(int count, char **words)
@@ -261,7 +240,7 @@ int main(int count, char **words)
 {
     if (!get_words(count, words))
         trouble("usage: calls ELEMENTS [lines | again | late | past | before | refused]");
-    make(RECORDER_FIRST);
+    make();
     if (is_told)
         printf("area\n");
     else
@@ -271,16 +250,11 @@ int main(int count, char **words)
     call_data(ALL, 1);
     call_pages(STORAGE, 5);
     call_data(STORAGE, 5);
-    begin_removal(0);
+    begin_removal();
     call_pages(SLOW, 5);
     call_data(SLOW, 5);
-    end_removal(0);
+    end_removal();
     call_pages(SLOW | STORAGE, 5);
     call_data(SLOW | STORAGE, 5);
-    make_second();
-    call_pages(ALL, elements / 2);
-    call_data(ALL, elements / 2);
-    call_pages(SLOW, elements / 2);
-    call_data(SLOW, elements / 2);
     return 0;
 }

@@ -143,14 +143,6 @@ static struct registers draw_wild(void)
 
 // ---- The front call
 
-// What tells of a removal where the device shows its healths in the second reading.
-static void count_told(void)
-{
-    const struct recorder_device *d = &ours.device;
-    if (d->reading == RECORDER_SECOND)
-        reach.told[(d->note_full != 0) + 2 * (d->failed != 0)]++;
-}
-
 static enum kind kind_of(uint8_t code) { return code == 0x7C ? REMOVE : code == 0x12 ? STATUS : OTHER; }
 
 static void call_with(struct registers r)
@@ -163,10 +155,8 @@ static void call_with(struct registers r)
     settle_answer(kind_of(r.code), our, their);
     compare_out();
     reach.accepted += !was_full && ours.device.note_full;
-    if (r.code == 0x12 && our == 0) {
-        count_told();
+    if (r.code == 0x12 && our == 0)
         keep_page((struct recorder_request){r.feature, r.count, r.lba}, 512 * (size_t)r.count);
-    }
 }
 
 static void call_remove(void) { call_with(draw_removal()); }
@@ -249,10 +239,8 @@ static void call_show(void)
     uint8_t our = recorder_show(&ours.device, r.security, request, our_buf(), lent.size);
     settle_answer(SHOW, our, plain_show(&theirs.device, r.security, request, their_buf(), lent.size));
     compare_out();
-    if (our == 0) {
-        count_told();
+    if (our == 0)
         keep_page(request, 512 * (size_t)r.count);
-    }
 }
 
 static struct recorder_query draw_query(void)
@@ -283,10 +271,8 @@ static void call_send(void)
     same("count", our.count, their.count);
     settle_answer(SEND, our.answer, their.answer);
     compare_out();
-    if (our.answer == 0) {
-        count_told();
+    if (our.answer == 0)
         keep_data(query, our.count);
-    }
 }
 
 static void call_sense(void)

@@ -77,10 +77,9 @@ static void call_read(void)
 {
     int which = pick_kept(0);
     struct recorder_request r = draw_request(which);
-    uint8_t reading = draw_reading();
-    ask((struct asked){"read", "page size feature count lba reading", {which, kept[which].size, r.feature, r.count, r.lba, reading}});
-    struct recorder_reading our = recorder_read(our_page(which), kept[which].size, r, reading);
-    struct recorder_reading their = plain_read(their_page(which), kept[which].size, r, reading);
+    ask((struct asked){"read", "page size feature count lba", {which, kept[which].size, r.feature, r.count, r.lba}});
+    struct recorder_reading our = recorder_read(our_page(which), kept[which].size, r);
+    struct recorder_reading their = plain_read(their_page(which), kept[which].size, r);
     same_readings(our, their);
     settle_answer(READ, our.answer, their.answer);
     compare_page(which);
@@ -90,11 +89,9 @@ static void call_scsi_read(void)
 {
     int which = pick_kept(1);
     struct recorder_query q = draw_host_query(which);
-    uint8_t reading = draw_reading();
-    ask((struct asked){"scsi_read", "page size filter report start reading",
-                       {which, kept[which].size, q.filter, q.report, q.start, reading}});
-    struct recorder_reading our = recorder_scsi_read(our_page(which), kept[which].size, q, reading);
-    struct recorder_reading their = plain_scsi_read(their_page(which), kept[which].size, q, reading);
+    ask((struct asked){"scsi_read", "page size filter report start", {which, kept[which].size, q.filter, q.report, q.start}});
+    struct recorder_reading our = recorder_scsi_read(our_page(which), kept[which].size, q);
+    struct recorder_reading their = plain_scsi_read(their_page(which), kept[which].size, q);
     same_readings(our, their);
     settle_answer(SCSI_READ, our.answer, their.answer);
     compare_page(which);
@@ -212,12 +209,10 @@ static void call_to_scsi(void)
     int which = pick_kept(0);
     size_t size = kept[which].size;
     struct recorder_request r = draw_request(which);
-    uint8_t reading = draw_reading();
     lend(draw_room(32 + 32 * load(our_page(which), 2, LITTLE)));
-    ask((struct asked){"to_scsi", "page size feature count lba reading room",
-                       {which, size, r.feature, r.count, r.lba, reading, lent.size}});
-    struct recorder_converted our = recorder_to_scsi(our_page(which), size, r, reading, our_buf(), lent.size);
-    struct recorder_converted their = plain_to_scsi(their_page(which), size, r, reading, their_buf(), lent.size);
+    ask((struct asked){"to_scsi", "page size feature count lba room", {which, size, r.feature, r.count, r.lba, lent.size}});
+    struct recorder_converted our = recorder_to_scsi(our_page(which), size, r, our_buf(), lent.size);
+    struct recorder_converted their = plain_to_scsi(their_page(which), size, r, their_buf(), lent.size);
     same_conversions(our, their);
     settle_answer(TO_SCSI, our.answer, their.answer);
     compare_out();
@@ -237,13 +232,11 @@ static void call_to_ata(void)
     int which = pick_kept(1);
     size_t size = kept[which].size;
     struct recorder_query q = draw_host_query(which);
-    uint8_t reading = draw_reading();
     uint16_t pages = draw_host_pages(size);
     lend(draw_room(512 * (size_t)pages));
-    ask((struct asked){"to_ata", "page size filter report start reading pages room",
-                       {which, size, q.filter, q.report, q.start, reading, pages, lent.size}});
-    struct recorder_converted our = recorder_to_ata(our_page(which), size, q, reading, pages, our_buf(), lent.size);
-    struct recorder_converted their = plain_to_ata(their_page(which), size, q, reading, pages, their_buf(), lent.size);
+    ask((struct asked){"to_ata", "page size filter report start pages room", {which, size, q.filter, q.report, q.start, pages, lent.size}});
+    struct recorder_converted our = recorder_to_ata(our_page(which), size, q, pages, our_buf(), lent.size);
+    struct recorder_converted their = plain_to_ata(their_page(which), size, q, pages, their_buf(), lent.size);
     same_conversions(our, their);
     settle_answer(TO_ATA, our.answer, their.answer);
     compare_out();
@@ -258,10 +251,9 @@ static void call_next(void)
 {
     int which = pick_kept(0);
     struct recorder_request r = draw_request(which);
-    uint8_t reading = draw_reading();
-    ask((struct asked){"next", "page size feature count lba reading", {which, kept[which].size, r.feature, r.count, r.lba, reading}});
-    struct recorder_move our = recorder_next(our_page(which), kept[which].size, r, reading);
-    struct recorder_move their = plain_next(their_page(which), kept[which].size, r, reading);
+    ask((struct asked){"next", "page size feature count lba", {which, kept[which].size, r.feature, r.count, r.lba}});
+    struct recorder_move our = recorder_next(our_page(which), kept[which].size, r);
+    struct recorder_move their = plain_next(their_page(which), kept[which].size, r);
     same("place", our.place, their.place);
     same("start", our.start, their.start);
     same("asks", our.asks, their.asks);
@@ -293,10 +285,9 @@ static void compare_pages(void)
 static void call_open(void)
 {
     struct recorder_request r = draw_request(below(2));
-    uint8_t reading = draw_reading();
-    ask((struct asked){"open", "older newer feature count lba reading", {kept[0].size, kept[1].size, r.feature, r.count, r.lba, reading}});
-    struct recorder_opening our = recorder_open(our_page(0), kept[0].size, our_page(1), kept[1].size, r, reading);
-    struct recorder_opening their = plain_open(their_page(0), kept[0].size, their_page(1), kept[1].size, r, reading);
+    ask((struct asked){"open", "older newer feature count lba", {kept[0].size, kept[1].size, r.feature, r.count, r.lba}});
+    struct recorder_opening our = recorder_open(our_page(0), kept[0].size, our_page(1), kept[1].size, r);
+    struct recorder_opening their = plain_open(their_page(0), kept[0].size, their_page(1), kept[1].size, r);
     same("end", our.end, their.end);
     same("cut", our.cut, their.cut);
     same("turn", our.turn, their.turn);

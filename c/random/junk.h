@@ -81,7 +81,7 @@ static void junk_health(void)
 static void junk_field(void)
 {
     struct recorder_device *d = &ours.device;
-    switch (below(13)) {
+    switch (below(11)) {
     case 0:
     case 1:
         junk_part();
@@ -107,12 +107,6 @@ static void junk_field(void)
         break;
     case 9:
         d->native = wild();
-        break;
-    case 10:
-        d->failed_element = draw_id();
-        break;
-    case 11:
-        d->reading = one_in(2) ? below(4) : wild();
         break;
     default:
         d->accessible = wild();

@@ -66,30 +66,22 @@ struct row {
     uint64_t capacity;
 };
 
-// The healths of a filtered list are those of one reading.
-static uint8_t draw_shown(uint8_t filter, uint8_t reading)
-{
-    if (filter == 0)
-        return ONE_OF(0, 0x64, 0x65, 0xCF, 0xD0, 0xFE, 0xFF);
-    return reading == RECORDER_FIRST ? ONE_OF(0x65, 0x70, 0xCF, 0xFF) : ONE_OF(0x65, 0x70, 0xCF, 0xFB, 0xFC, 0xFD, 0xFE, 0xFF);
-}
-
-static struct row draw_row(uint32_t id, struct recorder_request request, uint8_t reading)
+static struct row draw_row(uint32_t id, struct recorder_request request)
 {
     struct recorder_query query = query_of(request);
     struct row row = {.id = id};
     row.kind = query.report ? 1 : ONE_OF(1, 1, 2, 0xFF);
-    row.health = draw_shown(query.filter, reading);
+    row.health = query.filter ? ONE_OF(0x65, 0x70, 0xCF, 0xFF) : ONE_OF(0, 0x64, 0x65, 0xCF, 0xD0, 0xFE, 0xFF);
     row.flag = one_in(row.health == 0xFF ? 2 : 400);
     row.capacity = one_in(8) ? ~0ull : wild();
     return row;
 }
 
 // Another row of the same element: all of its values, or one of them.
-static void change_row(struct row *row, struct recorder_request request, uint8_t reading)
+static void change_row(struct row *row, struct recorder_request request)
 {
     if (one_in(2))
-        *row = draw_row(row->id, request, reading);
+        *row = draw_row(row->id, request);
     else if (row->health == 0xFF)
         row->flag ^= 1;
     else
@@ -121,16 +113,15 @@ static void put_heading(uint8_t *to, uint32_t number, uint32_t returned, enum or
 static void put_lists(size_t *counts, size_t most, enum order order)
 {
     struct recorder_request request = kept[0].request;
-    uint8_t reading = ONE_OF(RECORDER_FIRST, RECORDER_SECOND);
     uint32_t id = request.lba, far = ONE_OF(1, 1, 3, 1000);
     for (size_t rows = one_in(4) ? 2 * most : 1 + below(most); rows > 0; rows--) {
         id = counts[0] + 1 == most && one_in(8) ? 0xFFFFFFFF : id + 1 + below(far);
-        struct row row = draw_row(id, request, reading);
+        struct row row = draw_row(id, request);
         for (int which = 0; which < 2; which++) {
             if (counts[which] == most || one_in(8))
                 continue;
             if (which == 1 && one_in(4))
-                change_row(&row, request, reading);
+                change_row(&row, request);
             put_row(kept_bytes(which) + 32 + 32 * counts[which]++, row, order);
         }
     }

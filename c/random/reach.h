@@ -26,7 +26,6 @@ static struct {
     uint64_t found[KINDS][2];
     uint64_t accepted;                // Removals that have begun.
     uint64_t positions[3][POSITIONS]; // While a removal is under way: steps, errors and cuts at each.
-    uint64_t told[4];                 // Pages and data of the second reading: with neither note nor mark, one of them, both.
     uint64_t junk, on_junk;           // How often a record was junked, and calls on such records.
 } reach;
 
@@ -61,10 +60,7 @@ static void print_reach(void)
     print_positions("step", reach.positions[0]);
     print_positions("media_error", reach.positions[1]);
     print_positions("power_cut", reach.positions[2]);
-    printf("told by               none      note      mark      both\n%-16s", "second reading");
-    for (int by = 0; by < 4; by++)
-        printf(" %9lu", reach.told[by]);
-    printf("\nremovals accepted %lu records junked %lu calls on junk %lu\n", reach.accepted, reach.junk, reach.on_junk);
+    printf("removals accepted %lu records junked %lu calls on junk %lu\n", reach.accepted, reach.junk, reach.on_junk);
 }
 
 #endif

@@ -72,8 +72,8 @@ static const char *field_at(size_t place)
     static const struct {
         const char *name;
         size_t place;
-    } fields[] = {FIELD(healths), FIELD(reading), FIELD(failed_element), FIELD(position), FIELD(failed), FIELD(note_full), FIELD(limit),
-                  FIELD(count), FIELD(note_element), FIELD(note_new), FIELD(note_old), FIELD(accessible), FIELD(native), FIELD(parts)};
+    } fields[] = {FIELD(healths), FIELD(position), FIELD(failed), FIELD(note_full), FIELD(limit), FIELD(count),
+                  FIELD(note_element), FIELD(note_new), FIELD(note_old), FIELD(accessible), FIELD(native), FIELD(parts)};
     size_t i = 0;
     while (fields[i].place > place)
         i++;
@@ -118,9 +118,6 @@ static void compare_whole(void)
 // ---- The calls
 
 static int is_junk; // The record has been junked since the device was made.
-
-// What a call is told: a reading, mostly.
-static uint8_t draw_reading(void) { return one_in(16) ? below(256) : ONE_OF(RECORDER_FIRST, RECORDER_SECOND); }
 
 // Before each call.
 static void ask(struct asked call)

@@ -8,7 +8,6 @@
 static struct {
     size_t count;
     uint16_t limit;
-    uint8_t reading;
 } offer;
 
 // Small devices mostly: a big one costs more time.
@@ -85,7 +84,6 @@ static void draw_offer(void)
 {
     offer.count = draw_count();
     offer.limit = one_in(3) ? below(offer.count + 1) : ONE_OF(0, 0, 2, 128);
-    offer.reading = draw_reading();
     draw_records();
     if (one_in(4))
         add_slip();
@@ -95,9 +93,9 @@ static void draw_offer(void)
 static void call_make(void)
 {
     draw_offer();
-    ask((struct asked){"make", "count limit reading", {offer.count, offer.limit, offer.reading}});
-    uint8_t our = recorder_make(&ours.device, ours.list, offer.count, offer.limit, offer.reading);
-    settle_answer(MAKE, our, plain_make(&theirs.device, theirs.list, offer.count, offer.limit, offer.reading));
+    ask((struct asked){"make", "count limit", {offer.count, offer.limit}});
+    uint8_t our = recorder_make(&ours.device, ours.list, offer.count, offer.limit);
+    settle_answer(MAKE, our, plain_make(&theirs.device, theirs.list, offer.count, offer.limit));
     same("whether the offered table is as it was", memcmp(ours.list, theirs.list, sizeof ours.list), 0);
     if (our == 0)
         is_junk = 0;

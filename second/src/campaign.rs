@@ -8,7 +8,7 @@ use crate::cases::placements::{double, single, Placement};
 use crate::cases::random_dock::{random_dock, random_pages};
 use crate::cases::random_page::random_page;
 use crate::cases::random_pair::random_pair;
-use crate::cases::random_reading::random_reading_script;
+use crate::cases::random_walk::random_walk_script;
 use crate::cases::rng::Rng;
 use crate::cases::script_text::Text;
 use crate::library::{calls_without_difference, Library};
@@ -92,7 +92,7 @@ fn side_by_side(path: &str, seconds: u64, library: Option<Library>) -> io::Resul
 
 /// The script that a seed stands for.
 pub fn seeded_script(seed: u64) -> Vec<u8> {
-    random_reading_script(seed, LINES)
+    random_walk_script(seed, LINES)
 }
 
 /// The page that a seed stands for: small ones mostly.

@@ -1,5 +1,5 @@
 //! Document 01's bench examples, run on the bench, and some of requests 2026-03 to
-//! 2026-05 and 2026-07.
+//! 2026-05.
 
 use crate::cases::docks_size::example;
 use crate::cases::pages_size::g1;
@@ -11,8 +11,6 @@ use crate::rules::device::Device;
 use crate::rules::layout::Descriptor;
 use crate::rules::listing::{list, list_scsi};
 use crate::rules::reader::read;
-use crate::rules::reading::Reading;
-use crate::rules::removal::Security;
 use crate::rules::request::Registers;
 use crate::rules::table::Element;
 
@@ -28,11 +26,7 @@ const REFUSED: &str = "4 5/24/00";
 
 /// The answers of a fresh A to `script`, that of `make` left out.
 fn answers(script: &str) -> Vec<String> {
-    answers_after(MAKE_A, script)
-}
-
-fn answers_after(make: &str, script: &str) -> Vec<String> {
-    let text = run(format!("{}{}", make, script).as_bytes());
+    let text = run(format!("{}{}", MAKE_A, script).as_bytes());
     let mut lines = text.lines().map(String::from);
     assert_eq!(lines.next().as_deref(), Some(DONE));
     lines.collect()
@@ -58,7 +52,7 @@ const R6: &str = "command unlocked 7C 1 3 0 0\nstep\nstep\nstep\ncut\nstep\nstep
 fn r1() {
     leads_to(
         R1,
-        "limit 2 reading 1 native 2499 accessible 2499 failed - note - position work1",
+        "limit 2 native 2499 accessible 2499 failed 0 note - position work1",
         "00010003 01 FF 500 0",
     );
 }
@@ -75,17 +69,17 @@ fn r2_r3_r4() {
 fn r5_r6_r7() {
     leads_to(
         R5,
-        "limit 2 reading 1 native 2999 accessible 2999 failed 00010003 note - position work1",
+        "limit 2 native 2999 accessible 2999 failed 1 note - position work1",
         "00010003 01 70 500 0",
     );
     leads_to(
         R6,
-        "limit 2 reading 1 native 2499 accessible 2499 failed 00010003 note - position work1",
+        "limit 2 native 2499 accessible 2499 failed 1 note - position work1",
         "00010003 01 FF 500 0",
     );
     leads_to(
         &format!("{}command unlocked 7C 1 3 FFFFFFFFFFFF 0\n", R6),
-        "limit 2 reading 1 native 2499 accessible 2499 failed - note - position work1",
+        "limit 2 native 2499 accessible 2499 failed 0 note - position work1",
         "00010003 01 FF 500 0",
     );
 }
@@ -96,7 +90,7 @@ fn r8() {
     let script = format!("{}{}", R1, element_1);
     leads_to(
         &script,
-        "limit 2 reading 1 native 1499 accessible 1499 failed - note - position work1",
+        "limit 2 native 1499 accessible 1499 failed 0 note - position work1",
         "00000001 01 FF 1000 0",
     );
     let then = format!("{}command unlocked 7C 0 3 0 0\n", script);
@@ -321,18 +315,7 @@ fn walked_devices() -> Result<Vec<Device>, Answer> {
         .map(|k| storage(u32::MAX - 31 + k, 0x70, 9))
         .collect();
     tables.push(high);
-    let mut devices = Vec::new();
-    for reading in [Reading::First, Reading::Second] {
-        for table in &tables {
-            let mut device = Device::make(table, 0, reading)?;
-            // Its first element is noted, unless it is the only one.
-            let first = table[0].identifier;
-            let registers = Registers::new((first >> 16) as u16, first as u16, 0);
-            device.remove(Security::Unlocked, &registers);
-            devices.push(device);
-        }
-    }
-    Ok(devices)
+    tables.iter().map(|table| Device::make(table, 0)).collect()
 }
 
 /// The descriptors of the page that a device writes for a request.
@@ -340,8 +323,8 @@ fn listed(device: &Device, (feature, count, lba): Asked) -> Vec<Descriptor> {
     let registers = Registers::new(feature, count, lba);
     let mut page = vec![0; 512 * usize::from(count)];
     device.status(&registers, &mut page);
-    match read(&page, &registers, device.reading) {
-        Ok(contents) => contents.descriptors,
+    match read(&page, &registers) {
+        Ok(reading) => reading.descriptors,
         Err(place) => panic!("9 at {}", place),
     }
 }
@@ -421,157 +404,4 @@ fn the_start_of_a_laptop() {
     assert_eq!(empty("read 0 1 100000003"), "9 at 0");
     assert_eq!(empty("next 0 1 100000003"), "9 at 0");
     assert_eq!(empty("toscsi 0 1 100000003 20"), "9 at 0");
-}
-
-/// Request 2026-07: device A for a reading, its answers to `script`.
-fn answers_in(reading: Reading, script: &str) -> Vec<String> {
-    let make = format!("make 2 {}", reading.number());
-    answers_after(&MAKE_A.replace("make 2", &make), script)
-}
-
-/// The healths of elements 1, 3 and 0001_0003h in its page after `script`.
-fn shown(reading: Reading, script: &str) -> Vec<String> {
-    let whole = format!("{}command unlocked 12 0100 1 0 200\nread 0 1 0\n", script);
-    let all = answers_in(reading, &whole);
-    all[all.len() - 3..]
-        .iter()
-        .filter_map(|line| line.split(' ').nth(3))
-        .map(String::from)
-        .collect()
-}
-
-/// So many steps of R1, then `events`.
-fn part_of_r1(steps: usize, events: &str) -> String {
-    let accepted = "command unlocked 7C 1 3 0 0\n";
-    format!("{}{}{}", accepted, "step\n".repeat(steps), events)
-}
-
-/// "the noted element is shown as FEh until its marking store".
-#[test]
-fn fe_in_removal() {
-    for steps in 0..=5 {
-        let due = if steps < 3 { "FE" } else { "FF" };
-        let script = part_of_r1(steps, "");
-        assert_eq!(shown(Reading::Second, &script), ["20", "10", due]);
-        let stored = if steps < 3 { "70" } else { "FF" };
-        assert_eq!(shown(Reading::First, &script), ["20", "10", stored]);
-    }
-    // Winding up, up to its third step.
-    for wound in ["", "step\n", "step\nstep\n", "step\nstep\nstep\n"] {
-        let before = part_of_r1(2, &format!("cut\n{}", wound));
-        assert_eq!(shown(Reading::Second, &before), ["20", "10", "FE"]);
-        let after = part_of_r1(3, &format!("cut\n{}", wound));
-        assert_eq!(shown(Reading::Second, &after), ["20", "10", "FF"]);
-    }
-}
-
-/// "any other element that the mark names, if not at FFh, is shown as FDh": after R5,
-/// not after R6.
-#[test]
-fn fd_after_r5() {
-    assert_eq!(shown(Reading::Second, R5), ["20", "10", "FD"]);
-    assert_eq!(shown(Reading::First, R5), ["20", "10", "70"]);
-    assert_eq!(shown(Reading::Second, R6), ["20", "10", "FF"]);
-    let cells = answers_in(Reading::Second, &format!("{}cells\n", R5));
-    assert_eq!(
-        cells[8],
-        "limit 2 reading 2 native 2999 accessible 2999 failed 00010003 note - position work1"
-    );
-    // "The stored health is untouched".
-    assert_eq!(cells[11], "00010003 01 70 500 0");
-}
-
-/// After R5 a removal of element 3: both codes at once, the mark cleared by step 4.
-#[test]
-fn both_codes() {
-    let then = |script: &str| {
-        let script = format!("{}command unlocked 7C 0 3 0 0\n{}", R5, script);
-        shown(Reading::Second, &script)
-    };
-    let steps = |number: usize| "step\n".repeat(number);
-    assert_eq!(then(""), ["20", "FE", "FD"]);
-    assert_eq!(then("grade 3 66\ngrade 10003 11\n"), ["20", "FE", "FD"]);
-    assert_eq!(then(&steps(3)), ["20", "FF", "FD"]);
-    assert_eq!(then(&steps(4)), ["20", "FF", "70"]);
-    // The mark then names the one "whose removal wound up last".
-    assert_eq!(then(&format!("cut\n{}", steps(2))), ["20", "FE", "FD"]);
-    assert_eq!(then(&format!("cut\n{}", steps(3))), ["20", "FE", "70"]);
-    assert_eq!(then(&format!("cut\n{}", steps(4))), ["20", "FD", "70"]);
-    // Element 3 at FFh, R5 again: 7Ch for it clears the mark.
-    let again = format!("{}{}", steps(5), R5);
-    assert_eq!(then(&again), ["20", "FF", "FD"]);
-    let graded = format!("{}grade 10003 CF\n", again);
-    assert_eq!(then(&graded), ["20", "FF", "FD"]);
-    let cleared = format!("{}command unlocked 7C 0 3 0 0\n", graded);
-    assert_eq!(then(&cleared), ["20", "FF", "CF"]);
-}
-
-/// Element 3, stored at 10h, noted, and 0001_0003h marked: with filter 01b.
-#[test]
-fn filter_judges_what_is_shown() {
-    let asked = "command unlocked 7C 0 3 0 0\ncommand unlocked 12 4100 1 0 200\n";
-    let script = format!("{}{}read 4100 1 0\nread 4100 1 0 2\n", R5, asked);
-    let second = answers_in(Reading::Second, &script);
-    let expected = [
-        "0200000002000000030000000200000000000000000000000000000000000000",
-        "000000000300000000000000000001FEDC050000000000000000000000000000",
-        "000000000300010000000000000001FDF4010000000000000000000000000000",
-        "zeros 13",
-        "9 at 47",
-        "0",
-        "number 2 returned 2 busy 00000003 limit 2 removed 0",
-        "00000003 0 01 FE 1500",
-        "00010003 0 01 FD 500",
-    ];
-    assert_eq!(second[10..], expected);
-    let first = answers_in(Reading::First, &script);
-    let row = "00000000030001000000000000000170F4010000000000000000000000000000";
-    assert_eq!(first[11..13], [row, "zeros 14"]);
-    // The same as SCSI data.
-    let asked = "command unlocked 7C 0 3 0 0\nscsi 1 1 0 ffffffff 60\n";
-    let second = answers_in(Reading::Second, &format!("{}{}", R5, asked));
-    let expected = [
-        "bytes 96",
-        "0000000200000002000000030002000000000000000000000000000000000000",
-        "000000000000000300000000000001FE00000000000005DC0000000000000000",
-        "000000000001000300000000000001FD00000000000001F40000000000000000",
-    ];
-    assert_eq!(second[10..], expected);
-}
-
-/// 65h to CFh are 107 healths; FFh, or FBh to FFh, besides.
-#[test]
-fn filters_of_both_readings() {
-    let taken = |reading: Reading| (0..=0xFF).filter(move |&health| reading.lets_through(health));
-    assert_eq!(taken(Reading::First).count(), 108);
-    assert_eq!(taken(Reading::Second).count(), 112);
-    let more: Vec<u8> = taken(Reading::Second)
-        .filter(|&health| !Reading::First.lets_through(health))
-        .collect();
-    assert_eq!(more, [0xFB, 0xFC, 0xFD, 0xFE]);
-    for (health, first, second) in [
-        ("64", "9 at 47", "9 at 47"),
-        ("65", "end", "end"),
-        ("cf", "end", "end"),
-        ("d0", "9 at 47", "9 at 47"),
-        ("fa", "9 at 47", "9 at 47"),
-        ("fb", "9 at 47", "end"),
-        ("fe", "9 at 47", "end"),
-        ("ff", "end", "end"),
-    ] {
-        let page = "length 200\npoke 0 1\npoke 4 1\npoke 24 1\n";
-        let calls = format!("poke 2f {}\nnext 4000 1 0\nnext 4000 1 0 2\n", health);
-        let said = run(format!("{}{}", page, calls).as_bytes());
-        assert_eq!(said, format!("length 512\n{}\n{}\n", first, second));
-    }
-}
-
-/// `make LIMIT READING`, READING 1 or 2: any other is no call and keeps the list.
-#[test]
-fn reading_of_a_table() {
-    let script = "element 1 1 0 5 0\nmake 0 3\nmake 0 2\ncells\nmake 0 2\nmake 0 0\n";
-    let expected = "not a call\n0 0/00/00\n\
-        limit 0 reading 2 native 4 accessible 4 failed - note - position work1\n\
-        00000001 01 00 5 0\n8\nnot a call\n";
-    assert_eq!(run(script.as_bytes()), expected);
 }

@@ -151,6 +151,6 @@ mod tests {
     #[test]
     fn scripts_are_small() {
         let answers: usize = script_cases().iter().map(|one| run(&one.data).len()).sum();
-        assert!(answers <= 1_200_000, "{}", answers);
+        assert!(answers <= 1_000_000, "{}", answers);
     }
 }

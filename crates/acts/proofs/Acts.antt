@@ -10,7 +10,6 @@ use Rattle.arguments.specs.declared.Command.{Command}
 use Rattle.arguments.specs.declared.Grade.{Grade}
 use Rattle.arguments.specs.declared.Line.TheVariants as lines
 use Rattle.arguments.specs.declared.Line.{Line}
-use Rattle.arguments.specs.declared.Make.{Make}
 use Rattle.arguments.specs.declared.PageCall.{PageCall}
 use Rattle.arguments.specs.declared.Poke.{Poke}
 use Rattle.device.specs.Machine.{told}
@@ -37,9 +36,9 @@ module _ (b x : Bench) (z : Act) where
   pub event_act : (a : Answer) (e : Device) → x ≡ with_device b e → z ≡ act x (answered (number_of a)) → z ≡ after_event b (said a e)
   event_act a e is_x is_z = is_z ∙ ap (λ (y : Bench). act y (answered (number_of a))) is_x
 
-  pub offer_act : (m : Make) (o : Offer) (s : Stepped) → o ≡ offering b m.limit m.reading → said s.answer s.device ≡ made_of b.device o
-      → x ≡ after_making b s → z ≡ act x (answered (number_of s.answer)) → z ≡ after_offer b (made_of b.device (offering b m.limit m.reading))
-  offer_act m o s is_o so is_x is_z =
+  pub offer_act : (limit : ℕ) (o : Offer) (s : Stepped) → o ≡ offering b limit → said s.answer s.device ≡ made_of b.device o → x ≡ after_making b s
+      → z ≡ act x (answered (number_of s.answer)) → z ≡ after_offer b (made_of b.device (offering b limit))
+  offer_act limit o s is_o so is_x is_z =
       is_z ∙ ap (λ (y : Bench). act y (answered (number_of s.answer))) is_x ∙ ap (after_offer b) (so ∙ ap (made_of b.device) is_o)
 
 -- ## The front call

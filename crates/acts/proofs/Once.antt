@@ -16,9 +16,9 @@ reply_of (long_now n) = replies.Length n
 reply_of (answered n) = replies.Answer (answer_of_lem n)
 reply_of (commanded n room count) = replies.Command (record { answer = answer_of_lem n; room = room; count = count })
 reply_of cells = replies.Cells
-reply_of (reads p) = replies.Read p
-reply_of (walks p) = replies.Next p
-reply_of (reads_scsi p) = replies.ReadScsi p
+reply_of (reads q) = replies.Read q
+reply_of (walks q) = replies.Next q
+reply_of (reads_scsi q) = replies.ReadScsi q
 reply_of (docked a) = replies.Dock (docked_of a)
 
 undone : (r : Reply) → reply_of (heard r) ≡ r
@@ -30,9 +30,9 @@ undone (replies.Length n) = refl
 undone (replies.Answer a) = ap replies.Answer (answer_number a)
 undone (replies.Command l) = λ i. replies.Command (record { answer = answer_number l.answer i; room = l.room; count = l.count })
 undone replies.Cells = refl
-undone (replies.Read p) = refl
-undone (replies.Next p) = refl
-undone (replies.ReadScsi p) = refl
+undone (replies.Read q) = refl
+undone (replies.Next q) = refl
+undone (replies.ReadScsi q) = refl
 undone (replies.Dock d) = ap replies.Dock (docked_undone d)
 
 pub one-act : OneAct

@@ -4,7 +4,6 @@ use Rattle.acts.specs.declared.Acted.{Acted}
 use Rattle.acts.specs.declared.Reply.TheVariants as replies
 use Rattle.acts.specs.declared.Reply.{Reply}
 use Rattle.arguments.specs.declared.Command.{Command}
-use Rattle.arguments.specs.declared.DataRead.{DataRead}
 use Rattle.arguments.specs.declared.Dock.{Dock}
 use Rattle.arguments.specs.declared.DockCall.TheVariants as docks
 use Rattle.arguments.specs.declared.DockCall.{DockCall}
@@ -12,7 +11,6 @@ use Rattle.arguments.specs.declared.Line.TheVariants as lines
 use Rattle.arguments.specs.declared.Line.{Line}
 use Rattle.arguments.specs.declared.PageCall.TheVariants as calls
 use Rattle.arguments.specs.declared.PageCall.{PageCall}
-use Rattle.arguments.specs.declared.PageRead.{PageRead}
 use Rattle.arguments.specs.declared.Poke.{Poke}
 use Rattle.device.specs.Machine.{told}
 use Rattle.device.specs.declared.Device.{Device}
@@ -23,6 +21,8 @@ use Rattle.kept.specs.Kept as kept
 use Rattle.making.specs.Making.{made_of}
 use Rattle.paper.specs.Answers.{number_of}
 use Rattle.paper.specs.Told.{Told}
+use Rattle.query.specs.declared.Query.{Query}
+use Rattle.request.specs.declared.Request.{Request}
 use Rattle.slices.specs.Lists.{stored}
 use Rattle.workbench.specs.Changes as changes
 use Rattle.workbench.specs.Empty.{no_offer}
@@ -42,9 +42,9 @@ pub data Saying : Type 0 where
   -- that of the front call, how many bytes were lent, and how many of these it wrote
   commanded : ℕ → ℕ → ℕ → Saying
   cells : Saying
-  reads : PageRead → Saying
-  walks : PageRead → Saying
-  reads_scsi : DataRead → Saying
+  reads : Request → Saying
+  walks : Request → Saying
+  reads_scsi : Query → Saying
   -- that of a call for a SCSI host
   docked : dock.Answered → Saying
 
@@ -57,9 +57,9 @@ heard (replies.Length n) = long_now n
 heard (replies.Answer a) = answered (number_of a)
 heard (replies.Command l) = commanded (number_of l.answer) l.room l.count
 heard replies.Cells = cells
-heard (replies.Read p) = reads p
-heard (replies.Next p) = walks p
-heard (replies.ReadScsi p) = reads_scsi p
+heard (replies.Read q) = reads q
+heard (replies.Next q) = walks q
+heard (replies.ReadScsi q) = reads_scsi q
 heard (replies.Dock d) = docked (dock.heard d)
 
 -- the bench after a line, and what it says
@@ -107,9 +107,9 @@ poke_saying p before = cond (leb before p.place) outside nothing
 abbrev pub page_saying : PageCall → ℕ → ℕ → Saying
 page_saying (calls.Length n) before after = long_now after
 page_saying (calls.Poke p) before after = poke_saying p before
-page_saying (calls.Read p) before after = reads p
-page_saying (calls.Next p) before after = walks p
-page_saying (calls.ReadScsi p) before after = reads_scsi p
+page_saying (calls.Read q) before after = reads q
+page_saying (calls.Next q) before after = walks q
+page_saying (calls.ReadScsi q) before after = reads_scsi q
 
 abbrev pub after_page : Bench → PageCall → List ℕ → Act
 after_page b c page = let n = kept.keptAfter c b.kept page in act (changes.withKept b n) (page_saying c b.kept n)
@@ -139,7 +139,7 @@ abbrev pub act_of : Bench → Line → List ℕ → List ℕ → Act
 act_of b lines.Passed page lent = act b nothing
 act_of b lines.NotACall page lent = act b not_acall
 act_of b (lines.Element e) page lent = act (changes.withRecord b e) nothing
-act_of b (lines.Make m) page lent = after_offer b (made_of b.device (changes.offering b m.limit m.reading))
+act_of b (lines.Make limit) page lent = after_offer b (made_of b.device (changes.offering b limit))
 act_of b (lines.Command c) page lent = after_command b c page lent
 act_of b (lines.Bare e) page lent = after_event b (told b.device (bare_event e))
 act_of b (lines.Grade g) page lent = after_event b (told b.device (grade_event g))
@@ -152,7 +152,7 @@ abbrev pub page_of : Bench → Line → List ℕ → List ℕ → List ℕ
 page_of b lines.Passed page lent = page
 page_of b lines.NotACall page lent = page
 page_of b (lines.Element e) page lent = page
-page_of b (lines.Make m) page lent = page
+page_of b (lines.Make limit) page lent = page
 page_of b (lines.Command c) page lent = kept_page b c page lent
 page_of b (lines.Bare e) page lent = page
 page_of b (lines.Grade g) page lent = page
@@ -165,7 +165,7 @@ abbrev pub lent_of : Bench → Line → List ℕ → List ℕ → List ℕ
 lent_of b lines.Passed page lent = lent
 lent_of b lines.NotACall page lent = lent
 lent_of b (lines.Element e) page lent = lent
-lent_of b (lines.Make m) page lent = lent
+lent_of b (lines.Make limit) page lent = lent
 lent_of b (lines.Command c) page lent = front.lentAfter b.device c lent
 lent_of b (lines.Bare e) page lent = lent
 lent_of b (lines.Grade g) page lent = lent
@@ -178,7 +178,7 @@ lent_of b (lines.Dock c) page lent = dock_lent b c page lent
 -- `scsi` alone: "`scsiread`, `toscsi` and `toata` need no device"
 abbrev pub asks_device : DockCall → Bool
 asks_device (docks.Send s) = true
-asks_device (docks.ToScsi p) = false
+asks_device (docks.ToScsi q) = false
 asks_device (docks.ToAta t) = false
 
 -- "`command`, `scsi`, `step`, `error`, `cut`, the resets, `grade` and `cells` answer `no device`"
@@ -186,7 +186,7 @@ abbrev pub needs_device : Line → Bool
 needs_device lines.Passed = false
 needs_device lines.NotACall = false
 needs_device (lines.Element e) = false
-needs_device (lines.Make m) = false
+needs_device (lines.Make limit) = false
 needs_device (lines.Command c) = true
 needs_device (lines.Bare e) = true
 needs_device (lines.Grade g) = true

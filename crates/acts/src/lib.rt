@@ -7,10 +7,12 @@ ghost use Rattle.paper.specs.Told.{said};
 ghost use Rattle.workbench.specs.Changes.{offering};
 ghost use Rattle.acts.specs.Acts as paper;
 
-use arguments::{Command, DataRead, Dock, DockCall, Line, Make, PageCall, PageRead, Poke};
+use arguments::{Command, Dock, DockCall, Line, PageCall, Poke};
 use device::Stepped;
 use docking::Docked;
 use paper::Answer;
+use query::Query;
+use request::Request;
 use workbench::Bench;
 
 // An answer over a lent buffer of `room` bytes, of which it wrote the first `count`.
@@ -32,9 +34,9 @@ pub enum Reply {
     Answer(Answer),
     Command(Lent),
     Cells,
-    Read(PageRead),
-    Next(PageRead),
-    ReadScsi(DataRead),
+    Read(Request),
+    Next(Request),
+    ReadScsi(Query),
     Dock(Docked),
 }
 
@@ -61,12 +63,11 @@ fn after(bench: Bench, s: Stepped) -> Acted
 }
 
 // Offers the list and empties it.
-fn make(bench: Bench, m: Make) -> Acted
-    ensures { paper.acted result ≡ paper.afterOffer bench (made_of bench.device (offering bench m.limit m.reading)) }
+fn make(bench: Bench, limit: u16) -> Acted
+    ensures { paper.acted result ≡ paper.afterOffer bench (made_of bench.device (offering bench limit)) }
 {
     let there = bench.device;
-    let reading = m.reading;
-    let s = making::make_device(there, bench.offering(m.limit, reading));
+    let s = making::make_device(there, bench.offering(limit));
     let answer = s.answer;
     replied(bench.after_making(s), Reply::Answer(answer))
 }
@@ -100,9 +101,9 @@ fn page_reply(call: PageCall, kept: usize, after: usize) -> Reply
     match call {
         PageCall::Length(_) => Reply::Length(after),
         PageCall::Poke(p) => poke_reply(p, kept),
-        PageCall::Read(p) => Reply::Read(p),
-        PageCall::Next(p) => Reply::Next(p),
-        PageCall::ReadScsi(p) => Reply::ReadScsi(p),
+        PageCall::Read(request) => Reply::Read(request),
+        PageCall::Next(request) => Reply::Next(request),
+        PageCall::ReadScsi(query) => Reply::ReadScsi(query),
     }
 }
 
@@ -188,7 +189,7 @@ fn obey(bench: Bench, line: Line, page: &mut [u8], lent: &mut [u8]) -> Acted
         Line::Passed => replied(bench, Reply::Nothing),
         Line::NotACall => replied(bench, Reply::NotACall),
         Line::Element(e) => replied(bench.offer(e), Reply::Nothing),
-        Line::Make(m) => make(bench, m),
+        Line::Make(limit) => make(bench, limit),
         Line::Command(c) => command(bench, c, page, lent),
         Line::Bare(b) => after(bench, events::bare(d, b)),
         Line::Grade(g) => after(bench, events::graded(d, g)),

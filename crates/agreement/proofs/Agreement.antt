@@ -9,7 +9,6 @@ use lib.Dec.{ltb}
 use lib.ListN.{length, get_or, take, replicate, length-take, length-map, get_or-replicate, get_or-map}
 use lib.Seq.{get_or-append-add, get_or-take}
 use borrow.Author.Tests.{lt-ltb, leb-true}
-use Rattle.cells.specs.declared.Mark.{Mark}
 use Rattle.cells.specs.declared.Note.TheVariants.{Empty, Full}
 use Rattle.cells.specs.declared.Note.{Note}
 use Rattle.cells.specs.declared.Removal.{Removal}
@@ -25,9 +24,6 @@ use Rattle.offences.specs.Checks.{base_of, descriptor_at, last_before}
 use Rattle.paper.specs.Elements.{removed_health}
 use Rattle.paper.specs.Flags.{is_on}
 use Rattle.paper.specs.Told.{tells}
-use Rattle.paper.specs.declared.ElementId.{ElementId}
-use Rattle.paper.specs.declared.Reading.TheVariants.{First, Second}
-use Rattle.paper.specs.declared.Reading.{Reading}
 use Rattle.reader.proofs.LayoutTheorem.{and_both, asked_to, type_exactly, health_exactly}
 use Rattle.reader.proofs.Taken.{Listed, Taken, takes}
 use Rattle.reader.specs.Judgement.{header, slot_of}
@@ -41,7 +37,7 @@ use Rattle.status.proofs.EveryPage.{list_ascends, whole_pages}
 use Rattle.status.specs.Page.{shown_at, shown_all, list_of, headed, header_of, page_of}
 use Rattle.table.specs.Elements.{live, blank_part, identifiers, size, ascending, removed_count}
 use Rattle.table.specs.declared.Part.{Part}
-use Rattle.view.specs.Shown.{notes, names, shown_health, shown_of, asks, busy_of}
+use Rattle.view.specs.Shown.{shown_of, asks, busy_of}
 use Rattle.words.specs.declared.Order.TheVariants.{Little}
 use Rattle.words.specs.declared.Order.{Order}
 use Rattle.agreement.specs.Agreement.{Agrees}
@@ -49,26 +45,13 @@ use Rattle.agreement.proofs.Lists.{before, ascending_at}
 
 -- ## An element
 
--- a shown health is the stored one, FEh or FDh
-one-fits : (a b c : Bool) (h : ℕ) → h < 2 ^ 8 → cond a h (cond b 0xFE (cond c 0xFD h)) < 2 ^ 8
-one-fits true b c h low = low
-one-fits false true c h low = omega arith
-one-fits false false true h low = omega arith
-one-fits false false false h low = low
-
-health_fits : (v : Reading) (n : Note) (m : Mark) (id : ElementId) (h : ℕ) → h < 2 ^ 8 → shown_health v n m id h < 2 ^ 8
-unfolding shown_health
-health_fits First n m id h low = low
-health_fits Second n m id h low = one-fits (removed_health h) (notes n id) (names m id) h low
-
 capacity_fits : (b : Bool) (n : ℕ) → n < 2 ^ 64 → cond b (2 ^ 64 - 1) n < 2 ^ 64
 capacity_fits true n h = omega arith
 capacity_fits false n h = h
 
 descriptor_fits : (p : Part) (h : ℕ) → PartFits p → h < 2 ^ 8 → DescriptorFits (shown_of p h)
 unfolding shown_of
-descriptor_fits p h f low =
-    record { id = f.id; kind = f.kind; health = low; capacity = capacity_fits (is_on p.unreported) p.blocks f.blocks }
+descriptor_fits p h f low = record { id = f.id; kind = f.kind; health = low; capacity = capacity_fits (is_on p.unreported) p.blocks f.blocks }
 
 busy_fits : (n : Note) → ((w : Removal) → n ≡ Full w → w.element.0 < 2 ^ 32) → busy_of n < 2 ^ 32
 busy_fits Empty noted = omega arith
@@ -88,9 +71,9 @@ unfolding shown_of
 bit_clear d n = every_below (λ (x : Descriptor). x.restorable ≡ false) (shown_at d) n (λ i _. refl)
 
 -- an element that the request asks for keeps the rules of its place
-asked-listed : (v : Reading) (q : Request) (last : ℕ) (x : Descriptor) → asks v q x ≡ true → x.restorable ≡ false → last < x.id.0 → Listed v q last x
+asked-listed : (q : Request) (last : ℕ) (x : Descriptor) → asks q x ≡ true → x.restorable ≡ false → last < x.id.0 → Listed q last x
 unfolding asks
-asked-listed v q last x a clear up =
+asked-listed q last x a clear up =
     let id = and_both (takes_id q x.id.0) _ a in
     let rest = and_both (takes_type (report_type_of q) x.kind) _ id.1 in
     record {
@@ -99,7 +82,7 @@ asked-listed v q last x a clear up =
       rises = up;
       earned = λ r. absurd (false≢true (sym clear ∙ r));
       typed = (type_exactly (report_type_of q) x.kind).0 rest.0;
-      filtered = (health_exactly v (filter_of q) x.health).0 rest.1;
+      filtered = (health_exactly (filter_of q) x.health).0 rest.1;
     }
 
 get_d_there : {A : Type 0} (l : List A) (k : ℕ) (x y : A) → k < length l → get_or l k x ≡ get_or l k y
@@ -116,10 +99,7 @@ id_of x = x.id.0
 -- ## The list of a request
 
 module _ (d : Device) (q : Request) (fits : Fits d) where
-  abbrev v : Reading
-  v = d.table.reading
-
-  list_is : list_of d q ≡ keep (asks v q) (shown_all d)
+  list_is : list_of d q ≡ keep (asks q) (shown_all d)
   unfolding list_of
   list_is = refl
 
@@ -128,23 +108,23 @@ module _ (d : Device) (q : Request) (fits : Fits d) where
 
   pub few : length (list_of d q) ≤ 128
   few =
-      let h = length-keep (asks v q) (shown_all d) in
+      let h = length-keep (asks q) (shown_all d) in
       let all : length (shown_all d) ≡ size d.table = length-map (up_to (size d.table)) (shown_at d) ∙ length-up_to (size d.table) in
       rw list_is (omega (arith, h, all, size_few))
 
   pub list_fits : Every DescriptorFits (list_of d q)
   list_fits =
-      rw list_is (every_keep DescriptorFits (asks v q) (shown_all d)
+      rw list_is (every_keep DescriptorFits (asks q) (shown_all d)
       (every_below DescriptorFits (shown_at d) (size d.table) (λ i h.
       let place : i < length (live d.table) = rw (← length-map (live d.table) (λ (p : Part). p.id.0)) h in
       descriptor_fits _ _ (every_at PartFits (live d.table) i blank_part place (every_take PartFits d.table.count d.table.parts fits.each))
-      (health_fits v d.cells.note d.cells.failed _ _ (every_at (λ (x : ℕ). x < 2 ^ 8) d.cells.healths i 0 (omega (arith, h, size_few, fits.celled)) fits.healths)))))
+      (every_at (λ (x : ℕ). x < 2 ^ 8) d.cells.healths i 0 (omega (arith, h, size_few, fits.celled)) fits.healths))))
 
-  list_asked : Every (λ (x : Descriptor). asks v q x ≡ true) (list_of d q)
-  list_asked = rw list_is (kept_all (asks v q) (shown_all d))
+  list_asked : Every (λ (x : Descriptor). asks q x ≡ true) (list_of d q)
+  list_asked = rw list_is (kept_all (asks q) (shown_all d))
 
   list_clear : Every (λ (x : Descriptor). x.restorable ≡ false) (list_of d q)
-  list_clear = rw list_is (every_keep (λ (x : Descriptor). x.restorable ≡ false) (asks v q) (shown_all d) (bit_clear d (size d.table)))
+  list_clear = rw list_is (every_keep (λ (x : Descriptor). x.restorable ≡ false) (asks q) (shown_all d) (bit_clear d (size d.table)))
 
   pub header_fits : (n r : ℕ) → n ≤ 128 → r ≤ 128 → HeaderFits (headed n r d.cells.note d.table.limit (removed_number d))
   header_fits n r few_n few_r =
@@ -168,15 +148,15 @@ module _ (d : Device) (q : Request) (fits : Fits d) where
     last_here zero l = refl
     last_here (suc k) l = ap id_of (here k (omega arith)) ∙ sym (id_at k (omega arith))
 
-    pub list_here : (k : ℕ) → k < n → Listed v q (last_before o s k) (descriptor_at o s k)
+    pub list_here : (k : ℕ) → k < n → Listed q (last_before o s k) (descriptor_at o s k)
     list_here k l =
         let e = get_or (list_of d q) k none in
-        let asked : asks v q e ≡ true = every_at (λ (x : Descriptor). asks v q x ≡ true) (list_of d q) k none (omega arith) list_asked in
+        let asked : asks q e ≡ true = every_at (λ (x : Descriptor). asks q x ≡ true) (list_of d q) k none (omega arith) list_asked in
         let clear : e.restorable ≡ false = every_at (λ (x : Descriptor). x.restorable ≡ false) (list_of d q) k none (omega arith) list_clear in
         let up : before 0 (map id_of (list_of d q)) k < id_of e =
         subst (λ (m : ℕ). before 0 (map id_of (list_of d q)) k < m) (id_at k l) (ascending_at 0 (map id_of (list_of d q)) k (rw (length-map (list_of d q) id_of) (omega arith)) (list_ascends d q asc)) in
-        subst (λ (x : Descriptor). Listed v q (last_before o s k) x) (sym (here k l))
-        (subst (λ (m : ℕ). Listed v q m e) (sym (last_here k l)) (asked-listed v q (before 0 (map id_of (list_of d q)) k) e asked clear up))
+        subst (λ (x : Descriptor). Listed q (last_before o s k) x) (sym (here k l))
+        (subst (λ (m : ℕ). Listed q m e) (sym (last_here k l)) (asked-listed q (before 0 (map id_of (list_of d q)) k) e asked clear up))
 
 -- ## The page
 
@@ -218,7 +198,7 @@ module _ (d : Device) (q : Request) (fits : Fits d) (asc : ascending 0 (identifi
   returned_here : (header_in Little (page_of d q)).returned ≡ n
   returned_here = ap (λ (h : Header). h.returned) header_here
 
-  keeps_lem : Taken Little d.table.reading (page_of d q) q
+  keeps_lem : Taken Little (page_of d q) q
   keeps_lem =
       record {
         asked = asked_to q ok;
@@ -235,4 +215,4 @@ module _ (d : Device) (q : Request) (fits : Fits d) (asc : ascending 0 (identifi
 
 pub agrees : Agrees
 agrees d q fits asc ok =
-    (takes Little d.table.reading (page_of d q) q (keeps_lem d q fits asc ok) ∙ ap (λ (h : Header). tells 0 (header h)) (header_here d q fits asc ok), slot_here d q fits asc ok)
+    (takes Little (page_of d q) q (keeps_lem d q fits asc ok) ∙ ap (λ (h : Header). tells 0 (header h)) (header_here d q fits asc ok), slot_here d q fits asc ok)

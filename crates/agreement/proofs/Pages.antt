@@ -1,31 +1,26 @@
 -- Document 01's examples G1 to G4, G2 as request 2026-05 mends it, the 16 matching elements, and the page's edges: each answer, and the whole
--- buffer afterwards, in either reading. Then the later health codes of request 2026-07.
+-- buffer afterwards.
 use Prim.Native.Nat.{ℕ}
-use mathlib.Core.List.{List, [], ◌∷◌, ◌++◌, map}
+use mathlib.Core.List.{List, [], ◌∷◌, ◌++◌}
 use mathlib.Core.Path.{◌≡◌, refl}
 use lib.ListN.{replicate, take, drop}
 use Rattle.cells.specs.Cells.{is_set}
 use Rattle.cells.specs.Sights.{see_in}
-use Rattle.cells.specs.declared.Mark.TheVariants.{Names}
-use Rattle.device.specs.Machine.{Event}
 use Rattle.device.specs.declared.Device.{Device}
 use Rattle.layout.specs.Examples.{zeros, page_g1}
-use Rattle.layout.specs.declared.Descriptor.{Descriptor}
-use Rattle.making.specs.Examples.{device_a, run, remove, steps, cut_after, R5, R6}
+use Rattle.making.specs.Examples.{device_a, run, remove, steps}
 use Rattle.making.specs.Making.{fresh}
 use Rattle.offer.specs.Elements.{blank}
 use Rattle.offer.specs.Examples.{element}
 use Rattle.offer.specs.declared.Element.{Element}
-use Rattle.paper.specs.Told.{Told, tells}
-use Rattle.paper.specs.declared.Reading.TheVariants.{First, Second}
-use Rattle.paper.specs.declared.Reading.{Reading}
+use Rattle.paper.specs.Told.{tells}
 use Rattle.paper.specs.declared.Security.TheVariants.{Locked, Unlocked}
 use Rattle.removal.specs.Remove.{judge_room, judge_found}
 use Rattle.request.specs.Requests.{refused, takes_health}
 use Rattle.request.specs.declared.Request.{Request}
 use Rattle.status.specs.Page.{list_of, page_of, shown}
 use Rattle.table.specs.Search.{sight_in}
-use Rattle.view.specs.Shown.{shown_health, shown_of, asks}
+use Rattle.view.specs.Shown.{shown_of, asks}
 
 abbrev request : ℕ → ℕ → ℕ → Request
 request feature count lba = record { feature = feature; count = record { 0 = count }; lba = record { 0 = lba } }
@@ -42,100 +37,56 @@ abbrev descriptor : ℕ → List ℕ
 descriptor health = zeros 4 ++ (0x03 ∷ 0x00 ∷ 0x01 ∷ 0x00 ∷ zeros 6) ++ (0x01 ∷ health ∷ 0xF4 ∷ 0x01 ∷ zeros 14)
 
 -- five bytes more than a page are lent, and stay
-pub G1 : (v : Reading) → shown (device_a v) Unlocked (request 0x4100 1 0) (old 517) ≡ tells 0 (page_g1 ++ old 5)
-unfolding shown_health shown_of asks list_of page_of refused takes_health
-G1 First = refl
-G1 Second = refl
+pub G1 : shown device_a Unlocked (request 0x4100 1 0) (old 517) ≡ tells 0 (page_g1 ++ old 5)
+unfolding shown_of asks list_of page_of refused takes_health
+G1 = refl
 
-pub G2 : (v : Reading) → shown (device_a v) Unlocked (request 0x4100 1 0x1_0000_0000) (old 512) ≡ tells 4 (old 512)
+pub G2 : shown device_a Unlocked (request 0x4100 1 0x1_0000_0000) (old 512) ≡ tells 4 (old 512)
 unfolding refused
-G2 v = refl
+G2 = refl
 
-pub G3 : (v : Reading) → shown (device_a v) Unlocked (request 0x4100 0 0) (old 512) ≡ tells 4 (old 512)
+pub G3 : shown device_a Unlocked (request 0x4100 0 0) (old 512) ≡ tells 4 (old 512)
 unfolding refused
-G3 v = refl
+G3 = refl
 
-pub G4 : (v : Reading) → shown (device_a v) Unlocked (request 0x8000 1 0) (old 512) ≡ tells 4 (old 512)
+pub G4 : shown device_a Unlocked (request 0x8000 1 0) (old 512) ≡ tells 4 (old 512)
 unfolding refused
-G4 v = refl
+G4 = refl
 
 -- the highest start, and bits above LBA 47: N = 0, and only byte 12 (02h) is not 0
-empty_lem : (v : Reading) → shown (device_a v) Unlocked (request 0x4100 1 0xFFFF_0000_FFFF_FFFF) (old 512) ≡ tells 0 (zeros 12 ++ (0x02 ∷ zeros 499))
-unfolding shown_health shown_of asks list_of page_of refused takes_health
-empty_lem v = refl
+empty_lem : shown device_a Unlocked (request 0x4100 1 0xFFFF_0000_FFFF_FFFF) (old 512) ≡ tells 0 (zeros 12 ++ (0x02 ∷ zeros 499))
+unfolding shown_of asks list_of page_of refused takes_health
+empty_lem = refl
 
 -- a reserved bit comes before the buffer
-reserved : (v : Reading) → shown (device_a v) Unlocked (request 0x4100 1 0x1_0000_0000) (old 511) ≡ tells 4 (old 511)
+reserved : shown device_a Unlocked (request 0x4100 1 0x1_0000_0000) (old 511) ≡ tells 4 (old 511)
 unfolding refused
-reserved v = refl
+reserved = refl
 
 -- a byte short
-small : (v : Reading) → shown (device_a v) Unlocked (request 0x4100 2 0) (old 1023) ≡ tells 7 (old 1023)
+small : shown device_a Unlocked (request 0x4100 2 0) (old 1023) ≡ tells 7 (old 1023)
 unfolding refused
-small v = refl
+small = refl
 
 -- locked, in a removal and marked, over two pages: the noted element, the removed number, FFh, and zeros to the end
-noted : (v : Reading) → shown (run (device_a v) (remove 1 3 0 ∷ steps 3)) Locked (request 0x4100 2 3) (old 1025)
+noted : shown (run device_a (remove 1 3 0 ∷ steps 3)) Locked (request 0x4100 2 3) (old 1025)
     ≡ tells 0 (header 1 1 (0x03 ∷ 0x00 ∷ 0x01 ∷ 0x00 ∷ []) 1 ++ descriptor 0xFF ++ zeros 960 ++ old 1)
-unfolding shown_health shown_of asks list_of page_of refused takes_health sight_in see_in is_set judge_room judge_found
-noted First = refl
-noted Second = refl
+unfolding shown_of asks list_of page_of refused takes_health sight_in see_in is_set judge_room judge_found
+noted = refl
 
 -- "16 matching elements, one page: N = 16, returned 15"; the last has identifier 15
-abbrev sixteen : Reading → Device
-sixteen v =
+abbrev sixteen : Device
+sixteen =
     let e : ℕ → Element = λ n. element n 1 0x70 100 in
     fresh (record {
       elements = e 1 ∷ e 2 ∷ e 3 ∷ e 4 ∷ e 5 ∷ e 6 ∷ e 7 ∷ e 8 ∷ e 9 ∷ e 10 ∷ e 11 ∷ e 12 ∷ e 13 ∷ e 14 ∷ e 15 ∷ e 16 ∷ replicate 112 blank;
       count = 16;
       limit = 2;
-      reading = v;
     })
 
-abbrev page : Reading → List ℕ
-page v = (shown (sixteen v) Unlocked (request 0x4100 1 0) (old 512)).state
+abbrev page : List ℕ
+page = (shown sixteen Unlocked (request 0x4100 1 0) (old 512)).state
 
-cut : (v : Reading)
-    → (take 16 (page v) ≡ (16 ∷ zeros 3) ++ (15 ∷ zeros 7) ++ (2 ∷ zeros 3)) × (drop 480 (page v) ≡ zeros 4 ++ (15 ∷ zeros 9) ++ (0x01 ∷ 0x70 ∷ 100 ∷ zeros 15))
-unfolding shown_health shown_of asks list_of page_of refused takes_health
-cut First = (refl, refl)
-cut Second = (refl, refl)
-
--- ## The later health codes, of device A
-
--- 0001_0003h alone, as filter 01b lists it: noted or not, the removed number, and its health
-abbrev shows : Reading → List Event → Told (List ℕ)
-shows v es = shown (run (device_a v) es) Unlocked (request 0x4100 1 0) (old 512)
-
-abbrev alone : List ℕ → ℕ → ℕ → Told (List ℕ)
-alone busy removed health = tells 0 (header 1 1 busy removed ++ descriptor health ++ zeros 448)
-
--- "the noted element is shown as FEh until its marking store", in winding up too, with the mark made
-removing : (shows First (remove 1 3 0 ∷ steps 2) ≡ alone (0x03 ∷ 0x00 ∷ 0x01 ∷ 0x00 ∷ []) 0 0x70)
-    × (shows Second (remove 1 3 0 ∷ steps 2) ≡ alone (0x03 ∷ 0x00 ∷ 0x01 ∷ 0x00 ∷ []) 0 0xFE)
-    × (shows Second (cut_after 2 3) ≡ alone (0x03 ∷ 0x00 ∷ 0x01 ∷ 0x00 ∷ []) 0 0xFE)
-unfolding shown_health shown_of asks list_of page_of refused takes_health sight_in see_in is_set judge_room judge_found
-removing = (refl, refl, refl)
-
--- "any other element that the mark names, if not at FFh, is shown as FDh"
-failed : ((run (device_a Second) R5).cells.failed ≡ Names (record { 0 = 0x0001_0003 }))
-    × (shows First R5 ≡ alone (zeros 4) 0 0x70)
-    × (shows Second R5 ≡ alone (zeros 4) 0 0xFD)
-unfolding shown_health shown_of asks list_of page_of refused takes_health sight_in see_in is_set judge_room judge_found
-failed = (refl, refl, refl)
-
--- after the marking store FFh, whatever the mark names
-removed : (v : Reading) → ((run (device_a v) R6).cells.failed ≡ Names (record { 0 = 0x0001_0003 })) × (shows v R6 ≡ alone (zeros 4) 1 0xFF)
-unfolding shown_health shown_of asks list_of page_of refused takes_health sight_in see_in is_set judge_room judge_found
-removed First = (refl, refl)
-removed Second = (refl, refl)
-
--- element 1, at 20h, noted while the mark names 0001_0003h: the filter lists both; and removed, which clears the mark
-abbrev healths : Reading → List Event → List ℕ
-healths v es = map (λ (x : Descriptor). x.health) (list_of (run (device_a v) es) (request 0x4100 1 0))
-
-both : (healths First (R5 ++ (remove 0 1 0 ∷ [])) ≡ 0x70 ∷ [])
-    × (healths Second (R5 ++ (remove 0 1 0 ∷ [])) ≡ 0xFE ∷ 0xFD ∷ [])
-    × (healths Second (R5 ++ (remove 0 1 0 ∷ steps 5)) ≡ 0xFF ∷ 0x70 ∷ [])
-unfolding shown_health shown_of asks list_of takes_health sight_in see_in is_set judge_room judge_found
-both = (refl, refl, refl)
+cut : (take 16 page ≡ (16 ∷ zeros 3) ++ (15 ∷ zeros 7) ++ (2 ∷ zeros 3)) × (drop 480 page ≡ zeros 4 ++ (15 ∷ zeros 9) ++ (0x01 ∷ 0x70 ∷ 100 ∷ zeros 15))
+unfolding shown_of asks list_of page_of refused takes_health
+cut = (refl, refl)

@@ -16,14 +16,13 @@ use Rattle.layout.specs.declared.Header.{Header}
 use Rattle.offences.proofs.Laid.{length-laid, laid_header, laid_descriptor, cut_header, cut_descriptor}
 use Rattle.offences.specs.Checks.{base_of, descriptor_at}
 use Rattle.paper.specs.Told.{tells}
-use Rattle.paper.specs.declared.Reading.{Reading}
 use Rattle.query.proofs.Queries.{not_due}
 use Rattle.query.specs.Queries.{due_four, asked}
 use Rattle.query.specs.declared.Query.{Query}
 use Rattle.reader.specs.declared.Slot.TheVariants.{Holds}
 use Rattle.scsi.proofs.Taken.{Taken, takes}
 use Rattle.scsi.specs.Data.{whole_of, torn_of}
-use Rattle.scsi.specs.Judgement.{received, read_of, slot_of}
+use Rattle.scsi.specs.Judgement.{reading, read_of, slot_of}
 use Rattle.status.specs.Page.{list_of}
 use Rattle.sender.specs.Sent.{sent_header, data_of}
 use Rattle.table.specs.Elements.{identifiers, ascending}
@@ -55,9 +54,6 @@ module _ (o : Order) (d : Device) (q : Query) (fits : Fits d) where
     abbrev s : List ℕ
     s = take a (data_of o d q)
 
-    abbrev v : Reading
-    v = d.table.reading
-
     abbrev n : ℕ
     n = length list
 
@@ -79,7 +75,7 @@ module _ (o : Order) (d : Device) (q : Query) (fits : Fits d) where
     here : (k : ℕ) → k < whole → descriptor_at o s k ≡ get_or list k none
     here k l = cut_descriptor o (data_of o d q) a k (inside k l) ∙ data_descriptor k (omega arith)
 
-    keeps_lem : Taken o v s q
+    keeps_lem : Taken o s q
     keeps_lem =
         record {
           there = omega (arith, long);
@@ -89,8 +85,8 @@ module _ (o : Order) (d : Device) (q : Query) (fits : Fits d) where
           most = rw number_here (omega (arith, long));
         }
 
-    taken : read_of o v s q ≡ tells 0 (received (sent_header d q) whole (torn_of n (length s)))
-    taken = takes o v s q keeps_lem ∙ (λ i. tells 0 (received (header_here i) (whole_of (number_here i) (length s)) (torn_of (number_here i) (length s))))
+    taken : read_of o s q ≡ tells 0 (reading (sent_header d q) whole (torn_of n (length s)))
+    taken = takes o s q keeps_lem ∙ (λ i. tells 0 (reading (header_here i) (whole_of (number_here i) (length s)) (torn_of (number_here i) (length s))))
 
     slot_here : (k : ℕ) → k < whole → slot_of o s k ≡ Holds (get_or list k none)
     slot_here k l =

@@ -12,10 +12,10 @@ use Rattle.table.specs.Elements.{identifiers, blank_part, ascending}
 use Rattle.view.specs.Shown.{shown_of}
 use Rattle.words.specs.declared.Order.TheVariants.{Little}
 
--- "gives back what was written": in the device's own reading the page is taken for its request, with the header's numbers, and has what it shows
--- of each listed element at its place
+-- "gives back what was written": the page is taken for its request, with the header's numbers, and has what it shows of each listed element
+-- at its place
 abbrev pub Agrees : Type 0
 Agrees =
     (d : Device) (q : Request) → Fits d → ascending 0 (identifiers d.table) ≡ true → refused q ≡ false
-    → (read_of Little d.table.reading (page_of d q) q ≡ tells 0 (header (header_of d q)))
+    → (read_of Little (page_of d q) q ≡ tells 0 (header (header_of d q)))
     × ((k : ℕ) → k < (header_of d q).returned → slot_of Little (page_of d q) k ≡ Holds (get_or (list_of d q) k (shown_of blank_part 0)))

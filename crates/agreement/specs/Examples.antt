@@ -1,11 +1,10 @@
 -- Document 01's bench examples R1 to R8 and G1 to G4 as one table, G2 as request 2026-05 mends it: a row of the device, and what the last command
--- leaves in the lent buffer, in either reading. R4 and R8 are two rows each, and two rows of the limit alone go with them.
+-- leaves in the lent buffer. R4 and R8 are two rows each, and two rows of the limit alone go with them.
 use Rattle.std.specs.Prelude.{ℕ, Bool, true, false, ◌&&◌, List, [], ◌∷◌, ◌++◌, map, ◌≡◌, eqb, replicate}
 use Rattle.device.specs.Machine.{Event, command, step, media_error, power_cut, comreset, hardware_reset, software_reset, grade}
 use Rattle.device.specs.declared.Device.{Device}
 use Rattle.layout.specs.Examples.{page_g1}
 use Rattle.making.specs.Examples.{registers, Row, row, rows, holds, run, device_a, as_built}
-use Rattle.paper.specs.declared.Reading.{Reading}
 use Rattle.paper.specs.declared.Security.TheVariants.{Unlocked}
 use Rattle.slices.specs.Lists.{all}
 use Rattle.status.specs.Lent.{lent}
@@ -44,26 +43,22 @@ unlent r = record { line = r; before = []; after = [] }
 abbrev pub old : List ℕ
 old = replicate 512 0xA5
 
-abbrev pub get : Reading → ℕ → ℕ → ℕ → ℕ → List ℕ → Example
-get v feature count lba number bytes =
-    record {
-      line = row (device_a v) [] (command Unlocked (registers 0x12 feature count lba) 512) number 2999 as_built 0 false;
-      before = old;
-      after = bytes;
-    }
+abbrev pub get : ℕ → ℕ → ℕ → ℕ → List ℕ → Example
+get feature count lba number bytes =
+    record { line = row device_a [] (command Unlocked (registers 0x12 feature count lba) 512) number 2999 as_built false false; before = old; after = bytes }
 
-abbrev pub examples : Reading → List Example
-examples v =
-    map unlent (rows v)
+abbrev pub examples : List Example
+examples =
+    map unlent rows
     -- G1: "one descriptor, 0001_0003h; its bytes 4..7 are 03 00 01 00, 16..17 are F4 01"
-    ++ (get v 0x4100 1 0 0 page_g1
+    ++ (get 0x4100 1 0 0 page_g1
     -- G2: "Example G2 now gets 4" (request 2026-05)
-    ∷ get v 0x4100 1 0x1_0000_0000 4 old
+    ∷ get 0x4100 1 0x1_0000_0000 4 old
     -- G3, G4
-    ∷ get v 0x4100 0 0 4 old
-    ∷ get v 0x8000 1 0 4 old
+    ∷ get 0x4100 0 0 4 old
+    ∷ get 0x8000 1 0 4 old
     ∷ [])
 
 -- "Proved: R1 to R8, G1 to G4."
 abbrev pub Twelve : Type 0
-Twelve = (v : Reading) → all as_said (examples v) ≡ true
+Twelve = all as_said examples ≡ true

@@ -9,15 +9,13 @@ use Rattle.lines.specs.Parts.{word_at}
 use Rattle.lines.specs.declared.Field.{Field}
 use Rattle.offer.specs.Elements as elements
 use Rattle.offer.specs.declared.Element.{Element as Offered}
-use Rattle.registers.specs.Registers.{most64, most16, state_of, asked_at}
+use Rattle.registers.specs.Registers.{most64, state_of, asked_at}
 use Rattle.registers.specs.declared.Asked.{Asked}
 use Rattle.registers.specs.declared.State.{State}
-use Rattle.arguments.specs.Calls.{most32, most8, most_place, element_of, make_of, command_of, grade_of, poke_of, read_of, next_of}
-use Rattle.arguments.specs.Readings.{reading_at}
-use Rattle.arguments.specs.declared.Line.TheVariants.{NotACall, Element, Make, Command, Grade, Page}
+use Rattle.arguments.specs.Calls.{most32, most8, most_place, element_of, command_of, grade_of, poke_of}
+use Rattle.arguments.specs.declared.Line.TheVariants.{NotACall, Element, Command, Grade, Page}
 use Rattle.arguments.specs.declared.Line.{Line}
-use Rattle.arguments.specs.declared.PageCall.TheVariants.{Poke, Read, Next}
-use Rattle.arguments.specs.declared.readings.Chosen.{Chosen}
+use Rattle.arguments.specs.declared.PageCall.TheVariants.{Poke}
 
 pub element_is : (l : List ℕ) (id kind health blocks flag : Field)
     → id ≡ field_at l 1 most32 → kind ≡ field_at l 2 most8 → health ≡ field_at l 3 most8 → blocks ≡ field_at l 4 most64 → flag ≡ field_at l 5 1
@@ -27,11 +25,6 @@ pub element_is : (l : List ℕ) (id kind health blocks flag : Field)
 unfolding element_of
 element_is l id kind health blocks flag is_id is_kind is_health is_blocks is_flag a b is_a is_b e is_e r is_r =
     is_r ∙ rw (is_e, is_b, is_a, is_id, is_kind, is_health, is_blocks, is_flag)
-
-pub make_is : (l : List ℕ) (limit : Field) (chosen : Chosen) → limit ≡ field_at l 1 most16 → chosen ≡ reading_at l 2 → (a : Bool) → a ≡ (limit.fits && chosen.fits)
-    → (r : Line) → r ≡ cond a (Make (record { limit = limit.value; reading = chosen.reading })) NotACall → r ≡ make_of l
-unfolding make_of
-make_is l limit chosen is_limit is_chosen a is_a r is_r = is_r ∙ rw (is_a, is_limit, is_chosen)
 
 pub command_is : (l w : List ℕ) (state : State) (code size : Field) (asked : Asked)
     → w ≡ word_at 1 l → state ≡ state_of w → code ≡ field_at l 2 most8 → asked ≡ asked_at l 3 → size ≡ field_at l 6 most_place
@@ -63,13 +56,3 @@ pub poke_is : (l : List ℕ) (place byte : Field) → place ≡ field_at l 1 mos
     → (r : Line) → r ≡ cond a (Page (Poke (record { place = place.value; byte = byte.value }))) NotACall → r ≡ poke_of l
 unfolding poke_of
 poke_is l place byte is_place is_byte_lem a is_a r is_r = is_r ∙ rw (is_a, is_place, is_byte_lem)
-
-module _ (l : List ℕ) (asked : Asked) (chosen : Chosen) (is_asked : asked ≡ asked_at l 1) (is_chosen : chosen ≡ reading_at l 4)
-    (a : Bool) (is_a : a ≡ (asked.fits && chosen.fits)) (r : Line) where
-  pub read_is : r ≡ cond a (Page (Read (record { request = asked.request; reading = chosen.reading }))) NotACall → r ≡ read_of l
-  unfolding read_of
-  read_is is_r = is_r ∙ rw (is_a, is_asked, is_chosen)
-
-  pub next_is : r ≡ cond a (Page (Next (record { request = asked.request; reading = chosen.reading }))) NotACall → r ≡ next_of l
-  unfolding next_of
-  next_is is_r = is_r ∙ rw (is_a, is_asked, is_chosen)

@@ -1,4 +1,3 @@
 -- What is proved of `arguments`' definitions, and of its functions.
-pub mod Chosen
 pub mod DockFields
 pub mod Fields

@@ -4,7 +4,6 @@ use Rattle.lines.specs.Numbers.{field_at}
 use Rattle.lines.specs.Parts.{word_at}
 use Rattle.offer.specs.Elements as elements
 use Rattle.registers.specs.Registers.{most64, most16, state_of, asked_at}
-use Rattle.arguments.specs.Readings.{reading_at}
 use Rattle.arguments.specs.declared.Line.TheVariants.{NotACall, Element, Make, Command, Grade, Page}
 use Rattle.arguments.specs.declared.Line.{Line}
 use Rattle.arguments.specs.declared.PageCall.TheVariants.{Length, Poke, Read, Next}
@@ -34,12 +33,9 @@ element_of l =
     (Element (elements.elementOf (record { 0 = id.value }) kind.value health.value (eqb flag.value 1) blocks.value))
     NotACall
 
--- `make LIMIT READING`
+-- `make LIMIT`
 unfoldable pub make_of : List ℕ → Line
-make_of l =
-    let limit = field_at l 1 most16 in
-    let chosen = reading_at l 2 in
-    cond (limit.fits && chosen.fits) (Make (record { limit = limit.value; reading = chosen.reading })) NotACall
+make_of l = cond (field_at l 1 most16).fits (Make (field_at l 1 most16).value) NotACall
 
 -- `command STATE CODE FEATURE COUNT LBA LENGTH`
 unfoldable pub command_of : List ℕ → Line
@@ -78,16 +74,10 @@ poke_of l =
     let byte = field_at l 2 most8 in
     cond (place.fits && byte.fits) (Page (Poke (record { place = place.value; byte = byte.value }))) NotACall
 
--- `read FEATURE COUNT LBA READING`
+-- `read FEATURE COUNT LBA`
 unfoldable pub read_of : List ℕ → Line
-read_of l =
-    let asked = asked_at l 1 in
-    let chosen = reading_at l 4 in
-    cond (asked.fits && chosen.fits) (Page (Read (record { request = asked.request; reading = chosen.reading }))) NotACall
+read_of l = cond (asked_at l 1).fits (Page (Read (asked_at l 1).request)) NotACall
 
--- `next FEATURE COUNT LBA READING`
+-- `next FEATURE COUNT LBA`
 unfoldable pub next_of : List ℕ → Line
-next_of l =
-    let asked = asked_at l 1 in
-    let chosen = reading_at l 4 in
-    cond (asked.fits && chosen.fits) (Page (Next (record { request = asked.request; reading = chosen.reading }))) NotACall
+next_of l = cond (asked_at l 1).fits (Page (Next (asked_at l 1).request)) NotACall

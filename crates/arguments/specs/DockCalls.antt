@@ -3,7 +3,6 @@ use Rattle.std.specs.Prelude.{ℕ, cond, ◌&&◌, List}
 use Rattle.lines.specs.Numbers.{field_at}
 use Rattle.registers.specs.Registers.{most16, asked_at}
 use Rattle.arguments.specs.Calls.{most32, most8, most_place}
-use Rattle.arguments.specs.Readings.{reading_at}
 use Rattle.arguments.specs.declared.DockCall.TheVariants.{Send, ToScsi, ToAta}
 use Rattle.arguments.specs.declared.Line.TheVariants.{NotACall, Page, Dock}
 use Rattle.arguments.specs.declared.Line.{Line}
@@ -31,30 +30,23 @@ scsi_of l =
     (Dock (record { call = Send (record { query = asked.query; allocation = allocation.value }); length = size.value }))
     NotACall
 
--- `scsiread FILTER TYPE START READING`
+-- `scsiread FILTER TYPE START`
 unfoldable pub scsiread_of : List ℕ → Line
-scsiread_of l =
-    let asked = queried_in l in
-    let chosen = reading_at l 4 in
-    cond (asked.fits && chosen.fits) (Page (ReadScsi (record { query = asked.query; reading = chosen.reading }))) NotACall
+scsiread_of l = cond (queried_in l).fits (Page (ReadScsi (queried_in l).query)) NotACall
 
--- `toscsi FEATURE COUNT LBA LENGTH READING`
+-- `toscsi FEATURE COUNT LBA LENGTH`
 unfoldable pub toscsi_of : List ℕ → Line
 toscsi_of l =
     let asked = asked_at l 1 in
     let size = field_at l 4 most_place in
-    let chosen = reading_at l 5 in
-    cond (asked.fits && (size.fits && chosen.fits))
-    (Dock (record { call = ToScsi (record { request = asked.request; reading = chosen.reading }); length = size.value }))
-    NotACall
+    cond (asked.fits && size.fits) (Dock (record { call = ToScsi asked.request; length = size.value })) NotACall
 
--- `toata FILTER TYPE START PAGES LENGTH READING`: "PAGES 16"
+-- `toata FILTER TYPE START PAGES LENGTH`: "PAGES 16"
 unfoldable pub toata_of : List ℕ → Line
 toata_of l =
     let asked = queried_in l in
     let pages = field_at l 4 most16 in
     let size = field_at l 5 most_place in
-    let chosen = reading_at l 6 in
-    cond (asked.fits && ((pages.fits && size.fits) && chosen.fits))
-    (Dock (record { call = ToAta (record { query = asked.query; pages = record { 0 = pages.value }; reading = chosen.reading }); length = size.value }))
+    cond (asked.fits && (pages.fits && size.fits))
+    (Dock (record { call = ToAta (record { query = asked.query; pages = record { 0 = pages.value } }); length = size.value }))
     NotACall

@@ -2,8 +2,7 @@
 ghost use Rattle.std.specs.Prelude.{◌≡◌};
 ghost use Rattle.arguments.specs.Calls as spec;
 
-use crate::readings::reading_at;
-use crate::{Command, Grade, Line, Make, PageCall, PageRead, Poke, fitting};
+use crate::{Command, Grade, Line, PageCall, Poke, fitting};
 use lines::field_at;
 use offer::Element;
 use paper::{ElementId, Lba};
@@ -34,13 +33,7 @@ pub fn make_call(line: &[u8]) -> Line
     ensures { result ≡ spec.makeOf line.now }
 {
     let limit = field_at(line, 1, 0xFFFF);
-    let chosen = reading_at(line, 2);
-    let reading = chosen.reading;
-    let given = Make {
-        limit: limit.value as u16,
-        reading,
-    };
-    fitting(both(limit.fits, chosen.fits), Line::Make(given))
+    fitting(limit.fits, Line::Make(limit.value as u16))
 }
 
 pub fn command_call(line: &[u8]) -> Line
@@ -107,22 +100,14 @@ pub fn read_call(line: &[u8]) -> Line
     ensures { result ≡ spec.read_of line.now }
 {
     let asked = registers::asked_at(line, 1);
-    let chosen = reading_at(line, 4);
     let request = asked.request;
-    let reading = chosen.reading;
-    let given = PageRead { request, reading };
-    let fits = both(asked.fits, chosen.fits);
-    fitting(fits, Line::Page(PageCall::Read(given)))
+    fitting(asked.fits, Line::Page(PageCall::Read(request)))
 }
 
 pub fn next_call(line: &[u8]) -> Line
     ensures { result ≡ spec.next_of line.now }
 {
     let asked = registers::asked_at(line, 1);
-    let chosen = reading_at(line, 4);
     let request = asked.request;
-    let reading = chosen.reading;
-    let given = PageRead { request, reading };
-    let fits = both(asked.fits, chosen.fits);
-    fitting(fits, Line::Page(PageCall::Next(given)))
+    fitting(asked.fits, Line::Page(PageCall::Next(request)))
 }

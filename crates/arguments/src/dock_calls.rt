@@ -2,8 +2,7 @@
 ghost use Rattle.std.specs.Prelude.{◌≡◌};
 ghost use Rattle.arguments.specs.DockCalls as spec;
 
-use crate::readings::reading_at;
-use crate::{DataRead, Dock, DockCall, Line, PageCall, PageRead, Send, ToAta, fitting};
+use crate::{Dock, DockCall, Line, PageCall, Send, ToAta, fitting};
 use lines::field_at;
 use paper::{ElementId, PageCount};
 use query::Query;
@@ -57,12 +56,8 @@ pub fn scsiread_call(line: &[u8]) -> Line
     ensures { result ≡ spec.scsireadOf line.now }
 {
     let asked = query_in(line);
-    let chosen = reading_at(line, 4);
     let query = asked.query;
-    let reading = chosen.reading;
-    let given = DataRead { query, reading };
-    let fits = both(asked.fits, chosen.fits);
-    fitting(fits, Line::Page(PageCall::ReadScsi(given)))
+    fitting(asked.fits, Line::Page(PageCall::ReadScsi(query)))
 }
 
 pub fn toscsi_call(line: &[u8]) -> Line
@@ -70,17 +65,12 @@ pub fn toscsi_call(line: &[u8]) -> Line
 {
     let asked = registers::asked_at(line, 1);
     let length = field_at(line, 4, 0x1_0000);
-    let chosen = reading_at(line, 5);
     let request = asked.request;
-    let reading = chosen.reading;
     let given = Dock {
-        call: DockCall::ToScsi(PageRead { request, reading }),
+        call: DockCall::ToScsi(request),
         length: length.value as usize,
     };
-    fitting(
-        each(asked.fits, length.fits, chosen.fits),
-        Line::Dock(given),
-    )
+    fitting(both(asked.fits, length.fits), Line::Dock(given))
 }
 
 pub fn toata_call(line: &[u8]) -> Line
@@ -89,17 +79,13 @@ pub fn toata_call(line: &[u8]) -> Line
     let asked = query_in(line);
     let pages = field_at(line, 4, 0xFFFF);
     let length = field_at(line, 5, 0x1_0000);
-    let chosen = reading_at(line, 6);
-    let sizes = both(pages.fits, length.fits);
     let query = asked.query;
-    let reading = chosen.reading;
     let given = Dock {
         call: DockCall::ToAta(ToAta {
             query,
             pages: PageCount(pages.value as u16),
-            reading,
         }),
         length: length.value as usize,
     };
-    fitting(each(asked.fits, sizes, chosen.fits), Line::Dock(given))
+    fitting(each(asked.fits, pages.fits, length.fits), Line::Dock(given))
 }

@@ -1,7 +1,6 @@
 // The bench language: each call from the words of its line.
 mod calls;
 mod dock_calls;
-mod readings;
 
 ghost use Rattle.std.specs.Prelude.{cond, ◌≡◌};
 ghost use Rattle.arguments.specs.declared.Line.TheVariants.{NotACall};
@@ -11,16 +10,9 @@ pub use calls::{
 };
 pub use dock_calls::{scsi_call, scsiread_call, toata_call, toscsi_call};
 use offer::Element;
-use paper::{ElementId, Lba, PageCount, Reading, Security};
+use paper::{ElementId, Lba, PageCount, Security};
 use query::Query;
 use request::Request;
-
-// The limit that the list is offered with, and the reading that the table is to be built for.
-#[derive(Drop)]
-pub struct Make {
-    pub limit: u16,
-    pub reading: Reading,
-}
 
 // The front call, with the length of the buffer that is lent.
 #[derive(Drop)]
@@ -56,20 +48,6 @@ pub enum Bare {
     Softreset,
 }
 
-// What the reader of a page is told: the request that it answers, and the reading.
-#[derive(Drop)]
-pub struct PageRead {
-    pub request: Request,
-    pub reading: Reading,
-}
-
-// The same of SCSI data.
-#[derive(Drop)]
-pub struct DataRead {
-    pub query: Query,
-    pub reading: Reading,
-}
-
 // A request of a SCSI host to the device, with its allocation length.
 #[derive(Drop)]
 pub struct Send {
@@ -77,19 +55,18 @@ pub struct Send {
     pub allocation: u32,
 }
 
-// SCSI data that answers a request in a reading, to be turned into so many pages.
+// SCSI data that answers a request, to be turned into so many pages.
 #[derive(Drop)]
 pub struct ToAta {
     pub query: Query,
     pub pages: PageCount,
-    pub reading: Reading,
 }
 
 // A call that writes into a lent buffer, of the device or of the kept page.
 #[derive(Drop)]
 pub enum DockCall {
     Send(Send),
-    ToScsi(PageRead),
+    ToScsi(Request),
     ToAta(ToAta),
 }
 
@@ -105,9 +82,9 @@ pub struct Dock {
 pub enum PageCall {
     Length(usize),
     Poke(Poke),
-    Read(PageRead),
-    Next(PageRead),
-    ReadScsi(DataRead),
+    Read(Request),
+    Next(Request),
+    ReadScsi(Query),
 }
 
 // What a line says.
@@ -116,7 +93,7 @@ pub enum Line {
     Passed,
     NotACall,
     Element(Element),
-    Make(Make),
+    Make(u16),
     Command(Command),
     Bare(Bare),
     Grade(Grade),

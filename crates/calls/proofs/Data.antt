@@ -19,8 +19,6 @@ use Rattle.paper.specs.contracts.ElementId as ElementId
 use Rattle.paper.proofs.ElementId.TheLaws as ElementId'
 use Rattle.paper.specs.contracts.Lba as Lba
 use Rattle.paper.proofs.Lba.TheLaws as Lba'
-use Rattle.paper.specs.contracts.Reading as Reading
-use Rattle.paper.proofs.Reading.TheLaws as Reading'
 use Rattle.paper.specs.contracts.Security as Security
 use Rattle.paper.proofs.Security.TheLaws as Security'
 use Rattle.paper.specs.contracts.Written as Written
@@ -38,9 +36,6 @@ lba = struct Lba.the_type Lba'.the_laws Lba'.the_plain Lba'.the_copy
 
 abbrev pub security : Datum
 security = enum Security.the_type Security'.the_laws Security'.the_plain Security'.the_copy tt
-
-abbrev pub reading : Datum
-reading = enum Reading.the_type Reading'.the_laws Reading'.the_plain Reading'.the_copy tt
 
 abbrev pub request : Datum
 request = struct Request.the_type Request'.the_laws Request'.the_plain Request'.the_copy

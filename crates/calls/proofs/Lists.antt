@@ -20,7 +20,6 @@ use Rattle.offer.specs.declared.Element.{Element}
 use Rattle.offer.specs.declared.Found.TheVariants.{Missing}
 use Rattle.offer.specs.declared.Found.{Found}
 use Rattle.paper.specs.Told.{tells}
-use Rattle.paper.specs.declared.Reading.{Reading}
 use Rattle.slices.proofs.Lists.{take_min}
 use Rattle.calls.specs.Offered.{check_list, find_list, array_of, offer_of, made_from}
 use Rattle.calls.specs.Promises.{LongListRefused, RefusedListLeaves, MadeAlike, FindsExactly}
@@ -42,20 +41,20 @@ pub long_bad : (count : ℕ) (es : List Element) (limit : ℕ) → 128 < count �
 unfolding good
 long_bad count es limit h = simp (lt-leb count 128 h, and-false)
 
-module _ (es : List Element) (limit : ℕ) (v : Reading) where
+module _ (es : List Element) (limit : ℕ) where
   -- the check of the offer goes by the list
   alike_lem : {A : Type 0} (f : List Element → A) (x : A)
-      → cond (good (length es) (offered (offer_of es limit v)) limit) (f (offered (offer_of es limit v))) x ≡ cond (good (length es) es limit) (f es) x
+      → cond (good (length es) (offered (offer_of es limit)) limit) (f (offered (offer_of es limit))) x ≡ cond (good (length es) es limit) (f es) x
   alike_lem {A} f x = go (leb (length es) 128) refl
     where
       go : (b : Bool) → leb (length es) 128 ≡ b
-          → cond (good (length es) (offered (offer_of es limit v)) limit) (f (offered (offer_of es limit v))) x ≡ cond (good (length es) es limit) (f es) x
+          → cond (good (length es) (offered (offer_of es limit)) limit) (f (offered (offer_of es limit))) x ≡ cond (good (length es) es limit) (f es) x
       go true e = rw (taken es (leb-true (length es) 128 e))
       go false e =
           let long : 128 < length es = leb-false (length es) 128 e in
-          rw (long_bad (length es) (offered (offer_of es limit v)) limit long, long_bad (length es) es limit long)
+          rw (long_bad (length es) (offered (offer_of es limit)) limit long, long_bad (length es) es limit long)
 
-  pub check_offer : check_of (offer_of es limit v) ≡ check_list es limit
+  pub check_offer : check_of (offer_of es limit) ≡ check_list es limit
   unfolding check_of check_list
   check_offer = alike_lem (λ (l : List Element). tells 0 (block_sum l ∷ [])) (tells 8 [])
 
@@ -80,17 +79,17 @@ module _ (count : ℕ) (f : Found) where
 
 pub long_list_refused : LongListRefused
 unfolding check_list find_list made_from
-long_list_refused d es limit id v h = rw (long_bad (length es) es limit h, lt-leb (length es) 128 h) (refl, refl, refl)
+long_list_refused d es limit id h = rw (long_bad (length es) es limit h, lt-leb (length es) 128 h) (refl, refl, refl)
 
 pub made_alike : MadeAlike
 unfolding made_of made_from
-made_alike d es limit v = sym (alike_lem es limit v (λ (l : List Element). tells 0 (fresh (offer_of es limit v))) (tells 8 d))
+made_alike d es limit = sym (alike_lem es limit (λ (l : List Element). tells 0 (fresh (offer_of es limit))) (tells 8 d))
 
 pub refused_list_leaves : RefusedListLeaves
 unfolding made_from
-refused_list_leaves d es limit v = go (good (length es) es limit)
+refused_list_leaves d es limit = go (good (length es) es limit)
   where
-    go : (b : Bool) → Leaves d (cond b (tells 0 (fresh (offer_of es limit v))) (tells 8 d))
+    go : (b : Bool) → Leaves d (cond b (tells 0 (fresh (offer_of es limit))) (tells 8 d))
     go true z = absurd (z refl)
     go false z = refl
 

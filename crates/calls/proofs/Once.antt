@@ -24,5 +24,5 @@ one-fits =
       sending = one-output;
       checking = λ es limit a b p q. verdict_injective a b (p ∙ sym q);
       finding = λ es id a b p q. p ∙ sym q;
-      making = λ d es limit v. told_once (made_from d es limit v);
+      making = λ d es limit. told_once (made_from d es limit);
     }

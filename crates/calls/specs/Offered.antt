@@ -11,7 +11,6 @@ use Rattle.offer.specs.declared.Found.TheVariants.{Missing}
 use Rattle.offer.specs.declared.Found.{Found}
 use Rattle.offer.specs.declared.Offer.{Offer}
 use Rattle.paper.specs.Told.{Told, tells}
-use Rattle.paper.specs.declared.Reading.{Reading}
 
 -- what the check tells of a list: 0 and the blocks of all, or 8
 unfoldable pub check_list : List Element → ℕ → Told (List ℕ)
@@ -25,9 +24,9 @@ find_list id es = cond (leb (length es) 128) (find id es) Missing
 abbrev pub array_of : List Element → List Element
 array_of es = take 128 es ++ replicate (128 - length es) blank
 
-abbrev pub offer_of : List Element → ℕ → Reading → Offer
-offer_of es limit v = record { elements = array_of es; count = length es; limit = limit; reading = v }
+abbrev pub offer_of : List Element → ℕ → Offer
+offer_of es limit = record { elements = array_of es; count = length es; limit = limit }
 
--- a new device of a list for a reading, or 8 and the device that was there
-unfoldable pub made_from : Device → List Element → ℕ → Reading → Told Device
-made_from d es limit v = cond (good (length es) es limit) (tells 0 (fresh (offer_of es limit v))) (tells 8 d)
+-- a new device of a list, or 8 and the device that was there
+unfoldable pub made_from : Device → List Element → ℕ → Told Device
+made_from d es limit = cond (good (length es) es limit) (tells 0 (fresh (offer_of es limit))) (tells 8 d)

@@ -14,7 +14,6 @@ use Rattle.paper.specs.Promises.{OneOutput}
 use Rattle.paper.specs.Registers.{Registers}
 use Rattle.paper.specs.Told.{tells, said}
 use Rattle.paper.specs.declared.Answer.{Answer}
-use Rattle.paper.specs.declared.Reading.{Reading}
 use Rattle.paper.specs.declared.Security.{Security}
 use Rattle.status.specs.Lent.{lent}
 use Rattle.status.specs.Promises.{OnePage}
@@ -37,8 +36,8 @@ OneFind = (es : List Element) (id : ℕ) (a b : Found) → a ≡ find_list id es
 
 abbrev pub OneMaking : Type 0
 OneMaking =
-    (d : Device) (es : List Element) (limit : ℕ) (v : Reading) (a b : Answer) (x y : Device)
-    → said a x ≡ made_from d es limit v → said b y ≡ made_from d es limit v → (a ≡ b) × (x ≡ y)
+    (d : Device) (es : List Element) (limit : ℕ) (a b : Answer) (x y : Device)
+    → said a x ≡ made_from d es limit → said b y ≡ made_from d es limit → (a ≡ b) × (x ≡ y)
 
 -- of every lent call
 pub record OneFits : Type 0 where
@@ -55,12 +54,12 @@ pub record OneFits : Type 0 where
 -- more than 128 records are no table
 abbrev pub LongListRefused : Type 0
 LongListRefused =
-    (d : Device) (es : List Element) (limit id : ℕ) (v : Reading) → 128 < length es
-    → (check_list es limit ≡ tells 8 []) × (find_list id es ≡ Missing) × (made_from d es limit v ≡ tells 8 d)
+    (d : Device) (es : List Element) (limit id : ℕ) → 128 < length es
+    → (check_list es limit ≡ tells 8 []) × (find_list id es ≡ Missing) × (made_from d es limit ≡ tells 8 d)
 
 -- a device made of a list is the one made of its offer, from which demand 3 starts (demands/specs/Starts, `ListedStarts`)
 abbrev pub MadeAlike : Type 0
-MadeAlike = (d : Device) (es : List Element) (limit : ℕ) (v : Reading) → made_from d es limit v ≡ made_of d (offer_of es limit v)
+MadeAlike = (d : Device) (es : List Element) (limit : ℕ) → made_from d es limit ≡ made_of d (offer_of es limit)
 
 -- in a list that is accepted the search finds exactly its records
 abbrev pub FindsExactly : Type 0
@@ -84,4 +83,4 @@ RefusalLeavesBoth =
     → ((told d (command s r (length buf))).state ≡ d) × (lent d s r buf ≡ buf)
 
 abbrev pub RefusedListLeaves : Type 0
-RefusedListLeaves = (d : Device) (es : List Element) (limit : ℕ) (v : Reading) → Leaves d (made_from d es limit v)
+RefusedListLeaves = (d : Device) (es : List Element) (limit : ℕ) → Leaves d (made_from d es limit)

@@ -17,7 +17,7 @@ ghost use Rattle.calls.specs.Offered.{array_of, check_list, find_list, made_from
 
 use device::{Device, Stepped};
 use offer::{Checked, Element, Found, Offer};
-use paper::{Answer, ElementId, Lba, Reading, Security, Written};
+use paper::{Answer, ElementId, Lba, Security, Written};
 use query::Query;
 use request::Request;
 
@@ -145,15 +145,13 @@ pub fn copied(list: &[Element]) -> [Element; 128]
     es
 }
 
-// Whatever the reading is, the check says the same.
 fn check_in(elements: [Element; 128], count: usize, limit: u16) -> Checked
-    ensures { verdict result ≡ check_of (record { elements = elements; count = count; limit = limit; reading = Reading.First }) }
+    ensures { verdict result ≡ check_of (record { elements = elements; count = count; limit = limit }) }
 {
     let o = Offer {
         elements,
         count,
         limit,
-        reading: Reading::First,
     };
     o.check()
 }
@@ -168,25 +166,17 @@ fn find_in(elements: [Element; 128], count: usize, id: ElementId) -> Found
         elements,
         count,
         limit: 0,
-        reading: Reading::First,
     };
     o.find(id)
 }
 
-fn make_in(
-    there: Device,
-    elements: [Element; 128],
-    count: usize,
-    limit: u16,
-    reading: Reading,
-) -> Stepped
-    ensures { said result.answer result.device ≡ made_of there (record { elements = elements; count = count; limit = limit; reading = reading }) }
+fn make_in(there: Device, elements: [Element; 128], count: usize, limit: u16) -> Stepped
+    ensures { said result.answer result.device ≡ made_of there (record { elements = elements; count = count; limit = limit }) }
 {
     let o = Offer {
         elements,
         count,
         limit,
-        reading,
     };
     making::make_device(there, o)
 }
@@ -205,12 +195,12 @@ pub fn find(list: &[Element], id: ElementId) -> Found
     find_in(copied(list), list.len(), id)
 }
 
-// A new device of a list in the device's place, for a reading, or 8. What every record of the code has, that its numbers fit their types, is
-// promised here, where each run begins.
-pub fn make_device(d: &mut Device, list: &[Element], limit: u16, reading: Reading) -> Answer
-    ensures { (said result d.new ≡ made_from d.old list.now limit reading) × Fits d.new }
+// A new device of a list in the device's place, or 8. What every record of the code has, that its numbers fit their types, is promised here,
+// where each run begins.
+pub fn make_device(d: &mut Device, list: &[Element], limit: u16) -> Answer
+    ensures { (said result d.new ≡ made_from d.old list.now limit) × Fits d.new }
 {
-    let r = make_in(*d, copied(list), list.len(), limit, reading);
+    let r = make_in(*d, copied(list), list.len(), limit);
     *d = r.device;
     r.answer
 }

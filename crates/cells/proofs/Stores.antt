@@ -7,23 +7,22 @@ use mathlib.Core.Path.{◌≡◌, refl, sym, ap, ◌∙◌}
 use lib.ListN.{set}
 use denote.Enum.Declared
 use types.Run.{OneOf, miss}
-use Rattle.paper.specs.declared.ElementId.{ElementId}
 use Rattle.paper.specs.declared.Lba.{Lba}
 use Rattle.slices.specs.Lists.{keep, one_of, up_to}
 use Rattle.cells.specs.Cells.{make, is_set}
 use Rattle.cells.specs.declared.Cells.{Cells}
-use Rattle.cells.specs.declared.Mark.TheVariants.{Clear, Names}
+use Rattle.cells.specs.declared.Mark.TheVariants.{Clear, Set}
 use Rattle.cells.specs.declared.Mark.{Mark}
 use Rattle.cells.specs.declared.Note.TheVariants.{Full}
 use Rattle.cells.specs.declared.Note.{Note}
 use Rattle.cells.specs.declared.Removal.{Removal}
-use Rattle.cells.specs.declared.Store.TheVariants.{Nothing, NativeTo, AccessibleTo, Marked, Graded, FailedAt, FailedCleared, Noted, NoteEmptied}
+use Rattle.cells.specs.declared.Store.TheVariants.{Nothing, NativeTo, AccessibleTo, Marked, Graded, FailedTo, Noted, NoteEmptied}
 use Rattle.cells.specs.declared.Store.{Store}
 use Rattle.cells.specs.contracts.Store as StoreType
 
 -- the places in the enum of all stores but these
 abbrev others : List ℕ → List ℕ
-others own = keep (λ (k : ℕ). not (one_of k own)) (up_to 9)
+others own = keep (λ (k : ℕ). not (one_of k own)) (up_to 8)
 
 -- the store is one of the others
 abbrev Other : List ℕ → Store → Type 0
@@ -36,8 +35,7 @@ module _ (c : Cells) where
   native_kept (AccessibleTo v) k = refl
   native_kept (Marked place) k = refl
   native_kept (Graded place h) k = refl
-  native_kept (FailedAt id) k = refl
-  native_kept FailedCleared k = refl
+  native_kept (FailedTo m) k = refl
   native_kept (Noted w) k = refl
   native_kept NoteEmptied k = refl
 
@@ -47,8 +45,7 @@ module _ (c : Cells) where
   accessible_kept (AccessibleTo v) k = absurd (miss (others (2 ∷ [])) 2 tt k)
   accessible_kept (Marked place) k = refl
   accessible_kept (Graded place h) k = refl
-  accessible_kept (FailedAt id) k = refl
-  accessible_kept FailedCleared k = refl
+  accessible_kept (FailedTo m) k = refl
   accessible_kept (Noted w) k = refl
   accessible_kept NoteEmptied k = refl
 
@@ -58,32 +55,29 @@ module _ (c : Cells) where
   healths_kept (AccessibleTo v) k = refl
   healths_kept (Marked place) k = absurd (miss (others (3 ∷ 4 ∷ [])) 3 tt k)
   healths_kept (Graded place h) k = absurd (miss (others (3 ∷ 4 ∷ [])) 4 tt k)
-  healths_kept (FailedAt id) k = refl
-  healths_kept FailedCleared k = refl
+  healths_kept (FailedTo m) k = refl
   healths_kept (Noted w) k = refl
   healths_kept NoteEmptied k = refl
 
-  pub failed_kept : (s : Store) → Other (5 ∷ 6 ∷ []) s → c.failed ≡ (make s c).failed
+  pub failed_kept : (s : Store) → Other (5 ∷ []) s → c.failed ≡ (make s c).failed
   failed_kept Nothing k = refl
   failed_kept (NativeTo v) k = refl
   failed_kept (AccessibleTo v) k = refl
   failed_kept (Marked place) k = refl
   failed_kept (Graded place h) k = refl
-  failed_kept (FailedAt id) k = absurd (miss (others (5 ∷ 6 ∷ [])) 5 tt k)
-  failed_kept FailedCleared k = absurd (miss (others (5 ∷ 6 ∷ [])) 6 tt k)
+  failed_kept (FailedTo m) k = absurd (miss (others (5 ∷ [])) 5 tt k)
   failed_kept (Noted w) k = refl
   failed_kept NoteEmptied k = refl
 
-  pub note_kept : (s : Store) → Other (7 ∷ 8 ∷ []) s → c.note ≡ (make s c).note
+  pub note_kept : (s : Store) → Other (6 ∷ 7 ∷ []) s → c.note ≡ (make s c).note
   note_kept Nothing k = refl
   note_kept (NativeTo v) k = refl
   note_kept (AccessibleTo v) k = refl
   note_kept (Marked place) k = refl
   note_kept (Graded place h) k = refl
-  note_kept (FailedAt id) k = refl
-  note_kept FailedCleared k = refl
-  note_kept (Noted w) k = absurd (miss (others (7 ∷ 8 ∷ [])) 7 tt k)
-  note_kept NoteEmptied k = absurd (miss (others (7 ∷ 8 ∷ [])) 8 tt k)
+  note_kept (FailedTo m) k = refl
+  note_kept (Noted w) k = absurd (miss (others (6 ∷ 7 ∷ [])) 6 tt k)
+  note_kept NoteEmptied k = absurd (miss (others (6 ∷ 7 ∷ [])) 7 tt k)
 
   -- the cell's own stores
   module _ (s x : Store) (is_s : s ≡ x) where
@@ -125,9 +119,6 @@ module _ (m : Mark) where
   unfolding is_set
   mark_clear e = sym (rw e)
 
-  pub mark_names : (id : ElementId) (r : Mark) → m ≡ Names id → r ≡ Names id → r ≡ m
-  mark_names id r e q = q ∙ sym e
-
-  pub mark_set : (id : ElementId) → m ≡ Names id → true ≡ is_set m
+  pub mark_set : m ≡ Set → true ≡ is_set m
   unfolding is_set
-  mark_set id e = sym (rw e)
+  mark_set e = sym (rw e)

@@ -4,11 +4,11 @@ use Rattle.paper.specs.declared.Lba.{Lba}
 use Rattle.table.specs.Elements.{removed_count}
 use Rattle.table.specs.declared.Table.{Table}
 use Rattle.cells.specs.declared.Cells.{Cells}
-use Rattle.cells.specs.declared.Mark.TheVariants.{Clear, Names}
+use Rattle.cells.specs.declared.Mark.TheVariants.{Clear, Set}
 use Rattle.cells.specs.declared.Mark.{Mark}
 use Rattle.cells.specs.declared.Note.TheVariants.{Empty, Full}
 use Rattle.cells.specs.declared.Note.{Note}
-use Rattle.cells.specs.declared.Store.TheVariants.{Nothing, NativeTo, AccessibleTo, Marked, Graded, FailedAt, FailedCleared, Noted, NoteEmptied}
+use Rattle.cells.specs.declared.Store.TheVariants.{Nothing, NativeTo, AccessibleTo, Marked, Graded, FailedTo, Noted, NoteEmptied}
 use Rattle.cells.specs.declared.Store.{Store}
 
 -- "A removal is under way exactly while the note is full."
@@ -20,10 +20,10 @@ is_full (Full w) = true
 abbrev pub busy_number : Cells → ℕ
 busy_number c = 2
 
--- whether the failed mark is set: "The failed mark now names the element whose removal wound up last" (request 2026-07)
+-- whether the failed mark is set
 unfoldable pub is_set : Mark → Bool
 is_set Clear = false
-is_set (Names id) = true
+is_set Set = true
 
 -- the number of a media access while it is set
 abbrev pub failed_number : Mark → ℕ
@@ -61,7 +61,6 @@ make (NativeTo v) c = with_native v c
 make (AccessibleTo v) c = with_accessible v c
 make (Marked place) c = with_health place 0xFF c
 make (Graded place h) c = with_health place h c
-make (FailedAt id) c = with_failed (Names id) c
-make FailedCleared c = with_failed Clear c
+make (FailedTo m) c = with_failed m c
 make (Noted w) c = with_note (Full w) c
 make NoteEmptied c = with_note Empty c

@@ -23,11 +23,11 @@ pub enum Note {
     Full(Removal),
 }
 
-// The failed mark: clear, or the element whose removal wound up last.
+// The failed mark.
 #[derive(Drop)]
 pub enum Mark {
     Clear,
-    Names(ElementId),
+    Set,
 }
 
 // The next step of the step list: five work steps, four winding-up steps.
@@ -54,7 +54,7 @@ pub struct Cells {
     pub note: Note,
 }
 
-// A store writes one cell whole; a health by its place. `Marked` is the marking store; `FailedAt` sets the failed mark.
+// A store writes one cell whole; a health by its place. `Marked` is the marking store.
 #[derive(Drop)]
 pub enum Store {
     Nothing,
@@ -62,8 +62,7 @@ pub enum Store {
     AccessibleTo(Lba),
     Marked(usize),
     Graded(usize, u8),
-    FailedAt(ElementId),
-    FailedCleared,
+    FailedTo(Mark),
     Noted(Removal),
     NoteEmptied,
 }
@@ -115,23 +114,12 @@ fn healths_after(old: [u8; 128], store: Store) -> [u8; 128]
     }
 }
 
-// The failed mark as it is, built anew, as a note is below.
-fn same_mark(mark: Mark) -> Mark
-    ensures { result ≡ mark }
-{
-    match mark {
-        Mark::Clear => Mark::Clear,
-        Mark::Names(id) => Mark::Names(id),
-    }
-}
-
 fn failed_after(old: Mark, store: Store) -> Mark
     ensures { (c : Cells) → old ≡ c.failed → result ≡ (make store c).failed }
 {
     match store {
-        Store::FailedAt(id) => Mark::Names(id),
-        Store::FailedCleared => Mark::Clear,
-        _ => same_mark(old),
+        Store::FailedTo(m) => m,
+        _ => old,
     }
 }
 
@@ -183,7 +171,7 @@ impl Mark {
     {
         match self {
             Mark::Clear => false,
-            Mark::Names(_) => true,
+            Mark::Set => true,
         }
     }
 }

@@ -6,7 +6,6 @@ use mathlib.Core.Path.{◌≡◌, refl, sym, subst}
 use native.Mathlib.Omega.{arith}
 use lib.Dec.{eqb}
 use borrow.Author.Tests.{eqb-true, eqb-false}
-use Rattle.paper.specs.declared.Reading.{Reading}
 use Rattle.reach.specs.Opening.{accepted}
 use Rattle.reach.specs.Pages.{count_of, element_at}
 use Rattle.reader.proofs.Taken.{Taken, taken, room}
@@ -22,15 +21,15 @@ pub record Ascends (s : List ℕ) : Type 0 where
   pub some : (k : ℕ) → k < count_of s → 1 ≤ id_at s k
   pub rise : (j k : ℕ) → j < k → k < count_of s → id_at s j < id_at s k
 
-module _ (v : Reading) (s : List ℕ) (q : Request) (is_accepted_lem : accepted v s q ≡ true) where
-  pub is_taken : Taken Little v s q
+module _ (s : List ℕ) (q : Request) (is_accepted_lem : accepted s q ≡ true) where
+  pub is_taken : Taken Little s q
   unfolding accepted
-  is_taken = taken Little v s q (eqb-true (read_of Little v s q).number 0 is_accepted_lem)
+  is_taken = taken Little s q (eqb-true (read_of Little s q).number 0 is_accepted_lem)
 
   -- a page of p times 512 bytes has room for 16p - 1 descriptors
   pub count_room : count_of s ≤ 16 * pages_of q - 1
   unfolding count_of
-  count_room = room Little v s q is_taken
+  count_room = room Little s q is_taken
 
   above_none : (k : ℕ) → k < count_of s → 1 ≤ id_at s k
   unfolding count_of element_at

@@ -206,7 +206,7 @@ module _ (s t : List ℕ) where
 
 pub walk_gives : WalkGives
 unfolding differences_of
-walk_gives v s t q of_s of_t =
-    let up_s : Ascends s = ascends v s q of_s in
-    let up_t : Ascends t = ascends v t q of_t in
+walk_gives s t q of_s of_t =
+    let up_s : Ascends s = ascends s q of_s in
+    let up_t : Ascends t = ascends t q of_t in
     right s t up_s up_t (ahead s t first) first 1 (end_of (bound_of s t)).0 (omega arith) (omega arith) (from_first s up_s) (from_first t up_t)

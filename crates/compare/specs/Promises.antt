@@ -1,7 +1,6 @@
 -- What holds of every comparison. Each is a statement; proofs/ has the proof under the same name in lower case.
 use Rattle.std.specs.Prelude.{ℕ, ◌<◌, true, List, [], ◌∷◌, map, ◌≡◌}
 use Rattle.paper.specs.declared.ElementId.{ElementId}
-use Rattle.paper.specs.declared.Reading.{Reading}
 use Rattle.reach.specs.Opening.{accepted}
 use Rattle.reach.specs.Pages.{count_of, element_at}
 use Rattle.reader.specs.Reserved.{LooksAlike}
@@ -43,9 +42,9 @@ EachOnce = (s t : List ℕ) → Ascending 0 (map (id_of s t) (differences_of s t
 abbrev pub WalkEnds : Type 0
 WalkEnds = (s t : List ℕ) (c : Cursor) → walk_from s t c ≡ after (next_of s t c) (walk_from s t)
 
--- over two pages that are accepted in one reading it gives exactly the differences
+-- over two accepted pages it gives exactly the differences
 abbrev pub WalkGives : Type 0
-WalkGives = (v : Reading) (s t : List ℕ) (q : Request) → accepted v s q ≡ true → accepted v t q ≡ true → walk_from s t first ≡ differences_of s t
+WalkGives = (s t : List ℕ) (q : Request) → accepted s q ≡ true → accepted t q ≡ true → walk_from s t first ≡ differences_of s t
 
 -- ## "Reserved bytes are not looked at"
 

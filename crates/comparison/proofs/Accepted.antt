@@ -14,7 +14,6 @@ use Rattle.compare.specs.Walk.{first, walk_from}
 use Rattle.compare.specs.declared.Cursor.{Cursor}
 use Rattle.ending.specs.Ending.{last_line}
 use Rattle.paper.specs.Told.{tells}
-use Rattle.paper.specs.declared.Reading.TheVariants.{First}
 use Rattle.reach.specs.Opening.{Values, bound, turn, open_of, accepted, judged}
 use Rattle.reach.specs.Pages.{count_of, bound_of}
 use Rattle.reach.specs.declared.Bound.{Bound}
@@ -41,24 +40,24 @@ opened true false m b e = refused_lem Newer b e
 opened false y m b e = refused_lem Older b e
 
 module _ (s t : List ℕ) (b : Bound) where
-  both_accepted : (judged First s t).state ≡ bound b → (length s ≤ 65536) × (accepted First s (request_of s) ≡ true) × (accepted First t (request_of s) ≡ true)
+  both_accepted : (judged s t).state ≡ bound b → (length s ≤ 65536) × (accepted s (request_of s) ≡ true) × (accepted t (request_of s) ≡ true)
   unfolding judged
   both_accepted = by_test (ltb 65536 (length s)) refl
     where
-      by_test : (x : Bool) → ltb 65536 (length s) ≡ x → (cond x (tells 9 (turn Older)) (open_of First s t (request_of s))).state ≡ bound b
-          → (length s ≤ 65536) × (accepted First s (request_of s) ≡ true) × (accepted First t (request_of s) ≡ true)
+      by_test : (x : Bool) → ltb 65536 (length s) ≡ x → (cond x (tells 9 (turn Older)) (open_of s t (request_of s))).state ≡ bound b
+          → (length s ≤ 65536) × (accepted s (request_of s) ≡ true) × (accepted t (request_of s) ≡ true)
       by_test true e v = refused_lem Older b v
       by_test false e v =
-          let both = opened (accepted First s (request_of s)) (accepted First t (request_of s)) (bound_of s t) b v in
+          let both = opened (accepted s (request_of s)) (accepted t (request_of s)) (bound_of s t) b v in
           (ltb-false _ _ e, both.0, both.1)
 
 -- ## They are short
 
 -- 128 pages have room for 2,047 descriptors
-pub counts : (s t : List ℕ) (b : Bound) → (judged First s t).state ≡ bound b → (count_of s ≤ 2047) × (count_of t ≤ 2047)
+pub counts : (s t : List ℕ) (b : Bound) → (judged s t).state ≡ bound b → (count_of s ≤ 2047) × (count_of t ≤ 2047)
 counts s t b e =
     let (short, in_s, in_t) = both_accepted s t b e in
-    (omega (arith, count_room First s (request_of s) in_s), omega (arith, count_room First t (request_of s) in_t))
+    (omega (arith, count_room s (request_of s) in_s), omega (arith, count_room t (request_of s) in_t))
 
 -- ## The walk over them
 
@@ -70,13 +69,13 @@ lines_walked : (s t : List ℕ) → walk_from s t first ≡ differences_of s t �
 unfolding lines_from
 lines_walked s t e = ap (lines_of s t) e
 
-walked_lem : (s t : List ℕ) → lines_from (is_accepted (judged First s t).state) s t first ≡ lines_of s t (differences_for s t (judged First s t).state)
-walked_lem s t = by_state (judged First s t).state refl
+walked_lem : (s t : List ℕ) → lines_from (is_accepted (judged s t).state) s t first ≡ lines_of s t (differences_for s t (judged s t).state)
+walked_lem s t = by_state (judged s t).state refl
   where
-    by_state : (v : Values) → (judged First s t).state ≡ v → lines_from (is_accepted v) s t first ≡ lines_of s t (differences_for s t v)
+    by_state : (v : Values) → (judged s t).state ≡ v → lines_from (is_accepted v) s t first ≡ lines_of s t (differences_for s t v)
     by_state (turn w) e = lines_none s t first
-    by_state (bound b) e = let (short, in_s, in_t) = both_accepted s t b e in lines_walked s t (walk_gives First s t (request_of s) in_s in_t)
+    by_state (bound b) e = let (short, in_s, in_t) = both_accepted s t b e in lines_walked s t (walk_gives s t (request_of s) in_s in_t)
 
-pub by_walk : (s t : List ℕ) → comparison_of s t ≡ lines_from (is_accepted (judged First s t).state) s t first ++ last_line (judged First s t).state
+pub by_walk : (s t : List ℕ) → comparison_of s t ≡ lines_from (is_accepted (judged s t).state) s t first ++ last_line (judged s t).state
 unfolding comparison_of
 by_walk s t = sym (rw (walked_lem s t))

@@ -17,7 +17,6 @@ use Rattle.compare.specs.declared.Step.TheVariants.{Done, Found}
 use Rattle.compare.specs.declared.Step.{Step}
 use Rattle.ending.proofs.Ending.{length_last}
 use Rattle.ending.specs.Ending.{last_line}
-use Rattle.paper.specs.declared.Reading.TheVariants.{First}
 use Rattle.reach.specs.Opening.{heard, judged}
 use Rattle.reach.specs.declared.Opening.{Opening}
 use Rattle.slices.specs.Lists.{stored, ended}
@@ -102,8 +101,8 @@ module _ (s t : List ℕ) (a : Bool) (c : Cursor) (x : Step) (is_x : x ≡ step_
 
 -- ## The whole text
 
-module _ (s t : List ℕ) (opening : Opening) (is_opening : heard opening ≡ judged First s t) (a : Bool) (is_a : a ≡ is_accepted (heard opening).state) where
-  as_judged : lines_from a s t first ≡ lines_from (is_accepted (judged First s t).state) s t first
+module _ (s t : List ℕ) (opening : Opening) (is_opening : heard opening ≡ judged s t) (a : Bool) (is_a : a ≡ is_accepted (heard opening).state) where
+  as_judged : lines_from a s t first ≡ lines_from (is_accepted (judged s t).state) s t first
   as_judged = rw (is_a, is_opening)
 
   pub lines_fit : length (lines_from a s t first) < 2 ^ 64

@@ -14,7 +14,6 @@ use Rattle.compare.specs.declared.Line.TheVariants.{OnlyOlder, OnlyNewer, Change
 use Rattle.compare.specs.declared.Line.{Line}
 use Rattle.ending.proofs.Ending.{length_last}
 use Rattle.ending.specs.Ending.{refused_line, last_line}
-use Rattle.paper.specs.declared.Reading.TheVariants.{First}
 use Rattle.reach.specs.Opening.{Values, bound, turn, judged}
 use Rattle.reach.specs.declared.Bound.TheVariants.{Whole, UpTo}
 use Rattle.reach.specs.declared.Bound.{Bound}
@@ -31,9 +30,9 @@ length_comparison s t =
     omega (
       arith,
       ap length (by_walk s t),
-      length-append (lines_from (is_accepted (judged First s t).state) s t first) (last_line (judged First s t).state),
+      length-append (lines_from (is_accepted (judged s t).state) s t first) (last_line (judged s t).state),
       length_lines s t,
-      length_last (judged First s t).state,
+      length_last (judged s t).state,
     )
 
 -- a buffer of that length is not measured for
@@ -69,4 +68,4 @@ module _ (s t : List ℕ) where
 
 pub tells_status : TellsStatus
 unfolding comparison_of
-tells_status s t = status s t (judged First s t).state
+tells_status s t = status s t (judged s t).state

@@ -11,7 +11,6 @@ use Rattle.compare.proofs.Walking.{passed, few}
 use Rattle.compare.specs.Walk.{first, ahead, walk_from}
 use Rattle.compare.specs.declared.Cursor.{Cursor}
 use Rattle.compare.specs.declared.Line.{Line}
-use Rattle.paper.specs.declared.Reading.TheVariants.{First}
 use Rattle.reach.specs.Opening.{Values, bound, turn, judged}
 use Rattle.slices.specs.Lists.{sum}
 use Rattle.comparison.specs.Comparison.{lines_of}
@@ -32,9 +31,9 @@ module _ (s t : List ℕ) where
 -- ## The whole text
 
 -- 2,047 descriptors in each page
-pub length_lines : (s t : List ℕ) → length (lines_from (is_accepted (judged First s t).state) s t first) ≤ 155572
-length_lines s t = by_state (judged First s t).state refl
+pub length_lines : (s t : List ℕ) → length (lines_from (is_accepted (judged s t).state) s t first) ≤ 155572
+length_lines s t = by_state (judged s t).state refl
   where
-    by_state : (v : Values) → (judged First s t).state ≡ v → length (lines_from (is_accepted v) s t first) ≤ 155572
+    by_state : (v : Values) → (judged s t).state ≡ v → length (lines_from (is_accepted v) s t first) ≤ 155572
     by_state (turn w) e = omega (arith, ap length (lines_none s t first))
     by_state (bound b) e = let (in_s, in_t) = counts s t b e in omega (arith, length_from s t first)

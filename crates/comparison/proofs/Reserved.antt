@@ -6,7 +6,6 @@ use Rattle.changes.proofs.Reserved.{line_same}
 use Rattle.compare.proofs.Reserved.{reserved_uncompared}
 use Rattle.compare.specs.declared.Line.{Line}
 use Rattle.ending.specs.Ending.{last_line}
-use Rattle.paper.specs.declared.Reading.TheVariants.{First}
 use Rattle.reach.proofs.Reserved.{reserved_unopened}
 use Rattle.reach.specs.Opening.{Values, bound, turn}
 use Rattle.reader.specs.Reserved.{LooksAlike}
@@ -26,5 +25,5 @@ module _ (s s' t t' : List ℕ) (older : LooksAlike Little s s') (newer : LooksA
 pub reserved_unwritten : ReservedUnwritten
 unfolding comparison_of
 reserved_unwritten s s' t t' older newer = λ i.
-    let v = ((reserved_unopened First s s' t t' older newer).1 i).state in
+    let v = ((reserved_unopened s s' t t' older newer).1 i).state in
     lines_same s s' t t' older newer (differences_same s s' t t' older newer v i) i ++ last_line v

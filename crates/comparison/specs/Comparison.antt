@@ -5,8 +5,6 @@ use Rattle.changes.specs.Changes.{line_of}
 use Rattle.compare.specs.Differences.{differences_of}
 use Rattle.compare.specs.declared.Line.{Line}
 use Rattle.ending.specs.Ending.{last_line}
-use Rattle.paper.specs.declared.Reading.TheVariants.{First}
-use Rattle.paper.specs.declared.Reading.{Reading}
 use Rattle.reach.specs.Opening.{Values, bound, turn, judged}
 use Rattle.slices.specs.Lists.{flat}
 
@@ -19,12 +17,8 @@ abbrev pub differences_for : List ℕ → List ℕ → Values → List Line
 differences_for s t (bound b) = differences_of s t
 differences_for s t (turn w) = []
 
-abbrev pub comparison_in : Reading → List ℕ → List ℕ → List ℕ
-comparison_in v s t = lines_of s t (differences_for s t (judged v s t).state) ++ last_line (judged v s t).state
-
--- its request has no filter, so that it is the same in either reading (specs/Promises)
 unfoldable pub comparison_of : List ℕ → List ℕ → List ℕ
-comparison_of s t = comparison_in First s t
+comparison_of s t = lines_of s t (differences_for s t (judged s t).state) ++ last_line (judged s t).state
 
 -- ## The exit status
 

@@ -2,12 +2,10 @@
 use Rattle.std.specs.Prelude.{ℕ, ◌≤◌, List, ◌≡◌, length}
 use Rattle.compare.specs.Differences.{differences_of}
 use Rattle.paper.specs.Output.{written}
-use Rattle.paper.specs.declared.Reading.TheVariants.{First}
-use Rattle.paper.specs.declared.Reading.{Reading}
 use Rattle.reach.specs.Opening.{judged}
 use Rattle.reader.specs.Reserved.{LooksAlike}
 use Rattle.words.specs.declared.Order.TheVariants.{Little}
-use Rattle.comparison.specs.Comparison.{comparison_in, comparison_of, status_for, status_of}
+use Rattle.comparison.specs.Comparison.{comparison_of, status_for, status_of}
 
 -- No second answer fits a text, and a refusal writes nothing: `paper`'s `OneOutput` and `RefusalWritesNothing`, of any bytes.
 
@@ -17,12 +15,8 @@ Enough = (s t out : List ℕ) → 160000 ≤ length out → (written (comparison
 
 -- the text tells the exit status
 abbrev pub TellsStatus : Type 0
-TellsStatus = (s t : List ℕ) → status_of (comparison_of s t) ≡ status_for (judged First s t).state (differences_of s t)
+TellsStatus = (s t : List ℕ) → status_of (comparison_of s t) ≡ status_for (judged s t).state (differences_of s t)
 
 -- "Reserved bytes are not looked at": of pages that look alike the text is one; s and t look like s' and t'
 abbrev pub ReservedUnwritten : Type 0
 ReservedUnwritten = (s s' t t' : List ℕ) → LooksAlike Little s s' → LooksAlike Little t t' → comparison_of s t ≡ comparison_of s' t'
-
--- two pages are compared alike in either reading
-abbrev pub EitherReading : Type 0
-EitherReading = (v : Reading) (s t : List ℕ) → comparison_in v s t ≡ comparison_of s t

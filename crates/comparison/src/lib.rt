@@ -4,7 +4,6 @@ ghost use Rattle.compare.specs.Walk.{first, frame_of};
 ghost use Rattle.io.specs.Counts.{IsPrefixLen};
 ghost use Rattle.paper.specs.Output.{output, written};
 ghost use Rattle.paper.specs.Told.{said};
-ghost use Rattle.paper.specs.declared.Reading.TheVariants.{First};
 ghost use Rattle.reach.specs.Opening.{heard, judged};
 ghost use Rattle.writing.specs.Private as writing·private;
 ghost use Rattle.comparison.specs.Comparison as paper;
@@ -59,7 +58,7 @@ fn measure<'a>(older: &'a [u8], newer: &'a [u8], accepted: bool) -> usize
 
 // Whether the whole text fits. Each fits 160,000 bytes, so that for these nothing is measured.
 fn has_room<'a>(older: &'a [u8], newer: &'a [u8], opening: Opening, room: usize) -> bool
-    requires { heard opening ≡ judged First older.now newer.now }
+    requires { heard opening ≡ judged older.now newer.now }
     ensures { result ≡ leb (length (paper.comparisonOf older.now newer.now)) room }
 {
     if 160000 <= room {

@@ -25,7 +25,7 @@ use Rattle.table.proofs.Search.{hits_there}
 use Rattle.table.specs.Elements.{identifiers}
 use Rattle.table.specs.Search.{sight_in}
 use Rattle.conduct.specs.Promises.{OneAnswer, Leaves, RefusalLeaves, KeepsTable, Tidy, KeepsTidy, EndsAtRest}
-use Rattle.conduct.proofs.Shapes.{Kind, Shape, quiet_lem, clears, notes_lem, advances, winds, Grading, refuses, grades, every, marking_note}
+use Rattle.conduct.proofs.Shapes.{Kind, Shape, quiet_lem, clears, notes, advances, winds, Grading, refuses, grades, every, marking_note}
 
 -- ## No second answer
 
@@ -40,7 +40,7 @@ refusal_leaves d e = every d (λ (r : Ruled). Leaves d (tell d r)) shape grading
     shape : (k : Kind) (r : Ruled) → Shape d k r → Leaves d (tell d r)
     shape k r (quiet_lem n) z = refl
     shape k r clears z = absurd (z refl)
-    shape k r (notes_lem id lba n s) z = absurd (z refl)
+    shape k r (notes id lba n s) z = absurd (z refl)
     shape k r (advances w n) z = absurd (z refl)
     shape k r (winds w n) z = absurd (z refl)
 
@@ -106,7 +106,7 @@ module _ (d : Device) (tidy : Tidy d) where
   tidied_shape : (k : Kind) (r : Ruled) → Shape d k r → Tidy (carried_out d r)
   tidied_shape k r (quiet_lem n) = tidy
   tidied_shape k r clears = record { slots = tidy.slots; healths = tidy.healths; rests = tidy.rests }
-  tidied_shape k r (notes_lem id lba n s) = record { slots = tidy.slots; healths = tidy.healths; rests = λ _. refl }
+  tidied_shape k r (notes id lba n s) = record { slots = tidy.slots; healths = tidy.healths; rests = λ _. refl }
   tidied_shape k r (advances w n) = record { slots = tidy.slots; healths = stepped w d.position; rests = resting d w n d.position }
   tidied_shape k r (winds w n) = record { slots = tidy.slots; healths = tidy.healths; rests = λ q. full_not (sym n ∙ q) }
 
@@ -131,7 +131,7 @@ ends_at_rest d e w full = every d Rested shape grading e
     shape : (k : Kind) (r : Ruled) → Shape d k r → (carried_out d r).cells.note ≡ Empty → (carried_out d r).position ≡ Work1
     shape k r (quiet_lem n) q = still_full q
     shape k r clears q = still_full q
-    shape k r (notes_lem id lba n s) q = still_full n
+    shape k r (notes id lba n s) q = still_full n
     shape k r (advances v n) q = resting d v n d.position q
     shape k r (winds v n) q = still_full q
 

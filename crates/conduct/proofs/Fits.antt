@@ -31,7 +31,7 @@ use Rattle.table.specs.Search.{place, sight_in}
 use Rattle.table.specs.declared.Part.{Part}
 use Rattle.conduct.specs.Fits.{PartFits, Fits}
 use Rattle.conduct.specs.Promises.{KeepsFit}
-use Rattle.conduct.proofs.Shapes.{Kind, Shape, quiet_lem, clears, notes_lem, advances, winds, Grading, refuses, grades, every}
+use Rattle.conduct.proofs.Shapes.{Kind, Shape, quiet_lem, clears, notes, advances, winds, Grading, refuses, grades, every}
 
 -- the cells' part of it: the healths and the note
 pub record CellsFit (hs : List ℕ) (n : Note) : Type 0 where
@@ -106,7 +106,7 @@ module _ (d : Device) (fits : Fits d) where
   fit_shape : (k : Kind) (r : Ruled) → Shape d k r → Fits (carried_out d r)
   fit_shape k r (quiet_lem n) = fits
   fit_shape k r clears = with_cells r as_it_was
-  fit_shape k r (notes_lem id lba n s) = with_cells r (noting _ s.hit)
+  fit_shape k r (notes id lba n s) = with_cells r (noting _ s.hit)
   fit_shape k r (advances w n) = with_cells r (stepped w d.position)
   fit_shape k r (winds w n) = with_cells r as_it_was
 

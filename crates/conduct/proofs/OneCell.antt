@@ -4,7 +4,7 @@ use mathlib.Core.Path.{◌≡◌, refl, ap}
 use lib.Seq.{get_or-set_other}
 use Rattle.cells.specs.Rulings.{Ruled}
 use Rattle.cells.specs.declared.Position.{Position}
-use Rattle.cells.specs.declared.Store.TheVariants.{Nothing, NativeTo, AccessibleTo, Marked, Graded, FailedAt, FailedCleared, Noted, NoteEmptied}
+use Rattle.cells.specs.declared.Store.TheVariants.{Nothing, NativeTo, AccessibleTo, Marked, Graded, FailedTo, Noted, NoteEmptied}
 use Rattle.cells.specs.declared.Store.{Store}
 use Rattle.device.specs.Machine.{rule}
 use Rattle.device.specs.Record.{carried_out}
@@ -18,8 +18,7 @@ written (NativeTo v) = native_max
 written (AccessibleTo v) = accessible_max
 written (Marked place) = health place
 written (Graded place h) = health place
-written (FailedAt id) = failed_mark
-written FailedCleared = failed_mark
+written (FailedTo m) = failed_mark
 written (Noted w) = note
 written NoteEmptied = note
 
@@ -60,16 +59,11 @@ module _ (d : Device) (n : ℕ) (p : Position) where
   others_lem (Graded place h) failed_mark ne = refl
   others_lem (Graded place h) note ne = refl
   others_lem (Graded place h) (health i) ne = elsewhere place h i ne
-  others_lem (FailedAt id) native_max ne = refl
-  others_lem (FailedAt id) accessible_max ne = refl
-  others_lem (FailedAt id) failed_mark ne = own ne
-  others_lem (FailedAt id) note ne = refl
-  others_lem (FailedAt id) (health i) ne = refl
-  others_lem FailedCleared native_max ne = refl
-  others_lem FailedCleared accessible_max ne = refl
-  others_lem FailedCleared failed_mark ne = own ne
-  others_lem FailedCleared note ne = refl
-  others_lem FailedCleared (health i) ne = refl
+  others_lem (FailedTo m) native_max ne = refl
+  others_lem (FailedTo m) accessible_max ne = refl
+  others_lem (FailedTo m) failed_mark ne = own ne
+  others_lem (FailedTo m) note ne = refl
+  others_lem (FailedTo m) (health i) ne = refl
   others_lem (Noted w) native_max ne = refl
   others_lem (Noted w) accessible_max ne = refl
   others_lem (Noted w) failed_mark ne = refl

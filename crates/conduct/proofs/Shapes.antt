@@ -6,12 +6,13 @@ use lib.Dec.{eqb}
 use Rattle.cells.specs.Cells.{make, is_full}
 use Rattle.cells.specs.Rulings.{Ruled, goes}
 use Rattle.cells.specs.declared.Cells.{Cells}
+use Rattle.cells.specs.declared.Mark.TheVariants.{Clear}
 use Rattle.cells.specs.declared.Note.TheVariants.{Empty, Full}
 use Rattle.cells.specs.declared.Note.{Note}
 use Rattle.cells.specs.declared.Position.TheVariants.{Work1, Wind1}
 use Rattle.cells.specs.declared.Removal.{Removal}
 use Rattle.cells.specs.declared.Seen.{Seen}
-use Rattle.cells.specs.declared.Store.TheVariants.{Nothing, Marked, Graded, FailedCleared, Noted}
+use Rattle.cells.specs.declared.Store.TheVariants.{Nothing, Marked, Graded, FailedTo, Noted}
 use Rattle.device.proofs.Stores.{store_at}
 use Rattle.device.specs.Machine.{Event, command, step, media_error, power_cut, comreset, hardware_reset, software_reset, grade, rule}
 use Rattle.device.specs.Record.{under_way, removed_number, says, see}
@@ -40,9 +41,9 @@ pub data Shape (d : Device) : Kind → Ruled → Type 0 where
   -- a number, and nothing changes
   quiet_lem : {k : Kind} (n : ℕ) → Shape d k (says n d)
   -- a command for an element at FFh
-  clears : Shape d still (goes FailedCleared d.position)
+  clears : Shape d still (goes (FailedTo Clear) d.position)
   -- an accepted removal
-  notes_lem : (id : ElementId) (lba : Lba) → d.cells.note ≡ Empty → Standing d id
+  notes : (id : ElementId) (lba : Lba) → d.cells.note ≡ Empty → Standing d id
       → Shape d still (goes (Noted (removal_of d.cells.native id lba (see d id).part.blocks)) Work1)
   -- a step
   advances : (w : Removal) → d.cells.note ≡ Full w → Shape d moving (goes (store_at d w d.position) (next_of d.position))
@@ -93,7 +94,7 @@ module _ (d : Device) where
     shape_room standing =
         choose (Shape d still) (too_small d.cells.native.0 (see d id).part.blocks) (λ _. quiet_lem 4)
         (λ _. choose (Shape d still) (too_high d.cells.native.0 (see d id).part.blocks lba.0) (λ _. quiet_lem 4)
-        (λ _. notes_lem id lba empty standing))
+        (λ _. notes id lba empty standing))
 
     shape_found : Shape d still (judge_found d.table d.cells d.position id lba (see d id))
     unfolding judge_found

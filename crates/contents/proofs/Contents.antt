@@ -1,4 +1,4 @@
--- Laws of what is said of a page: its parts side by side, one law for each way out of a function, and how long it is.
+-- Laws of a reading: its parts side by side, one law for each way out of a function, and how long it is.
 use Prim.Native.Nat.{ℕ, zero, suc, ◌+◌, ◌*◌, ◌≤◌, ◌<◌}
 use mathlib.Core.Bool.{Bool, true, false}
 use mathlib.Core.List.{List, [], ◌∷◌, ◌++◌}
@@ -9,7 +9,6 @@ use lib.ListN.{length, take, get_or, length-append, length-take}
 use Rattle.heading.proofs.Heading.{length_header}
 use Rattle.layout.specs.declared.Descriptor.{Descriptor}
 use Rattle.layout.specs.declared.Header.{Header}
-use Rattle.paper.specs.declared.Reading.{Reading}
 use Rattle.reader.proofs.LayoutTheorem.{with_header}
 use Rattle.reader.proofs.Taken.{taken, room}
 use Rattle.reader.specs.Judgement.{Values, header, place, heard, read_of, slot_of}
@@ -88,10 +87,10 @@ module _ (s : List ℕ) (answer : Judgement) (d x : List ℕ) (at r : ℕ) where
       → Puts d at (reading_for s (heard answer).state) x r
   judged-refused p e is_x is_r = rw e (puts_one d x at r (refused_line p) is_x is_r)
 
-pub reading_puts : (v : Reading) (page kept : List ℕ) (q : Request) (answer : Judgement) (d x : List ℕ) (at r : ℕ) → kept ≡ take 65536 page
-    → heard answer ≡ read_of Little v kept q → Puts d at (reading_for kept (heard answer).state) x r → Puts d at (reading_of v page q) x r
+pub reading_puts : (page kept : List ℕ) (q : Request) (answer : Judgement) (d x : List ℕ) (at r : ℕ) → kept ≡ take 65536 page
+    → heard answer ≡ read_of Little kept q → Puts d at (reading_for kept (heard answer).state) x r → Puts d at (reading_of page q) x r
 unfolding reading_of
-reading_puts v page kept q answer d x at r is_kept is_answer so = rw (is_answer, is_kept) at so
+reading_puts page kept q answer d x at r is_kept is_answer so = rw (is_answer, is_kept) at so
 
 -- ## How long: 128 pages have room for 2,047 descriptors
 
@@ -113,21 +112,21 @@ length_list h slots k less =
       length_slots slots k,
     )
 
-few : (v : Reading) (s : List ℕ) (q : Request) (h : Header) → length s ≤ 65536 → (read_of Little v s q).state ≡ header h → h.returned ≤ 2047
-few v s q h short e =
-    let (is_0, is_h) = with_header Little v s q h e in
-    let t = taken Little v s q is_0 in
-    omega (arith, t.long, room Little v s q t, ap (λ (g : Header). g.returned) is_h)
+few : (s : List ℕ) (q : Request) (h : Header) → length s ≤ 65536 → (read_of Little s q).state ≡ header h → h.returned ≤ 2047
+few s q h short e =
+    let (is_0, is_h) = with_header Little s q h e in
+    let t = taken Little s q is_0 in
+    omega (arith, t.long, room Little s q t, ap (λ (g : Header). g.returned) is_h)
 
-length_values_of : (v : Reading) (s : List ℕ) (q : Request) → length s ≤ 65536 → (u : Values) → (read_of Little v s q).state ≡ u → length (reading_for s u) ≤ 80000
-length_values_of v s q short (place p) e = simp length-append (omega (arith, length_decimal p))
-length_values_of v s q short (header h) e = omega (arith, length_list h (slot_of Little s) h.returned (few v s q h short e))
+length_values_of : (s : List ℕ) (q : Request) → length s ≤ 65536 → (v : Values) → (read_of Little s q).state ≡ v → length (reading_for s v) ≤ 80000
+length_values_of s q short (place p) e = simp length-append (omega (arith, length_decimal p))
+length_values_of s q short (header h) e = omega (arith, length_list h (slot_of Little s) h.returned (few s q h short e))
 
-pub length_reading : (v : Reading) (page : List ℕ) (q : Request) → length (reading_of v page q) ≤ 80000
+pub length_reading : (page : List ℕ) (q : Request) → length (reading_of page q) ≤ 80000
 unfolding reading_of
-length_reading v page q =
+length_reading page q =
     let short : length (take 65536 page) ≤ 65536 = rw (length-take 65536 page) (omega arith) in
-    length_values_of v (take 65536 page) q short (read_of Little v (take 65536 page) q).state refl
+    length_values_of (take 65536 page) q short (read_of Little (take 65536 page) q).state refl
 
 pub enough : Enough
 enough = length_reading

@@ -1,4 +1,4 @@
--- Laws of what is said of SCSI data: one for each way out of a function, and how long it is.
+-- Laws of a reading of SCSI data: one for each way out of a function, and how long it is.
 use Prim.Native.Nat.{ℕ, ◌≤◌}
 use mathlib.Core.Bool.{Bool}
 use mathlib.Core.List.{List}
@@ -9,13 +9,12 @@ use Rattle.layout.specs.Bytes.{header_in}
 use Rattle.layout.specs.declared.Header.{Header}
 use Rattle.offences.specs.declared.Offence.TheVariants.{Clean, At}
 use Rattle.offences.specs.declared.Offence.{Offence}
-use Rattle.paper.specs.declared.Reading.{Reading}
 use Rattle.query.specs.declared.Query.{Query}
 use Rattle.scsi.specs.Data.{whole_of, torn_of, data_offence}
-use Rattle.scsi.specs.Judgement.{received, heard, answer_of, read_of, slot_of}
+use Rattle.scsi.specs.Judgement.{reading, heard, answer_of, read_of, slot_of}
 use Rattle.scsi.specs.declared.Judgement.TheVariants.{Accepted, Refused}
 use Rattle.scsi.specs.declared.Judgement.{Judgement}
-use Rattle.scsi.specs.declared.Received.{Received}
+use Rattle.scsi.specs.declared.Reading.{Reading}
 use Rattle.slices.specs.Lists.{stored, ended}
 use Rattle.tally.proofs.Tally.{length_tally}
 use Rattle.tally.specs.Tally.{tally_line}
@@ -32,23 +31,23 @@ use Rattle.contents.proofs.Contents.{length_list}
 -- ## The text
 
 pub read_puts : (s : List ℕ) (h : Header) (whole : ℕ) (torn : Bool) (d x y : List ℕ) (at m r : ℕ) → Puts d at (list_text h (slot_at Big s) whole) x m
-    → y ≡ stored x m (tally_line whole h.number torn) → r ≡ ended x m (tally_line whole h.number torn) → Puts d at (scsi_reading_for s (received h whole torn)) y r
+    → y ≡ stored x m (tally_line whole h.number torn) → r ≡ ended x m (tally_line whole h.number torn) → Puts d at (scsi_reading_for s (reading h whole torn)) y r
 read_puts s h whole torn d x y at m r one is_y is_r =
     let T : List ℕ = tally_line whole h.number torn in
     puts_more d x at m (list_text h (slot_of Big s) whole) T y r (puts_one x y m r T is_y is_r) one
 
 module _ (s : List ℕ) (answer : Judgement) (d x : List ℕ) (at r : ℕ) where
-  pub data_accepted : (g : Received) → answer ≡ Accepted g → Puts d at (scsi_reading_for s (received g.header g.whole g.torn)) x r
+  pub data_accepted : (g : Reading) → answer ≡ Accepted g → Puts d at (scsi_reading_for s (reading g.header g.whole g.torn)) x r
       → Puts d at (scsi_reading_for s (heard answer).state) x r
   data_accepted g e so = rw e so
 
   pub data_refused : (p : ℕ) → answer ≡ Refused p → x ≡ stored d at (refused_line p) → r ≡ ended d at (refused_line p) → Puts d at (scsi_reading_for s (heard answer).state) x r
   data_refused p e is_x is_r = rw e (puts_one d x at r (refused_line p) is_x is_r)
 
-pub data_puts : (v : Reading) (bytes kept : List ℕ) (q : Query) (answer : Judgement) (d x : List ℕ) (at r : ℕ) → kept ≡ take 65536 bytes
-    → heard answer ≡ read_of Big v kept q → Puts d at (scsi_reading_for kept (heard answer).state) x r → Puts d at (scsi_reading_of v bytes q) x r
+pub data_puts : (bytes kept : List ℕ) (q : Query) (answer : Judgement) (d x : List ℕ) (at r : ℕ) → kept ≡ take 65536 bytes
+    → heard answer ≡ read_of Big kept q → Puts d at (scsi_reading_for kept (heard answer).state) x r → Puts d at (scsi_reading_of bytes q) x r
 unfolding scsi_reading_of
-data_puts v bytes kept q answer d x at r is_kept is_answer so = rw (is_answer, is_kept) at so
+data_puts bytes kept q answer d x at r is_kept is_answer so = rw (is_answer, is_kept) at so
 
 -- ## How long: 65,536 bytes have 2,047 whole descriptors
 
@@ -61,9 +60,9 @@ length_data s (At p) h whole torn few = simp length-append (omega (arith, length
 
 pub enough_for_data : EnoughForData
 unfolding scsi_reading_of
-enough_for_data v bytes q =
+enough_for_data bytes q =
     let s : List ℕ = take 65536 bytes in
     let n : ℕ = (header_in Big s).number in
     let short : length s ≤ 65536 = rw (length-take 65536 bytes) (omega arith) in
     let few : whole_of n (length s) ≤ 2047 = omega arith in
-    length_data s (data_offence Big v s q) (header_in Big s) (whole_of n (length s)) (torn_of n (length s)) few
+    length_data s (data_offence Big s q) (header_in Big s) (whole_of n (length s)) (torn_of n (length s)) few

@@ -1,12 +1,10 @@
--- What is said of document 01's page G1, and of pages and SCSI data at the edges, computed from the definitions.
+-- The reading of document 01's page G1, and of pages and SCSI data at the edges, computed from the definitions.
 use Prim.Native.Nat.{ℕ}
 use mathlib.Core.Bool.{true}
 use mathlib.Core.List.{List, [], ◌∷◌, ◌++◌}
 use mathlib.Core.Path.{◌≡◌, refl}
-use lib.ListN.{set}
 use Rattle.layout.specs.Bytes.{all_ones}
 use Rattle.layout.specs.Examples.{zeros, page_g1}
-use Rattle.paper.specs.declared.Reading.TheVariants.{First, Second}
 use Rattle.query.specs.Queries.{due_four}
 use Rattle.request.specs.Requests.{refused, takes_health}
 use Rattle.request.specs.declared.Request.{Request}
@@ -18,7 +16,7 @@ use Rattle.contents.specs.DockContents.{scsi_reading_of}
 abbrev asked : ℕ → Request
 asked feature = record { feature = feature; count = record { 0 = 1 }; lba = record { 0 = 0 } }
 
-pub G1 : reading_of First page_g1 (asked 0x4100) ≡ ascii "0\nnumber 1 returned 1 busy 00000000 limit 2 removed 0\n00010003 0 01 70 500\n"
+pub G1 : reading_of page_g1 (asked 0x4100) ≡ ascii "0\nnumber 1 returned 1 busy 00000000 limit 2 removed 0\n00010003 0 01 70 500\n"
 unfolding reading_of refused takes_health
 G1 = refl
 
@@ -27,22 +25,16 @@ pub restorable : held_line (record { id = record { 0 = 0xFFFF_FFFF }; restorable
 restorable = refl
 
 -- no page, a request that is due 4, N at 1 with nothing returned, and a last byte that is not 0
-pub refusals : (reading_of First [] (asked 0) ≡ ascii "9 at 0\n") × (reading_of First page_g1 (asked 0x8000) ≡ ascii "9 at 0\n")
-    × (reading_of First (1 ∷ zeros 511) (asked 0) ≡ ascii "9 at 4\n") × (reading_of First (zeros 511 ++ (1 ∷ [])) (asked 0) ≡ ascii "9 at 511\n")
+pub refusals : (reading_of [] (asked 0) ≡ ascii "9 at 0\n") × (reading_of page_g1 (asked 0x8000) ≡ ascii "9 at 0\n")
+    × (reading_of (1 ∷ zeros 511) (asked 0) ≡ ascii "9 at 4\n") × (reading_of (zeros 511 ++ (1 ∷ [])) (asked 0) ≡ ascii "9 at 511\n")
 unfolding reading_of refused takes_health
 refusals = (refl, refl, refl, refl)
-
--- a health that filter 01b lets through in the second reading alone
-pub later : (reading_of First (set page_g1 47 0xFE) (asked 0x4100) ≡ ascii "9 at 47\n")
-    × (reading_of Second (set page_g1 47 0xFE) (asked 0x4100) ≡ ascii "0\nnumber 1 returned 1 busy 00000000 limit 2 removed 0\n00010003 0 01 FE 500\n")
-unfolding reading_of refused takes_health
-later = (refl, refl)
 
 -- ## SCSI data
 
 -- `scsiread 0 0 0`
 abbrev plain : List ℕ → List ℕ
-plain s = scsi_reading_of First s (record { filter = 0; report = 0; start = record { 0 = 0 } })
+plain s = scsi_reading_of s (record { filter = 0; report = 0; start = record { 0 = 0 } })
 
 -- a header of one element: big-endian, and returned is N whether its descriptor is there or not
 abbrev one : List ℕ

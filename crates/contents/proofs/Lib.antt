@@ -1,4 +1,4 @@
--- What is proved of all that is said of a page or of SCSI data.
+-- What is proved of a reading.
 pub mod Contents
 pub mod DockContents
 pub mod Examples

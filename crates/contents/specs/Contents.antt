@@ -2,7 +2,6 @@
 use Rattle.std.specs.Prelude.{ℕ, zero, suc, List, [], ◌++◌, take}
 use Rattle.layout.specs.declared.Descriptor.{Descriptor}
 use Rattle.layout.specs.declared.Header.{Header}
-use Rattle.paper.specs.declared.Reading.{Reading}
 use Rattle.reader.specs.Judgement.{Values, header, place, read_of, slot_of}
 use Rattle.reader.specs.declared.Slot.TheVariants.{Outside, Holds}
 use Rattle.reader.specs.declared.Slot.{Slot}
@@ -41,5 +40,5 @@ reading_for s (header h) = list_text h (slot_of Little s) h.returned
 reading_for s (place p) = refused_line p
 
 -- a kept page has at most 65,536 bytes
-unfoldable pub reading_of : Reading → List ℕ → Request → List ℕ
-reading_of v page q = reading_for (take 65536 page) (read_of Little v (take 65536 page) q).state
+unfoldable pub reading_of : List ℕ → Request → List ℕ
+reading_of page q = reading_for (take 65536 page) (read_of Little (take 65536 page) q).state

@@ -1,19 +1,18 @@
 // What the bench says of the SCSI data that it reads.
 ghost use Rattle.std.specs.Prelude.{◌≡◌};
-ghost use Rattle.scsi.specs.Judgement.{received, heard};
+ghost use Rattle.scsi.specs.Judgement.{reading, heard};
 ghost use Rattle.writing.specs.Private as writing·private;
 ghost use Rattle.writing.specs.Writing.{stored_in, ended_in};
 ghost use Rattle.contents.specs.DockContents.{scsi_reading_for, scsi_reading_of};
 
 use crate::put_list;
-use paper::Reading;
 use query::Query;
-use scsi::{Judgement, Received};
+use scsi::{Judgement, Reading};
 use words::Order;
 
 // What is there of the list, and how much of it that is.
-fn put_read(out: &mut [u8], at: usize, bytes: &[u8], r: Received) -> usize
-    ensures { writing·private.Puts out.old at (scsi_reading_for bytes.now (received r.header r.whole r.torn)) out.new result }
+fn put_read(out: &mut [u8], at: usize, bytes: &[u8], r: Reading) -> usize
+    ensures { writing·private.Puts out.old at (scsi_reading_for bytes.now (reading r.header r.whole r.torn)) out.new result }
 {
     let h = r.header;
     let end = put_list(out, at, bytes, h, r.whole, Order::Big);
@@ -30,19 +29,13 @@ fn put_judged(out: &mut [u8], at: usize, bytes: &[u8], answer: Judgement) -> usi
 }
 
 // Stored as `put_reading` stores its text.
-pub fn put_scsi_reading(
-    out: &mut [u8],
-    at: usize,
-    bytes: &[u8],
-    query: Query,
-    reading: Reading,
-) -> usize
-    ensures out_after { out.new ≡ stored_in 80000 out.old at (scsi_reading_of reading bytes.now query) }
-    ensures value { result ≡ ended_in 80000 out.old at (scsi_reading_of reading bytes.now query) }
+pub fn put_scsi_reading(out: &mut [u8], at: usize, bytes: &[u8], query: Query) -> usize
+    ensures out_after { out.new ≡ stored_in 80000 out.old at (scsi_reading_of bytes.now query) }
+    ensures value { result ≡ ended_in 80000 out.old at (scsi_reading_of bytes.now query) }
 {
     if !slices::does_fit(80000, at, out.len()) {
         return at;
     }
     let kept = slices::head(bytes, 65536);
-    put_judged(out, at, kept, scsi::read(kept, query, reading))
+    put_judged(out, at, kept, scsi::read(kept, query))
 }

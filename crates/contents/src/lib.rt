@@ -10,7 +10,6 @@ ghost use Rattle.contents.specs.Private as private;
 
 pub use dock::put_scsi_reading;
 use layout::{Descriptor, Header};
-use paper::Reading;
 use reader::{Judgement, Slot};
 use request::Request;
 use words::Order;
@@ -88,19 +87,13 @@ fn put_judged(out: &mut [u8], at: usize, page: &[u8], answer: Judgement) -> usiz
 }
 
 // Stores it from a place on and answers where it ends; nothing, where fewer than 80,000 bytes are there, which are enough for every page.
-pub fn put_reading(
-    out: &mut [u8],
-    at: usize,
-    page: &[u8],
-    request: Request,
-    reading: Reading,
-) -> usize
-    ensures out_after { out.new ≡ stored_in 80000 out.old at (reading_of reading page.now request) }
-    ensures value { result ≡ ended_in 80000 out.old at (reading_of reading page.now request) }
+pub fn put_reading(out: &mut [u8], at: usize, page: &[u8], request: Request) -> usize
+    ensures out_after { out.new ≡ stored_in 80000 out.old at (reading_of page.now request) }
+    ensures value { result ≡ ended_in 80000 out.old at (reading_of page.now request) }
 {
     if !slices::does_fit(80000, at, out.len()) {
         return at;
     }
     let kept = slices::head(page, 65536);
-    put_judged(out, at, kept, reader::read(kept, request, reading))
+    put_judged(out, at, kept, reader::read(kept, request))
 }

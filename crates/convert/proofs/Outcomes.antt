@@ -18,7 +18,6 @@ use Rattle.paper.proofs.Output.{written_small, written_done, refusal_writes_noth
 use Rattle.paper.specs.Output.{Output, output, written}
 use Rattle.paper.specs.Told.{Told, tells, said}
 use Rattle.paper.specs.declared.Answer.TheVariants as answers
-use Rattle.paper.specs.declared.Reading.{Reading}
 use Rattle.query.specs.declared.Query.{Query}
 use Rattle.reader.proofs.LayoutTheorem.{and_both}
 use Rattle.reader.proofs.LayoutTheorem as page
@@ -34,7 +33,7 @@ use Rattle.scsi.specs.Data.{whole_of, data_offence}
 use Rattle.scsi.specs.Judgement as scsi·spec
 use Rattle.scsi.specs.declared.Judgement.TheVariants as scsi·judgement
 use Rattle.scsi.specs.declared.Judgement as scsi·declared
-use Rattle.scsi.specs.declared.Received.{Received}
+use Rattle.scsi.specs.declared.Reading.{Reading}
 use Rattle.slices.proofs.Lists.{stored-front, stored_more}
 use Rattle.slices.specs.Lists.{stored}
 use Rattle.words.specs.declared.Order.TheVariants.{Little, Big}
@@ -47,14 +46,14 @@ use Rattle.convert.proofs.Turned.{length_list}
 
 -- ## What is refused
 
-module _ (v : Reading) (s : List ℕ) (q : Request) (j : page·declared.Judgement) (is_j : page·spec.heard j ≡ page·spec.read_of Little v s q) where
-  pub page_taken : (h : Header) → j ≡ page·judgement.Accepted h → (f : Offence) → f ≡ unless (eqb h.returned h.number) 4 → f ≡ scsi_offence v s q
+module _ (s : List ℕ) (q : Request) (j : page·declared.Judgement) (is_j : page·spec.heard j ≡ page·spec.read_of Little s q) where
+  pub page_taken : (h : Header) → j ≡ page·judgement.Accepted h → (f : Offence) → f ≡ unless (eqb h.returned h.number) 4 → f ≡ scsi_offence s q
   page_taken h e f is_f =
-      let (clean, is_h) = page.heard-clean Little v s q h (ap page·spec.heard (sym e) ∙ is_j) in
+      let (clean, is_h) = page.heard-clean Little s q h (ap page·spec.heard (sym e) ∙ is_j) in
       is_f ∙ ap (λ (x : Header). unless (eqb x.returned x.number) 4) is_h ∙ sym (rw clean)
 
-  pub page_refused : (p : ℕ) → j ≡ page·judgement.Refused p → At p ≡ scsi_offence v s q
-  page_refused p e = sym (rw (page.heard-at Little v s q p (ap page·spec.heard (sym e) ∙ is_j)))
+  pub page_refused : (p : ℕ) → j ≡ page·judgement.Refused p → At p ≡ scsi_offence s q
+  page_refused p e = sym (rw (page.heard-at Little s q p (ap page·spec.heard (sym e) ∙ is_j)))
 
 module _ (w n p : ℕ) where
   pub convertible_cut : (w ≡ n → ⊥) → false ≡ fits_pages w n p
@@ -63,14 +62,14 @@ module _ (w n p : ℕ) where
   pub convertible_whole : w ≡ n → leb (n + 1) (16 * p) ≡ fits_pages w n p
   convertible_whole e = sym (rw (eq-eqb _ _ e))
 
-module _ (v : Reading) (s : List ℕ) (q : Query) (p : ℕ) (j : scsi·declared.Judgement) (is_j : scsi·spec.heard j ≡ scsi·spec.read_of Big v s q) where
-  pub data_taken : (r : Received) → j ≡ scsi·judgement.Accepted r → (b : Bool) → b ≡ fits_pages r.whole r.header.number p → (f : Offence) → f ≡ unless b 4 → f ≡ ata_offence v s q p
+module _ (s : List ℕ) (q : Query) (p : ℕ) (j : scsi·declared.Judgement) (is_j : scsi·spec.heard j ≡ scsi·spec.read_of Big s q) where
+  pub data_taken : (r : Reading) → j ≡ scsi·judgement.Accepted r → (b : Bool) → b ≡ fits_pages r.whole r.header.number p → (f : Offence) → f ≡ unless b 4 → f ≡ ata_offence s q p
   data_taken r e b is_b f is_f =
-      let (clean, is_h, is_w) = scsi.heard-clean Big v s q r.header r.whole r.torn (ap scsi·spec.heard (sym e) ∙ is_j) in
+      let (clean, is_h, is_w) = scsi.heard-clean Big s q r.header r.whole r.torn (ap scsi·spec.heard (sym e) ∙ is_j) in
       is_f ∙ ap (λ (x : Bool). unless x 4) (is_b ∙ (λ i. fits_pages (is_w i) (is_h i).number p)) ∙ sym (rw clean)
 
-  pub data_refused : (r : ℕ) → j ≡ scsi·judgement.Refused r → At r ≡ ata_offence v s q p
-  data_refused r e = sym (rw (scsi.heard-at Big v s q r (ap scsi·spec.heard (sym e) ∙ is_j)))
+  pub data_refused : (r : ℕ) → j ≡ scsi·judgement.Refused r → At r ≡ ata_offence s q p
+  data_refused r e = sym (rw (scsi.heard-at Big s q r (ap scsi·spec.heard (sym e) ∙ is_j)))
 
 -- ## What is answered
 
@@ -115,10 +114,10 @@ or_clean Clean b e = (refl, e)
 or_clean (At p) b e = absurd (clean_not p e)
 
 -- a page that is not refused: the list is there whole
-pub page_whole : (v : Reading) (s : List ℕ) (q : Request) → scsi_offence v s q ≡ Clean → base_of (header_in Little s).number ≤ length s
-page_whole v s q clean =
+pub page_whole : (s : List ℕ) (q : Request) → scsi_offence s q ≡ Clean → base_of (header_in Little s).number ≤ length s
+page_whole s q clean =
     let n = (header_in Little s).number in
-    let both = or_clean (page_offence Little v s q) (unless (eqb (header_in Little s).returned n) 4) clean in
+    let both = or_clean (page_offence Little s q) (unless (eqb (header_in Little s).returned n) 4) clean in
     let asked = or_clean _ _ both.0 in
     let sized = or_clean _ _ asked.1 in
     let counted = or_clean _ _ sized.1 in
@@ -130,25 +129,25 @@ page_whole v s q clean =
 
 -- ## To SCSI
 
-module _ (v : Reading) (s : List ℕ) (q : Request) (buf : List ℕ) (f : Offence) (is_f : f ≡ scsi_offence v s q) where
-  told_lem : (t : Told Outcome) → t ≡ outcome f (turned Little Big s) buf → t ≡ to_scsi v s q buf
+module _ (s : List ℕ) (q : Request) (buf : List ℕ) (f : Offence) (is_f : f ≡ scsi_offence s q) where
+  told_lem : (t : Told Outcome) → t ≡ outcome f (turned Little Big s) buf → t ≡ to_scsi s q buf
   told_lem t so = so ∙ ap (λ (x : Offence). outcome x (turned Little Big s) buf) is_f
 
-  pub scsi_refused : (p : ℕ) → f ≡ At p → heard (Refused p) buf ≡ to_scsi v s q buf
+  pub scsi_refused : (p : ℕ) → f ≡ At p → heard (Refused p) buf ≡ to_scsi s q buf
   scsi_refused p e = told_lem _ (refused_at buf (turned Little Big s) buf f p e)
 
   module _ (clean : f ≡ Clean) (h : Header) (is_h : h ≡ header_in Little s) where
     size_lem : 32 + 32 * h.number ≡ length (turned Little Big s)
     size_lem = ap (λ (x : Header). base_of x.number) is_h ∙ sym (length-turned Little Big s)
 
-    pub scsi_short : length buf < 32 + 32 * h.number → heard SmallBuffer buf ≡ to_scsi v s q buf
+    pub scsi_short : length buf < 32 + 32 * h.number → heard SmallBuffer buf ≡ to_scsi s q buf
     scsi_short less = told_lem _ (too_short buf (turned Little Big s) buf f clean (32 + 32 * h.number) size_lem less)
 
     pub page_there : 32 + 32 * h.number ≤ length s
-    page_there = rw is_h (page_whole v s q (sym is_f ∙ clean))
+    page_there = rw is_h (page_whole s q (sym is_f ∙ clean))
 
     pub scsi_done : 32 + 32 * h.number ≤ length buf → (g : List ℕ) → g ≡ stored buf 0 (laid Big (header_in Little s) (list_in Little s h.number))
-        → heard (Done (32 + 32 * h.number)) g ≡ to_scsi v s q buf
+        → heard (Done (32 + 32 * h.number)) g ≡ to_scsi s q buf
     scsi_done room g is_g =
         told_lem _ (all_put g (turned Little Big s) buf f clean (32 + 32 * h.number) size_lem room
         (is_g ∙ ap (λ (x : Header). stored buf 0 (laid Big (header_in Little s) (list_in Little s x.number))) is_h ∙ ap (stored buf 0) (turned-laid Little Big s)))
@@ -156,19 +155,19 @@ module _ (v : Reading) (s : List ℕ) (q : Request) (buf : List ℕ) (f : Offenc
 -- ## To ATA
 
 -- data that is not refused: the list is there whole, and not "above 16p - 1"
-pub fits_clean : (v : Reading) (s : List ℕ) (q : Query) (p : ℕ) → ata_offence v s q p ≡ Clean
-    → (data_offence Big v s q ≡ Clean) × (whole_of (header_in Big s).number (length s) ≡ (header_in Big s).number) × ((header_in Big s).number + 1 ≤ 16 * p)
-fits_clean v s q p clean =
+pub fits_clean : (s : List ℕ) (q : Query) (p : ℕ) → ata_offence s q p ≡ Clean
+    → (data_offence Big s q ≡ Clean) × (whole_of (header_in Big s).number (length s) ≡ (header_in Big s).number) × ((header_in Big s).number + 1 ≤ 16 * p)
+fits_clean s q p clean =
     let n = (header_in Big s).number in
-    let both = or_clean (data_offence Big v s q) (unless (fits_pages (whole_of n (length s)) n p) 4) clean in
+    let both = or_clean (data_offence Big s q) (unless (fits_pages (whole_of n (length s)) n p) 4) clean in
     let fits = and_both (eqb (whole_of n (length s)) n) (leb (n + 1) (16 * p)) (unless_clean _ 4 both.1) in
     (both.0, eqb-true _ _ fits.0, leb-true (n + 1) (16 * p) fits.1)
 
-module _ (v : Reading) (s : List ℕ) (q : Query) (p : ℕ) (buf : List ℕ) (f : Offence) (is_f : f ≡ ata_offence v s q p) where
-  answered_lem : (t : Told Outcome) → t ≡ outcome f (paged p s) buf → t ≡ to_ata v s q p buf
+module _ (s : List ℕ) (q : Query) (p : ℕ) (buf : List ℕ) (f : Offence) (is_f : f ≡ ata_offence s q p) where
+  answered_lem : (t : Told Outcome) → t ≡ outcome f (paged p s) buf → t ≡ to_ata s q p buf
   answered_lem t so = so ∙ ap (λ (x : Offence). outcome x (paged p s) buf) is_f
 
-  pub ata_refused : (r : ℕ) → f ≡ At r → heard (Refused r) buf ≡ to_ata v s q p buf
+  pub ata_refused : (r : ℕ) → f ≡ At r → heard (Refused r) buf ≡ to_ata s q p buf
   ata_refused r e = answered_lem _ (refused_at buf (paged p s) buf f r e)
 
   module _ (clean : f ≡ Clean) where
@@ -176,18 +175,18 @@ module _ (v : Reading) (s : List ℕ) (q : Query) (p : ℕ) (buf : List ℕ) (f 
     n = (header_in Big s).number
 
     few : n + 1 ≤ 16 * p
-    few = (fits_clean v s q p (sym is_f ∙ clean)).2
+    few = (fits_clean s q p (sym is_f ∙ clean)).2
 
     whole : base_of n ≤ length s
     whole =
-        let fits = fits_clean v s q p (sym is_f ∙ clean) in
+        let fits = fits_clean s q p (sym is_f ∙ clean) in
         omega (arith, fits.1, leb-true 32 (length s) (unless_clean _ 0 (or_clean _ _ fits.0).0))
 
     page_size : 512 * p ≡ length (paged p s)
     unfolding paged
     page_size = sym (length-append (turned Big Little s) (replicate (512 * p - base_of n) 0) ∙ rw (length-turned Big Little s, length-replicate) (omega (arith, few)))
 
-    pub ata_short : length buf < 512 * p → heard SmallBuffer buf ≡ to_ata v s q p buf
+    pub ata_short : length buf < 512 * p → heard SmallBuffer buf ≡ to_ata s q p buf
     ata_short less = answered_lem _ (too_short buf (paged p s) buf f clean (512 * p) page_size less)
 
     module _ (room : 512 * p ≤ length buf) (h : Header) (is_h : h ≡ header_in Big s) where
@@ -201,7 +200,7 @@ module _ (v : Reading) (s : List ℕ) (q : Query) (p : ℕ) (buf : List ℕ) (f 
       list_fits = omega (arith, few, same_lem)
 
       pub ata_done : (x y : List ℕ) → x ≡ stored buf 0 (laid Little (header_in Big s) (list_in Big s h.number))
-          → y ≡ stored x (32 + 32 * h.number) (replicate (512 * p - (32 + 32 * h.number)) 0) → heard (Done (512 * p)) y ≡ to_ata v s q p buf
+          → y ≡ stored x (32 + 32 * h.number) (replicate (512 * p - (32 + 32 * h.number)) 0) → heard (Done (512 * p)) y ≡ to_ata s q p buf
       unfolding paged
       ata_done x y is_x is_y =
           let t : List ℕ = turned Big Little s in
@@ -245,4 +244,4 @@ pub data_bytes : DataBytes
 data_bytes = length-turned
 
 pub page_bytes : PageBytes
-page_bytes v s q p clean = sym (page_size v s q p [] (ata_offence v s q p) refl clean)
+page_bytes s q p clean = sym (page_size s q p [] (ata_offence s q p) refl clean)

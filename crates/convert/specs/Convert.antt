@@ -8,7 +8,6 @@ use Rattle.offences.specs.declared.Offence.TheVariants.{Clean, At}
 use Rattle.offences.specs.declared.Offence.{Offence}
 use Rattle.paper.specs.Output.{Output, output, written}
 use Rattle.paper.specs.Told.{Told, tells}
-use Rattle.paper.specs.declared.Reading.{Reading}
 use Rattle.query.specs.declared.Query.{Query}
 use Rattle.reader.specs.Page.{page_offence}
 use Rattle.request.specs.declared.Request.{Request}
@@ -36,17 +35,17 @@ paged p s = turned Big Little s ++ replicate (512 * p - base_of (header_in Big s
 -- ## What is refused: "the source reader's refusals", and after these
 
 -- "9 at 4 for a cut list"
-abbrev pub scsi_offence : Reading → List ℕ → Request → Offence
-scsi_offence v s q = page_offence Little v s q or_else unless (eqb (header_in Little s).returned (header_in Little s).number) 4
+abbrev pub scsi_offence : List ℕ → Request → Offence
+scsi_offence s q = page_offence Little s q or_else unless (eqb (header_in Little s).returned (header_in Little s).number) 4
 
 -- "9 at 4 for a cut list or one above 16p - 1 for the pages asked": for p = 0 that is -1, so that every N is above it
 abbrev pub fits_pages : ℕ → ℕ → ℕ → Bool
 fits_pages whole n p = eqb whole n && leb (n + 1) (16 * p)
 
-abbrev pub ata_offence : Reading → List ℕ → Query → ℕ → Offence
-ata_offence v s q p =
+abbrev pub ata_offence : List ℕ → Query → ℕ → Offence
+ata_offence s q p =
     let n = (header_in Big s).number in
-    data_offence Big v s q or_else unless (fits_pages (whole_of n (length s)) n p) 4
+    data_offence Big s q or_else unless (fits_pages (whole_of n (length s)) n p) 4
 
 -- ## The answer, and the lent buffer
 
@@ -69,8 +68,8 @@ abbrev pub outcome : Offence → List ℕ → List ℕ → Told Outcome
 outcome (At p) bytes buf = tells 9 (place p buf)
 outcome Clean bytes buf = tells (written bytes buf).number (put (written bytes buf).state)
 
-abbrev pub to_scsi : Reading → List ℕ → Request → List ℕ → Told Outcome
-to_scsi v s q buf = outcome (scsi_offence v s q) (turned Little Big s) buf
+abbrev pub to_scsi : List ℕ → Request → List ℕ → Told Outcome
+to_scsi s q buf = outcome (scsi_offence s q) (turned Little Big s) buf
 
-abbrev pub to_ata : Reading → List ℕ → Query → ℕ → List ℕ → Told Outcome
-to_ata v s q p buf = outcome (ata_offence v s q p) (paged p s) buf
+abbrev pub to_ata : List ℕ → Query → ℕ → List ℕ → Told Outcome
+to_ata s q p buf = outcome (ata_offence s q p) (paged p s) buf

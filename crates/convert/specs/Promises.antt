@@ -6,7 +6,6 @@ use Rattle.offences.specs.Checks.{base_of}
 use Rattle.offences.specs.declared.Offence.TheVariants.{Clean}
 use Rattle.offences.specs.declared.Offence.{Offence}
 use Rattle.paper.specs.Told.{Told}
-use Rattle.paper.specs.declared.Reading.{Reading}
 use Rattle.query.specs.declared.Query.{Query}
 use Rattle.words.specs.declared.Order.{Order}
 use Rattle.convert.specs.Convert.{turned, paged, ata_offence, Outcome, heard, outcome, buffer_of}
@@ -25,7 +24,7 @@ abbrev pub DataBytes : Type 0
 DataBytes = (from to : Order) (s : List ℕ) → length (turned from to s) ≡ 32 + 32 * (header_in from s).number
 
 abbrev pub PageBytes : Type 0
-PageBytes = (v : Reading) (s : List ℕ) (q : Query) (p : ℕ) → ata_offence v s q p ≡ Clean → length (paged p s) ≡ 512 * p
+PageBytes = (s : List ℕ) (q : Query) (p : ℕ) → ata_offence s q p ≡ Clean → length (paged p s) ≡ 512 * p
 
 -- "Reserved bytes become zero": of each byte of the header and of the descriptors all is looked at. A page is these, and zeros
 abbrev pub ReservedZeroed : Type 0

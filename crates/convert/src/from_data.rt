@@ -5,13 +5,13 @@ ghost use Rattle.convert.specs.Convert as paper;
 use crate::{Converted, put_turned, unless};
 use layout::Header;
 use offences::Offence;
-use paper::{PageCount, Reading};
+use paper::PageCount;
 use query::Query;
-use scsi::{Judgement, Received};
+use scsi::{Judgement, Reading};
 use words::Order;
 
 // Whether the list is there whole, and fits so many pages.
-fn is_convertible(r: Received, pages: PageCount) -> bool
+fn is_convertible(r: Reading, pages: PageCount) -> bool
     ensures { result ≡ paper.fitsPages r.whole r.header.number pages.0 }
 {
     if r.whole != r.header.number {
@@ -21,26 +21,20 @@ fn is_convertible(r: Received, pages: PageCount) -> bool
 }
 
 // The reader's offence, or that the list is cut or too long.
-fn offence_of(bytes: &[u8], query: Query, reading: Reading, pages: PageCount) -> Offence
-    ensures { result ≡ paper.ataOffence reading bytes.now query pages.0 }
+fn offence_of(bytes: &[u8], query: Query, pages: PageCount) -> Offence
+    ensures { result ≡ paper.ataOffence bytes.now query pages.0 }
 {
-    match scsi::read(bytes, query, reading) {
+    match scsi::read(bytes, query) {
         Judgement::Accepted(r) => unless(is_convertible(r, pages)),
         Judgement::Refused(place) => Offence::At(place),
     }
 }
 
 // The data that answers a request, as so many pages.
-pub fn to_ata(
-    bytes: &[u8],
-    query: Query,
-    reading: Reading,
-    pages: PageCount,
-    buf: &mut [u8],
-) -> Converted
-    ensures { paper.heard result buf.new ≡ paper.toAta reading bytes.now query pages.0 buf.old }
+pub fn to_ata(bytes: &[u8], query: Query, pages: PageCount, buf: &mut [u8]) -> Converted
+    ensures { paper.heard result buf.new ≡ paper.toAta bytes.now query pages.0 buf.old }
 {
-    let found = offence_of(bytes, query, reading, pages);
+    let found = offence_of(bytes, query, pages);
     if let Offence::At(place) = found {
         return Converted::Refused(place);
     }

@@ -5,26 +5,25 @@ ghost use Rattle.convert.specs.Convert as paper;
 use crate::{Converted, put_turned, unless};
 use layout::Header;
 use offences::Offence;
-use paper::Reading;
 use reader::Judgement;
 use request::Request;
 use words::Order;
 
 // The reader's offence, or that the list is cut.
-fn offence_of(page: &[u8], request: Request, reading: Reading) -> Offence
-    ensures { result ≡ paper.scsiOffence reading page.now request }
+fn offence_of(page: &[u8], request: Request) -> Offence
+    ensures { result ≡ paper.scsiOffence page.now request }
 {
-    match reader::read(page, request, reading) {
+    match reader::read(page, request) {
         Judgement::Accepted(h) => unless(h.returned == h.number),
         Judgement::Refused(place) => Offence::At(place),
     }
 }
 
 // The page that answers a request.
-pub fn to_scsi(page: &[u8], request: Request, reading: Reading, buf: &mut [u8]) -> Converted
-    ensures { paper.heard result buf.new ≡ paper.toScsi reading page.now request buf.old }
+pub fn to_scsi(page: &[u8], request: Request, buf: &mut [u8]) -> Converted
+    ensures { paper.heard result buf.new ≡ paper.toScsi page.now request buf.old }
 {
-    let found = offence_of(page, request, reading);
+    let found = offence_of(page, request);
     if let Offence::At(place) = found {
         return Converted::Refused(place);
     }

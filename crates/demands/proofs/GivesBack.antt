@@ -13,10 +13,7 @@ use Rattle.device.specs.declared.Device.{Device}
 use Rattle.layout.specs.declared.Header.{Header}
 use Rattle.listing.specs.Listing.{judged}
 use Rattle.paper.specs.Told.{tells}
-use Rattle.paper.specs.declared.Reading.TheVariants.{First}
-use Rattle.paper.specs.declared.Reading.{Reading}
 use Rattle.reader.proofs.Ignored.{ignored_unread}
-use Rattle.reader.proofs.Unfiltered.{unfiltered_alike}
 use Rattle.reader.specs.Judgement.{header, read_of}
 use Rattle.request.proofs.Requests.{accepted_lem}
 use Rattle.request.specs.Requests.{SameFields, filter_of, report_type_of, pages_of, start_of, sets_reserved, refused, request_of}
@@ -35,13 +32,13 @@ pages_in : (p : ℕ) → 512 * p / 512 ≡ p
 pages_in p = omega arith
 
 -- it has the same fields, so the listing takes the page for its own
-module _ (v : Reading) (s : List ℕ) (q : Request) (h : Header) (filter : filter_of q ≡ 0) (report : report_type_of q ≡ 0) (start : start_of q ≡ 0) (few : pages_of q ≤ 128)
-    (none : sets_reserved q ≡ false) (long : length s ≡ 512 * pages_of q) (read : read_of Little v s q ≡ tells 0 (header h)) where
+module _ (s : List ℕ) (q : Request) (h : Header) (filter : filter_of q ≡ 0) (report : report_type_of q ≡ 0) (start : start_of q ≡ 0) (few : pages_of q ≤ 128)
+    (none : sets_reserved q ≡ false) (long : length s ≡ 512 * pages_of q) (read : read_of Little s q ≡ tells 0 (header h)) where
   own : SameFields (request_of s) q
   own = record { filter = sym filter; report = sym report; pages = ap (λ (n : ℕ). n / 512) long ∙ pages_in (pages_of q); start = sym start; reserved = sym none }
 
-  listing_takes : judged First s ≡ tells 0 (header h)
-  listing_takes = rw (le-ltb 65536 (length s) (omega (arith, long, few))) (ignored_unread Little First s (request_of s) q own ∙ unfiltered_alike Little First v s q (λ one. omega (arith, filter, one)) ∙ read)
+  listing_takes : judged s ≡ tells 0 (header h)
+  listing_takes = rw (le-ltb 65536 (length s) (omega (arith, long, few))) (ignored_unread Little s (request_of s) q own ∙ read)
 
 -- ## The whole
 
@@ -51,10 +48,10 @@ page_given d q fits asc ok =
     record {
       taken = both.0;
       elements = both.1;
-      listed = λ f t z few. listing_takes d.table.reading (page_of d q) q (header_of d q) f t z few (accepted_lem q ok).3 (whole_pages d q (accepted_lem q ok).2) both.0;
+      listed = λ f t z few. listing_takes (page_of d q) q (header_of d q) f t z few (accepted_lem q ok).3 (whole_pages d q (accepted_lem q ok).2) both.0;
     }
 
 pub gives_back : GivesBack
-gives_back there es limit v a d made z s ns x ran q page left =
-    let (fits, asc) = run-leaves there es limit v a d made z s ns x ran in
+gives_back there es limit a d made z s ns x ran q page left =
+    let (fits, asc) = run-leaves there es limit a d made z s ns x ran in
     subst⁻¹ (GivenBack x q) (left_page x q page left) (page_given x q fits asc (left-asked x q page left))

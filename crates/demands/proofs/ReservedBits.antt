@@ -40,10 +40,10 @@ four_refused q due =
     record {
       show = λ d s. shows_lem q due d s;
       front = λ d s. answers q due d s;
-      read = λ o v s. rw due;
-      next = λ v s. rw due;
-      convert = λ v s buf. rw due;
-      compare = λ v s t. rw due;
+      read = λ o s. rw due;
+      next = λ s. rw due;
+      convert = λ s buf. rw due;
+      compare = λ s t. rw due;
     }
 
 pub reserved_bits_refused : ReservedBitsRefused

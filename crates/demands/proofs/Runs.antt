@@ -20,6 +20,6 @@ ordered-after : (d : Device) → ascending 0 (identifiers d.table) ≡ true → 
 ordered-after d asc s = subst⁻¹ (λ (t : Table). ascending 0 (identifiers t) ≡ true) (table_kept d s) asc
 
 pub run-leaves : AfterRuns (λ x. Fits x × (ascending 0 (identifiers x.table) ≡ true))
-run-leaves there es limit v a d (is_made, fits) z s ns x ran =
-    subst⁻¹ (λ (y : Device). Fits y × (ascending 0 (identifiers y.table) ≡ true)) (runs_are_scripts d s ns x ran).0
-    (fits_after d fits s, ordered-after d ((listed_starts there es limit v a d is_made).0 z).1.startable.ids s)
+run-leaves there es limit a d (is_made, fits) z s ns x ran =
+    subst⁻¹ (λ (v : Device). Fits v × (ascending 0 (identifiers v.table) ≡ true)) (runs_are_scripts d s ns x ran).0
+    (fits_after d fits s, ordered-after d ((listed_starts there es limit a d is_made).0 z).1.startable.ids s)

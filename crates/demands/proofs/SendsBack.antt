@@ -16,17 +16,14 @@ use Rattle.device.specs.declared.Device.{Device}
 use Rattle.docklist.specs.Docklist.{judged}
 use Rattle.paper.specs.Output.{Output, output}
 use Rattle.paper.specs.Told.{Told, tells}
-use Rattle.paper.specs.declared.Reading.TheVariants.{First}
-use Rattle.paper.specs.declared.Reading.{Reading}
 use Rattle.query.specs.Queries.{due_four, asked, plain}
 use Rattle.query.specs.declared.Query.{Query}
-use Rattle.scsi.proofs.Unfiltered.{unfiltered_alike}
 use Rattle.scsi.specs.Judgement.{Values, read_of}
 use Rattle.sender.proofs.Sending.{sends_the_smaller}
 use Rattle.sender.specs.Sent.{data_of}
 use Rattle.table.specs.Elements.{identifiers, ascending}
 use Rattle.words.specs.declared.Order.TheVariants.{Big}
-use Rattle.demands.specs.SendsBack.{received_of, SentBack, SendsBack}
+use Rattle.demands.specs.SendsBack.{reading_in, SentBack, SendsBack}
 use Rattle.demands.proofs.Runs.{run-leaves}
 
 -- ## What is left, answered 0
@@ -47,10 +44,8 @@ left_lem false false bytes buf out number count so z = (
 
 -- ## The listing's request
 
-listing_takes : (v : Reading) (s : List ℕ) (q : Query) (x : Values) → q ≡ plain → length s ≤ 65536 → read_of Big v s q ≡ tells 0 x → judged First s ≡ tells 0 x
-listing_takes v s q x is_q short read =
-    let unfiltered : q.filter ≡ 1 → ⊥ = λ one. let none : q.filter ≡ 0 = ap (λ (p : Query). p.filter) is_q in omega (arith, one, none) in
-    rw (le-ltb 65536 (length s) short) (ap (read_of Big First s) (sym is_q) ∙ unfiltered_alike Big First v s q unfiltered ∙ read)
+listing_takes : (s : List ℕ) (q : Query) (v : Values) → q ≡ plain → length s ≤ 65536 → read_of Big s q ≡ tells 0 v → judged s ≡ tells 0 v
+listing_takes s q v is_q short read = rw (le-ltb 65536 (length s) short) (ap (read_of Big s) (sym is_q) ∙ read)
 
 -- ## The whole
 
@@ -63,12 +58,12 @@ sent_back d q a fits asc ok there =
     record {
       taken = both.0;
       elements = both.1;
-      listed = λ is_q. listing_takes d.table.reading s q (received_of d q (length s)) is_q short both.0;
+      listed = λ is_q. listing_takes s q (reading_in d q (length s)) is_q short both.0;
     }
 
 pub sends_back : SendsBack
-sends_back there es limit v a d made z s ns x ran q allocation buf out b count so done whole =
-    let (fits, asc) = run-leaves there es limit v a d made z s ns x ran in
+sends_back there es limit a d made z s ns x ran q allocation buf out b count so done whole =
+    let (fits, asc) = run-leaves there es limit a d made z s ns x ran in
     let bytes : List ℕ = take allocation (data_of Big x q) in
     let (ok, long, front) = left_lem (due_four q) (ltb (length buf) (length bytes)) bytes buf out _ count so done in
     let least : 32 ≤ allocation = omega (arith, whole, long, sends_the_smaller Big x q allocation) in

@@ -21,7 +21,6 @@ use Rattle.paper.specs.Output.{output, written}
 use Rattle.paper.specs.Told.{tells, said}
 use Rattle.paper.specs.declared.Answer.TheVariants.{Done}
 use Rattle.paper.specs.declared.Answer.{Answer}
-use Rattle.paper.specs.declared.Reading.{Reading}
 use Rattle.query.proofs.Queries.{due_not, filter_asked, report_asked, unset_asked}
 use Rattle.query.specs.Promises.{SameAsked}
 use Rattle.query.specs.Queries.{due_four, asked_for}
@@ -78,28 +77,25 @@ module _ (d : Device) (r : Request) (asks : refused r ≡ false) (p : ℕ) (q : 
   page_asked = page_same r (asked_for p q) same_lem d
 
   module _ (fits : Fits d) (asc : ascending 0 (identifiers d.table) ≡ true) where
-    abbrev v : Reading
-    v = d.table.reading
-
-    clean_too : scsi_offence v (page_of d (asked_for p q)) (asked_for p q) ≡ Clean → scsi_offence v (page_of d (asked_for p q)) r ≡ Clean
+    clean_too : scsi_offence (page_of d (asked_for p q)) (asked_for p q) ≡ Clean → scsi_offence (page_of d (asked_for p q)) r ≡ Clean
     clean_too clean =
         let page = page_of d (asked_for p q) in
-        let read : read_of Little v page r ≡ tells 0 (header (header_of d r)) = ap (λ (s : List ℕ). read_of Little v s r) (sym page_asked) ∙ (agrees d r fits asc asks).0 in
-        or_both _ _ (heard_clean Little v page r _ (sym read)).0 (or_clean (page_offence Little v page (asked_for p q)) _ clean).1
+        let read : read_of Little page r ≡ tells 0 (header (header_of d r)) = ap (λ (s : List ℕ). read_of Little s r) (sym page_asked) ∙ (agrees d r fits asc asks).0 in
+        or_both _ _ (heard_clean Little page r _ (sym read)).0 (or_clean (page_offence Little page (asked_for p q)) _ clean).1
 
 -- ## The whole
 
 pub sends_page : SendsPage
-sends_page there es limit v a d made z s ns x ran r page left p q alike few room out c is_c wide allocation free sent b count is_b enough space =
-    let (fits, asc) = run-leaves there es limit v a d made z s ns x ran in
+sends_page there es limit a d made z s ns x ran r page left p q alike few room out c is_c wide allocation free sent b count is_b enough space =
+    let (fits, asc) = run-leaves there es limit a d made z s ns x ran in
     let asks = left-asked x r page left in
     let ok = not_four x r asks p q alike in
     let bytes : List ℕ = take allocation (data_of Big x q) in
     let long : whole_size x q ≡ length bytes = omega (arith, sends_the_smaller Big x q allocation, enough) in
     let (clean, is_bytes) = sends_its_page x q p allocation fits asc ok few enough in
-    let is_turned : heard c out ≡ outcome (scsi_offence x.table.reading (page_of x (asked_for p q)) r) bytes room =
-    is_c ∙ ap (λ (l : List ℕ). to_scsi x.table.reading l r room) (left_page x r page left ∙ page_asked x r asks p q alike)
-    ∙ ap (λ (l : List ℕ). outcome (scsi_offence x.table.reading (page_of x (asked_for p q)) r) l room) is_bytes in
+    let is_turned : heard c out ≡ outcome (scsi_offence (page_of x (asked_for p q)) r) bytes room =
+    is_c ∙ ap (λ (v : List ℕ). to_scsi v r room) (left_page x r page left ∙ page_asked x r asks p q alike)
+    ∙ ap (λ (v : List ℕ). outcome (scsi_offence (page_of x (asked_for p q)) r) v room) is_bytes in
     let turns = converts bytes room (whole_size x q) long wide _ (clean_too x r asks p q alike fits asc clean) c out is_turned in
     let goes = sends bytes free (whole_size x q) long space (due_four q) ok b count sent is_b in
     record { turns = turns.0; sends = (goes.0, goes.1); same_lem = turns.1 ∙ sym goes.2 }

@@ -1,15 +1,13 @@
 -- A walk over what runs leave (specs/Walks): the pages are those that the device fills, and a run leaves its table.
 use Prim.Native.Nat.{ℕ, ◌≤◌}
-use mathlib.Core.Path.{◌≡◌, sym, ap, subst, subst⁻¹, ◌∙◌}
+use mathlib.Core.Path.{◌≡◌, sym, ap, subst⁻¹, ◌∙◌}
 use lib.ListN.{length, length-map}
 use Rattle.device.specs.declared.Device.{Device}
 use Rattle.history.proofs.Places.{table_kept}
 use Rattle.history.proofs.Runs.{runs_are_scripts}
 use Rattle.history.specs.Starts.{MadeOf}
 use Rattle.offer.specs.Elements.{part_of}
-use Rattle.paper.specs.declared.Reading.{Reading}
 use Rattle.slices.proofs.Lists.{every_so}
-use Rattle.slices.specs.Lists.{Every}
 use Rattle.table.specs.Elements.{live, size}
 use Rattle.table.specs.declared.Part.{Part}
 use Rattle.tour.proofs.Changed.{ends_anyway}
@@ -32,19 +30,17 @@ left-shows : (x : Device) (r : Round) → LeftBy x r.request r.page → Shows x 
 left-shows x r left = record { asked = left-asked x r.request r.page left; page = left_page x r.request r.page left }
 
 pub walked_whole : WalkedWhole
-walked_whole there es limit v a d made z s ns x ran q cs left =
-    let (fits, asc) = run-leaves there es limit v a d made z s ns x ran in
-    walks_whole x fits asc q cs (every_so (λ (r : Round). LeftBy x r.request r.page) (Shows x) (left-shows x) (walk x.table.reading q cs).rounds left)
+walked_whole there es limit a d made z s ns x ran q cs left =
+    let (fits, asc) = run-leaves there es limit a d made z s ns x ran in
+    walks_whole x fits asc q cs (every_so (λ (r : Round). LeftBy x r.request r.page) (Shows x) (left-shows x) (walk q cs).rounds left)
 
 pub walked_to_end : WalkedToEnd
-walked_to_end there es limit v a d made z q cs left =
-    subst⁻¹ (λ (n : ℕ). requests_for n ≤ length cs → ((walk v q cs).stand ≡ ended) × (length (walk v q cs).rounds ≤ requests_for n)) long
-    (subst (λ (u : Reading). requests_for (size d.table) ≤ length cs → ((walk u q cs).stand ≡ ended) × (length (walk u q cs).rounds ≤ requests_for (size d.table)))
-    start.reading (ends_anyway d.table start.startable.ids q cs (every_so (LeftThen d) (ShowsThen d.table) shows_then (walk d.table.reading q cs).rounds
-    (subst⁻¹ (λ (u : Reading). Every (LeftThen d) (walk u q cs).rounds) start.reading left))))
+walked_to_end there es limit a d made z q cs left =
+    subst⁻¹ (λ (n : ℕ). requests_for n ≤ length cs → ((walk q cs).stand ≡ ended) × (length (walk q cs).rounds ≤ requests_for n)) long
+    (ends_anyway d.table start.startable.ids q cs (every_so (LeftThen d) (ShowsThen d.table) shows_then (walk q cs).rounds left))
   where
-    start : MadeOf es limit v d
-    start = ((listed_starts there es limit v a d made.0).0 z).1
+    start : MadeOf es limit d
+    start = ((listed_starts there es limit a d made.0).0 z).1
 
     long : length es ≡ size d.table
     long = sym (length-map (live d.table) (λ (p : Part). p.id.0) ∙ ap length start.parts ∙ length-map es part_of)
@@ -53,7 +49,7 @@ walked_to_end there es limit v a d made z q cs left =
     shows_then r then =
         record {
           device = then.device;
-          fits = (run-leaves there es limit v a d made z then.script then.numbers then.device then.ran).0;
+          fits = (run-leaves there es limit a d made z then.script then.numbers then.device then.ran).0;
           same = ap (λ (x : Device). x.table) (runs_are_scripts d then.script then.numbers then.device then.ran).0 ∙ table_kept d then.script;
           shows = left-shows then.device r then.left;
         }

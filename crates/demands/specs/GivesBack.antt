@@ -3,7 +3,6 @@ use Rattle.std.specs.Prelude.{ℕ, ◌<◌, ◌≤◌, List, ◌≡◌, get_or}
 use Rattle.device.specs.declared.Device.{Device}
 use Rattle.listing.specs.Listing.{judged}
 use Rattle.paper.specs.Told.{tells}
-use Rattle.paper.specs.declared.Reading.TheVariants.{First}
 use Rattle.reader.specs.Judgement.{header, read_of, slot_of}
 use Rattle.reader.specs.declared.Slot.TheVariants.{Holds}
 use Rattle.request.specs.Requests.{filter_of, report_type_of, pages_of, start_of}
@@ -16,12 +15,12 @@ use Rattle.demands.specs.Runs.{AfterRuns, LeftBy}
 
 -- a page, as the answer of a device to a request
 pub record GivenBack (d : Device) (q : Request) (page : List ℕ) : Type 0 where
-  -- the reader takes it in the device's own reading, with the header's numbers,
-  pub taken : read_of Little d.table.reading page q ≡ tells 0 (header (header_of d q))
+  -- the reader takes it, with the header's numbers,
+  pub taken : read_of Little page q ≡ tells 0 (header (header_of d q))
   -- has each listed element at its place,
   pub elements : (k : ℕ) → k < (header_of d q).returned → slot_of Little page k ≡ Holds (get_or (list_of d q) k (shown_of blank_part 0))
   -- and the listing accepts it as "an answer to filter 0, report type 0, start 0", up to 65,536 bytes
-  pub listed : filter_of q ≡ 0 → report_type_of q ≡ 0 → start_of q ≡ 0 → pages_of q ≤ 128 → judged First page ≡ tells 0 (header (header_of d q))
+  pub listed : filter_of q ≡ 0 → report_type_of q ≡ 0 → start_of q ≡ 0 → pages_of q ≤ 128 → judged page ≡ tells 0 (header (header_of d q))
 
 abbrev pub GivesBack : Type 0
 GivesBack = AfterRuns (λ x. (q : Request) (page : List ℕ) → LeftBy x q page → GivenBack x q page)

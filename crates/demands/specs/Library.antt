@@ -15,11 +15,8 @@ use Rattle.image.specs.Reading.{security_of, device_of}
 use Rattle.image.specs.declared.Image.{Image}
 use Rattle.offer.specs.Check.{good}
 use Rattle.offer.specs.declared.Element.{Element}
-use Rattle.paper.specs.Readings.{reading_named}
 use Rattle.paper.specs.Registers.{Registers}
 use Rattle.paper.specs.Told.{tells}
-use Rattle.paper.specs.declared.Named.TheVariants.{No, One}
-use Rattle.paper.specs.declared.Reading.{Reading}
 use Rattle.recorder.specs.Made.{made_in}
 use Rattle.status.specs.Lent.{lent}
 use Rattle.demands.specs.Runs.{AfterRuns}
@@ -35,30 +32,17 @@ pub data RanIn (i : Image) : Script → List ℕ → Image → Type 0 where
 abbrev pub LibraryRuns : Type 0
 LibraryRuns = (i : Image) (s : Script) (ns : List ℕ) (x : Image) → RanIn i s ns x → Ran (device_of i) s ns (device_of x)
 
--- 0 is answered exactly to the lists that document 01 accepts, by a number that names a reading, and then the record is a device of that list, for that
--- reading, whatever was lent
+-- 0 is answered exactly to the lists that document 01 accepts, and then the record is a device of that list, whatever was lent
 abbrev pub LibraryStarts : Type 0
 LibraryStarts =
-    (there : Image) (es : List Element) (limit number : ℕ) (v : Reading) → reading_named number ≡ One v
-    → (n : ℕ) (i : Image) → tells n i ≡ made_in there es limit number
-    → (n ≡ 0 → (good (length es) es limit ≡ true) × MadeOf es limit v (device_of i)) × (good (length es) es limit ≡ true → n ≡ 0)
-
--- by any other it is 8, and the record stays
-abbrev pub LibraryUnnamed : Type 0
-LibraryUnnamed = (there : Image) (es : List Element) (limit number : ℕ) → reading_named number ≡ No → made_in there es limit number ≡ tells 8 there
-
--- a run stays in the reading of the number that the device was made by: what a reader is told by that number is told in the device's own reading
-abbrev pub LibraryReading : Type 0
-LibraryReading =
-    (there : Image) (es : List Element) (limit number : ℕ) (v : Reading) → reading_named number ≡ One v
-    → (i : Image) → tells 0 i ≡ made_in there es limit number
-    → (s : Script) (ns : List ℕ) (x : Image) → RanIn i s ns x → (device_of x).table.reading ≡ v
+    (there : Image) (es : List Element) (limit n : ℕ) (i : Image) → tells n i ≡ made_in there es limit
+    → (n ≡ 0 → (good (length es) es limit ≡ true) × MadeOf es limit (device_of i)) × (good (length es) es limit ≡ true → n ≡ 0)
 
 -- so what holds of each device that a run leaves (specs/Runs) holds of each record: what the demands say of the code's own calls
 abbrev pub LibraryAfter : Type 1
 LibraryAfter =
     (P : Device → Type 0) → AfterRuns P
-    → (there : Image) (es : List Element) (limit number : ℕ) (i : Image) → (tells 0 i ≡ made_in there es limit number) × Fits (device_of i)
+    → (there : Image) (es : List Element) (limit : ℕ) (i : Image) → (tells 0 i ≡ made_in there es limit) × Fits (device_of i)
     → (s : Script) (ns : List ℕ) (x : Image) → RanIn i s ns x → P (device_of x)
 
 -- ## Demand 3
@@ -66,7 +50,7 @@ LibraryAfter =
 -- a device that is made of C's own list keeps what demand 3 promises, whatever calls come
 abbrev pub LibraryKeeps : Type 0
 LibraryKeeps =
-    (there : Image) (es : List Element) (limit number : ℕ) (i : Image) → tells 0 i ≡ made_in there es limit number
+    (there : Image) (es : List Element) (limit : ℕ) (i : Image) → tells 0 i ≡ made_in there es limit
     → (s : Script) (ns : List ℕ) (x : Image) → RanIn i s ns x → KeptByRuns (device_of i) (history (device_of i) s) (device_of x)
 
 -- "Only the position in the step list is lost with power": a record with another number there is the device but for the position, which a cut forgets
@@ -86,8 +70,6 @@ placed_at n i =
       failed = i.failed;
       position = n;
       healths = i.healths;
-      named = i.named;
-      reading = i.reading;
     }
 
 abbrev pub LibraryForgets : Type 0
@@ -105,7 +87,7 @@ RefusedCommandLeaves =
     → ((told_of i (command (security_of state) r (length buf))).state ≡ i) × (lent (device_of i) (security_of state) r buf ≡ buf)
 
 abbrev pub RefusedListLeavesImage : Type 0
-RefusedListLeavesImage = (i : Image) (es : List Element) (limit number : ℕ) → ((made_in i es limit number).number ≡ 0 → ⊥) → (made_in i es limit number).state ≡ i
+RefusedListLeavesImage = (i : Image) (es : List Element) (limit : ℕ) → ((made_in i es limit).number ≡ 0 → ⊥) → (made_in i es limit).state ≡ i
 
 -- of every call that changes what C lends; the pages, the data, the texts and the conversions promise by the same definitions as the calls of
 -- `Demand1`

@@ -6,7 +6,6 @@ use Rattle.device.specs.Machine.{command, told}
 use Rattle.device.specs.declared.Device.{Device}
 use Rattle.paper.specs.Registers.{Registers}
 use Rattle.paper.specs.Told.{tells}
-use Rattle.paper.specs.declared.Reading.{Reading}
 use Rattle.paper.specs.declared.Security.{Security}
 use Rattle.reach.specs.Opening as reach
 use Rattle.reach.specs.declared.Turn.TheVariants.{Older}
@@ -25,11 +24,11 @@ pub record RefusedByAll (q : Request) : Type 0 where
   pub front : (d : Device) (s : Security) (r : Registers) (buf : List ℕ) → r.code ≡ 0x12 → asked r ≡ q
       → (told d (command s r (length buf)) ≡ tells 4 d) × (lent d s r buf ≡ buf)
   -- "the reader treats such a request as refused", whatever the page holds, and so does each call that goes by the reader
-  pub read : (o : Order) (v : Reading) (s : List ℕ) → reader.read_of o v s q ≡ tells 9 (reader.place 0)
-  pub next : (v : Reading) (s : List ℕ) → walk.next_of v s q ≡ tells 9 (walk.place 0)
-  pub convert : (v : Reading) (s buf : List ℕ) → convert.toScsi v s q buf ≡ tells 9 (convert.place 0 buf)
+  pub read : (o : Order) (s : List ℕ) → reader.read_of o s q ≡ tells 9 (reader.place 0)
+  pub next : (s : List ℕ) → walk.next_of s q ≡ tells 9 (walk.place 0)
+  pub convert : (s buf : List ℕ) → convert.toScsi s q buf ≡ tells 9 (convert.place 0 buf)
   -- "9 with the page's turn, older first"
-  pub compare : (v : Reading) (s t : List ℕ) → reach.openOf v s t q ≡ tells 9 (reach.turn Older)
+  pub compare : (s t : List ℕ) → reach.openOf s t q ≡ tells 9 (reach.turn Older)
 
 -- one definition serves them all: "A request that would get 4 gets 9"
 abbrev pub FourRefused : Type 0

@@ -11,7 +11,6 @@ use Rattle.paper.specs.Answers.{number_of}
 use Rattle.paper.specs.Registers.{Registers}
 use Rattle.paper.specs.Told.{said}
 use Rattle.paper.specs.declared.Answer.{Answer}
-use Rattle.paper.specs.declared.Reading.{Reading}
 use Rattle.paper.specs.declared.Security.{Security}
 use Rattle.request.specs.Requests.{asked, pages_of}
 use Rattle.request.specs.declared.Request.{Request}
@@ -20,7 +19,7 @@ use Rattle.status.specs.Lent.{lent}
 -- of each device that a run leaves
 abbrev pub AfterRuns : (Device → Type 0) → Type 0
 AfterRuns P =
-    (there : Device) (es : List Element) (limit : ℕ) (v : Reading) (a : Answer) (d : Device) → (said a d ≡ made_from there es limit v) × Fits d → number_of a ≡ 0
+    (there : Device) (es : List Element) (limit : ℕ) (a : Answer) (d : Device) → (said a d ≡ made_from there es limit) × Fits d → number_of a ≡ 0
     → (s : Script) (ns : List ℕ) (x : Device) → Ran d s ns x → P x
 
 -- a page that the front call left of a device for a request, in any security state and over any lent buffer

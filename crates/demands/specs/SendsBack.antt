@@ -7,12 +7,11 @@ use Rattle.paper.specs.Answers.{number_of}
 use Rattle.paper.specs.Output.{output}
 use Rattle.paper.specs.Told.{tells, said}
 use Rattle.paper.specs.declared.Answer.{Answer}
-use Rattle.paper.specs.declared.Reading.TheVariants.{First}
 use Rattle.query.specs.Queries.{asked, plain}
 use Rattle.query.specs.declared.Query.{Query}
 use Rattle.reader.specs.declared.Slot.TheVariants.{Holds}
 use Rattle.scsi.specs.Data.{whole_of, torn_of}
-use Rattle.scsi.specs.Judgement.{Values, received, read_of, slot_of}
+use Rattle.scsi.specs.Judgement.{Values, reading, read_of, slot_of}
 use Rattle.status.specs.Page.{list_of}
 use Rattle.sender.specs.Sent.{sent_header, sent}
 use Rattle.table.specs.Elements.{blank_part}
@@ -25,17 +24,17 @@ abbrev pub whole_in : Device → Query → ℕ → ℕ
 whole_in d q size = whole_of (sent_header d q).number size
 
 -- the header's numbers, and what of the list is there
-abbrev pub received_of : Device → Query → ℕ → Values
-received_of d q size = received (sent_header d q) (whole_in d q size) (torn_of (sent_header d q).number size)
+abbrev pub reading_in : Device → Query → ℕ → Values
+reading_in d q size = reading (sent_header d q) (whole_in d q size) (torn_of (sent_header d q).number size)
 
 -- data, as the answer of a device to a request, cut or not
 pub record SentBack (d : Device) (q : Query) (bytes : List ℕ) : Type 0 where
-  -- the reader takes it in the device's own reading,
-  pub taken : read_of Big d.table.reading bytes q ≡ tells 0 (received_of d q (length bytes))
+  -- the reader takes it,
+  pub taken : read_of Big bytes q ≡ tells 0 (reading_in d q (length bytes))
   -- has each whole element at its place,
   pub elements : (k : ℕ) → k < whole_in d q (length bytes) → slot_of Big bytes k ≡ Holds (get_or (list_of d (asked q)) k (shown_of blank_part 0))
   -- and the listing accepts it, as the answer to its own request
-  pub listed : q ≡ plain → judged First bytes ≡ tells 0 (received_of d q (length bytes))
+  pub listed : q ≡ plain → judged bytes ≡ tells 0 (reading_in d q (length bytes))
 
 abbrev pub SendsBack : Type 0
 SendsBack =

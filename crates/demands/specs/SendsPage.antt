@@ -1,5 +1,5 @@
 -- "the device's SCSI data is its ATA page converted, where neither is cut", of the code's own calls. Its premises: a page that the front call left;
--- what `to_scsi` promises of it, told the device's reading, and `send` of a request with the same fields; and that there is room.
+-- what `to_scsi` promises of it, and `send` of a request with the same fields; and that there is room.
 use Rattle.std.specs.Prelude.{ℕ, ◌+◌, ◌*◌, ◌≤◌, List, ◌≡◌, length, take}
 use Rattle.convert.specs.Convert.{heard, to_scsi}
 use Rattle.convert.specs.declared.Converted.TheVariants as converted
@@ -30,7 +30,7 @@ SendsPage =
     AfterRuns (λ x.
     (r : Request) (page : List ℕ) → LeftBy x r page
     → (p : ℕ) (q : Query) → SameAsked p q r → (sent_header x q).number + 1 ≤ 16 * p
-    → (room out : List ℕ) (c : Converted) → heard c out ≡ to_scsi x.table.reading page r room → whole_size x q ≤ length room
+    → (room out : List ℕ) (c : Converted) → heard c out ≡ to_scsi page r room → whole_size x q ≤ length room
     → (allocation : ℕ) (free left : List ℕ) (b : Answer) (count : ℕ) → said b (output count left) ≡ sent x q allocation free
     → whole_size x q ≤ allocation → whole_size x q ≤ length free
     → OneData (whole_size x q) c out b count left)

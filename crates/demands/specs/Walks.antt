@@ -9,7 +9,6 @@ use Rattle.offer.specs.declared.Element.{Element}
 use Rattle.paper.specs.Answers.{number_of}
 use Rattle.paper.specs.Told.{said}
 use Rattle.paper.specs.declared.Answer.{Answer}
-use Rattle.paper.specs.declared.Reading.{Reading}
 use Rattle.request.specs.Requests.{refused}
 use Rattle.request.specs.declared.Request.{Request}
 use Rattle.slices.specs.Lists.{Every}
@@ -31,8 +30,8 @@ AskingLeaves = (x : Device) (q : Request) (page : List ℕ) (c : LeftBy x q page
 abbrev pub WalkedWhole : Type 0
 WalkedWhole =
     AfterRuns (λ x.
-    (q : Request) (cs : List Came) → Every (λ (r : Round). LeftBy x r.request r.page) (walk x.table.reading q cs).rounds
-    → requests_for (length (list_of x q)) ≤ length cs → ListsWhole x q (walk x.table.reading q cs))
+    (q : Request) (cs : List Came) → Every (λ (r : Round). LeftBy x r.request r.page) (walk q cs).rounds
+    → requests_for (length (list_of x q)) ≤ length cs → ListsWhole x q (walk q cs))
 
 -- ## If something does
 
@@ -47,6 +46,6 @@ pub record LeftThen (d : Device) (r : Round) : Type 0 where
 -- it ends, within as many requests as the whole table takes
 abbrev pub WalkedToEnd : Type 0
 WalkedToEnd =
-    (there : Device) (es : List Element) (limit : ℕ) (v : Reading) (a : Answer) (d : Device) → (said a d ≡ made_from there es limit v) × Fits d → number_of a ≡ 0
-    → (q : Request) (cs : List Came) → Every (LeftThen d) (walk v q cs).rounds → requests_for (length es) ≤ length cs
-    → ((walk v q cs).stand ≡ ended) × (length (walk v q cs).rounds ≤ requests_for (length es))
+    (there : Device) (es : List Element) (limit : ℕ) (a : Answer) (d : Device) → (said a d ≡ made_from there es limit) × Fits d → number_of a ≡ 0
+    → (q : Request) (cs : List Came) → Every (LeftThen d) (walk q cs).rounds → requests_for (length es) ≤ length cs
+    → ((walk q cs).stand ≡ ended) × (length (walk q cs).rounds ≤ requests_for (length es))

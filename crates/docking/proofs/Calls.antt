@@ -7,7 +7,6 @@ use lib.ListN.{length, drop, replicate}
 use Rattle.arguments.specs.declared.Dock.{Dock}
 use Rattle.arguments.specs.declared.DockCall.TheVariants as calls
 use Rattle.arguments.specs.declared.DockCall.{DockCall}
-use Rattle.arguments.specs.declared.PageRead.{PageRead}
 use Rattle.arguments.specs.declared.Send.{Send}
 use Rattle.arguments.specs.declared.ToAta.{ToAta as Asked}
 use Rattle.convert.specs.Convert as convert
@@ -18,6 +17,7 @@ use Rattle.device.specs.declared.Device.{Device}
 use Rattle.paper.specs.Output.{Output, output}
 use Rattle.paper.specs.Told.{Told, tells, said}
 use Rattle.paper.specs.declared.Written.{Written}
+use Rattle.request.specs.declared.Request.{Request}
 use Rattle.sender.specs.Sent.{sent}
 use Rattle.docking.specs.Dock.{answered, heard_over, heard_in, heard, kind_said, kind_of, told_over, room_of, filled, answered_by, lent_by}
 use Rattle.docking.specs.declared.Said.TheVariants.{Sent, ToScsi, ToAta}
@@ -34,12 +34,11 @@ module _ (d : Device) (call : DockCall) (source buf x : List ℕ) where
   unfolding told_over
   sent-told s w e so = ap (λ (t : Told Output). tells t.number (put t.state)) so ∙ sym (rw e)
 
-  pub scsi_told : (p : PageRead) (c : Converted) → call ≡ calls.ToScsi p → convert.heard c x ≡ convert.toScsi p.reading source p.request buf
-      → heard_over (ToScsi c) x ≡ told_over d call source buf
+  pub scsi_told : (q : Request) (c : Converted) → call ≡ calls.ToScsi q → convert.heard c x ≡ convert.toScsi source q buf → heard_over (ToScsi c) x ≡ told_over d call source buf
   unfolding told_over
-  scsi_told p c e so = so ∙ sym (rw e)
+  scsi_told q c e so = so ∙ sym (rw e)
 
-  pub ata_told : (t : Asked) (c : Converted) → call ≡ calls.ToAta t → convert.heard c x ≡ convert.toAta t.reading source t.query t.pages.0 buf
+  pub ata_told : (t : Asked) (c : Converted) → call ≡ calls.ToAta t → convert.heard c x ≡ convert.toAta source t.query t.pages.0 buf
       → heard_over (ToAta c) x ≡ told_over d call source buf
   unfolding told_over
   ata_told t c e so = so ∙ sym (rw e)

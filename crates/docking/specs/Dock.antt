@@ -32,7 +32,7 @@ pub record Answered : Type 0 where
 
 abbrev pub kind_of : DockCall → Kind
 kind_of (calls.Send s) = scsi
-kind_of (calls.ToScsi p) = toscsi
+kind_of (calls.ToScsi q) = toscsi
 kind_of (calls.ToAta t) = toata
 
 abbrev pub count_in : Outcome → ℕ
@@ -80,8 +80,8 @@ heard d = heard_in d.room d.said
 -- of the device or of the kept page, over a lent buffer
 unfoldable pub told_over : Device → DockCall → List ℕ → List ℕ → Told Outcome
 told_over d (calls.Send s) source buf = let t = sent d s.query s.allocation buf in tells t.number (put t.state)
-told_over d (calls.ToScsi p) source buf = to_scsi p.reading source p.request buf
-told_over d (calls.ToAta t) source buf = to_ata t.reading source t.query t.pages.0 buf
+told_over d (calls.ToScsi q) source buf = to_scsi source q buf
+told_over d (calls.ToAta t) source buf = to_ata source t.query t.pages.0 buf
 
 -- "a lent buffer of LENGTH bytes", as far as there are bytes
 abbrev pub room_of : Dock → List ℕ → ℕ

@@ -82,16 +82,11 @@ fn answer(d: Device, call: DockCall, source: &[u8], lent: &mut [u8]) -> Said
             let query = s.query;
             Said::Sent(sender::send(d, query, s.allocation, lent))
         }
-        DockCall::ToScsi(p) => {
-            let request = p.request;
-            let reading = p.reading;
-            Said::ToScsi(convert::to_scsi(source, request, reading, lent))
-        }
+        DockCall::ToScsi(q) => Said::ToScsi(convert::to_scsi(source, q, lent)),
         DockCall::ToAta(t) => {
             let query = t.query;
-            let reading = t.reading;
             let pages = t.pages;
-            Said::ToAta(convert::to_ata(source, query, reading, pages, lent))
+            Said::ToAta(convert::to_ata(source, query, pages, lent))
         }
     }
 }

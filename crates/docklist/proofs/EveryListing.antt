@@ -15,11 +15,10 @@ use Rattle.layout.specs.declared.Header.{Header}
 use Rattle.offences.specs.declared.Offence.TheVariants.{Clean, At}
 use Rattle.offences.specs.declared.Offence.{Offence}
 use Rattle.paper.specs.Told.{tells}
-use Rattle.paper.specs.declared.Reading.TheVariants.{First}
 use Rattle.query.specs.Queries.{plain}
 use Rattle.rows.specs.Rows.{header_line}
 use Rattle.scsi.specs.Data.{whole_of, data_offence}
-use Rattle.scsi.specs.Judgement.{Values, received, place, answer_of, read_of}
+use Rattle.scsi.specs.Judgement.{Values, reading, place, answer_of, read_of}
 use Rattle.tally.proofs.Tally.{length_tally}
 use Rattle.tally.specs.Tally.{tally_line}
 use Rattle.words.specs.declared.Order.TheVariants.{Big}
@@ -29,7 +28,7 @@ use Rattle.docklist.specs.Promises.{Enough}
 -- ## How many lines: those that are there whole, and 65,536 bytes have room for 2,047
 
 abbrev pub line_count : Values → ℕ
-line_count (received h whole torn) = whole
+line_count (reading h whole torn) = whole
 line_count (place p) = 0
 
 whole_there : (n size : ℕ) → size ≤ 65536 → There (whole_of n size) size
@@ -39,18 +38,18 @@ answer_there : (f : Offence) (h : Header) (n size : ℕ) (torn : Bool) → size 
 answer_there Clean h n size torn most = whole_there n size most
 answer_there (At p) h n size torn most = none_there size
 
-pub there : (s : List ℕ) → There (line_count (judged First s).state) (length s)
+pub there : (s : List ℕ) → There (line_count (judged s).state) (length s)
 there s = by_test (ltb 65536 (length s)) refl
   where
-    by_test : (t : Bool) → ltb 65536 (length s) ≡ t → There (line_count (cond t (tells 9 (place 65536)) (read_of Big First s plain)).state) (length s)
+    by_test : (t : Bool) → ltb 65536 (length s) ≡ t → There (line_count (cond t (tells 9 (place 65536)) (read_of Big s plain)).state) (length s)
     by_test true e = none_there (length s)
-    by_test false e = answer_there (data_offence Big First s plain) (header_in Big s) (header_in Big s).number (length s) _ (ltb-false 65536 (length s) e)
+    by_test false e = answer_there (data_offence Big s plain) (header_in Big s) (header_in Big s).number (length s) _ (ltb-false 65536 (length s) e)
 
 -- ## How long
 
 length_text : (s : List ℕ) (v : Values) → line_count v ≤ 2047 → length (text_for s v) ≤ 80000
 length_text s (place p) few = omega (arith, length-refused p)
-length_text s (received h whole torn) few =
+length_text s (reading h whole torn) few =
     let two : List ℕ = header_line h ++ lines_below Big s whole in
     omega (
       arith,
@@ -63,4 +62,4 @@ length_text s (received h whole torn) few =
 
 pub enough : Enough
 unfolding listing_of
-enough s out h = rw (le-ltb (length out) (length (listing_of s)) (omega (arith, length_text s (judged First s).state (there s).1)))
+enough s out h = rw (le-ltb (length out) (length (listing_of s)) (omega (arith, length_text s (judged s).state (there s).1)))

@@ -1,5 +1,4 @@
 -- What is proved of `docklist`'s definitions, and of its functions.
 pub mod Docklist
-pub mod EitherReading
 pub mod EveryListing
 pub mod Examples

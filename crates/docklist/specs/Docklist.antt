@@ -3,31 +3,25 @@ use Rattle.std.specs.Prelude.{ℕ, cond, List, ◌++◌, ltb, length}
 use Rattle.entries.specs.Entries.{lines_below}
 use Rattle.paper.specs.Output.{Output, written}
 use Rattle.paper.specs.Told.{Told, tells}
-use Rattle.paper.specs.declared.Reading.TheVariants.{First}
-use Rattle.paper.specs.declared.Reading.{Reading}
 use Rattle.query.specs.Queries.{plain}
 use Rattle.rows.specs.Rows.{header_line, refused_line}
-use Rattle.scsi.specs.Judgement.{Values, received, place, read_of}
+use Rattle.scsi.specs.Judgement.{Values, reading, place, read_of}
 use Rattle.tally.specs.Tally.{tally_line}
 use Rattle.words.specs.declared.Order.TheVariants.{Big}
 
 -- ## The text
 
 -- "(request: filter 0, type 0, start 0)"; "input above 65,536 bytes is refused at 65536"
-abbrev pub judged : Reading → List ℕ → Told Values
-judged v s = cond (ltb 65536 (length s)) (tells 9 (place 65536)) (read_of Big v s plain)
+abbrev pub judged : List ℕ → Told Values
+judged s = cond (ltb 65536 (length s)) (tells 9 (place 65536)) (read_of Big s plain)
 
 -- "the same lines; after them `cut K of N` .. or `torn K of N`"; or "`refused 9 at PLACE`"
 abbrev pub text_for : List ℕ → Values → List ℕ
-text_for s (received h whole torn) = header_line h ++ lines_below Big s whole ++ tally_line whole h.number torn
+text_for s (reading h whole torn) = header_line h ++ lines_below Big s whole ++ tally_line whole h.number torn
 text_for s (place p) = refused_line p
 
-abbrev pub listing_in : Reading → List ℕ → List ℕ
-listing_in v s = text_for s (judged v s).state
-
--- its request has no filter, so that it is the same in either reading (specs/Promises)
 unfoldable pub listing_of : List ℕ → List ℕ
-listing_of s = listing_in First s
+listing_of s = text_for s (judged s).state
 
 -- ## The lent buffer
 

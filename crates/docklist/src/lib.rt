@@ -4,22 +4,21 @@ ghost use Rattle.std.specs.Prelude.{◌≡◌};
 ghost use Rattle.io.specs.Counts.{IsPrefixLen};
 ghost use Rattle.paper.specs.Output.{output};
 ghost use Rattle.paper.specs.Told.{said};
-ghost use Rattle.paper.specs.declared.Reading.TheVariants.{First};
 ghost use Rattle.scsi.specs.Judgement.{heard};
 ghost use Rattle.docklist.specs.Docklist.{judged, listed};
 
-use paper::{Reading, Written};
+use paper::Written;
 use scsi::Judgement;
 use words::Order;
 
 // The reader's answer; a longer input does not reach it.
 fn judge(input: &[u8]) -> Judgement
-    ensures { heard result ≡ judged First input.now }
+    ensures { heard result ≡ judged input.now }
 {
     if 65536 < input.len() {
         return Judgement::Refused(65536);
     }
-    scsi::read(input, query::plain(), Reading::First)
+    scsi::read(input, query::plain())
 }
 
 // The whole listing, or nothing where it does not fit.

@@ -11,7 +11,6 @@ use Rattle.comparison.proofs.Accepted.{by_walk}
 use Rattle.comparison.specs.Comparison.{comparison_of}
 use Rattle.comparison.specs.Private.{is_accepted, lines_from}
 use Rattle.ending.specs.Ending.{last_line}
-use Rattle.paper.specs.declared.Reading.TheVariants.{First}
 use Rattle.parts.specs.Parts.{descriptor_part}
 use Rattle.reach.specs.Opening.{Values, bound, accepted, judged}
 use Rattle.reach.specs.Pages.{count_of, element_at, reach_of, bound_of}
@@ -29,23 +28,23 @@ s = padded older
 abbrev t : List ℕ
 t = padded newer
 
-older_taken : accepted First s (request_for 1) ≡ true
+older_taken : accepted s (request_for 1) ≡ true
 unfolding refused takes_health accepted
 older_taken = refl
 
-newer_taken : accepted First t (request_for 1) ≡ true
+newer_taken : accepted t (request_for 1) ≡ true
 unfolding refused takes_health accepted
 newer_taken = refl
 
-nothing_taken : accepted First [] (request_for 1) ≡ false
+nothing_taken : accepted [] (request_for 1) ≡ false
 unfolding refused accepted
 nothing_taken = refl
 
-both_taken : (judged First s t).state ≡ bound Whole
+both_taken : (judged s t).state ≡ bound Whole
 unfolding reach_of bound_of judged
 both_taken = rw (older_taken, newer_taken)
 
-same_taken : (judged First t t).state ≡ bound Whole
+same_taken : (judged t t).state ≡ bound Whole
 unfolding reach_of bound_of judged
 same_taken = rw newer_taken
 

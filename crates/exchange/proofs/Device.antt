@@ -90,7 +90,7 @@ module _ (d : Device) (q : Query) (p : ℕ) (fits : Fits d) (asc : ascending 0 (
 
 pub sends_its_page : SendsItsPage
 sends_its_page d q p a fits asc ok few room = (
-  or_both _ _ (heard_clean Little d.table.reading (page_of d (asked_for p q)) (asked_for p q) _ (sym (agrees d (asked_for p q) fits asc (taken d q p fits asc ok few)).0)).0
+  or_both _ _ (heard_clean Little (page_of d (asked_for p q)) (asked_for p q) _ (sym (agrees d (asked_for p q) fits asc (taken d q p fits asc ok few)).0)).0
       (clean d q p fits asc ok few),
   whole d q p fits asc ok few ∙ sym (take_all a (data_of Big d q) (omega (arith, length_data Big d q fits))),
 )

@@ -18,7 +18,6 @@ use Rattle.offences.specs.First.{unless, ◌orElse◌}
 use Rattle.offences.specs.declared.Offence.TheVariants.{Clean}
 use Rattle.offences.specs.declared.Offence.{Offence}
 use Rattle.paper.specs.Told.{tells}
-use Rattle.paper.specs.declared.Reading.{Reading}
 use Rattle.query.proofs.Queries.{filter_asked, report_asked, not-refused, start_asked}
 use Rattle.query.specs.Queries.{asked_for, asked}
 use Rattle.query.specs.declared.Query.{Query}
@@ -42,21 +41,21 @@ use Rattle.exchange.proofs.Kept.{FitsIn, bytes_fit, listed_as, header_kept, desc
 
 -- ## A page as data
 
-module _ (v : Reading) (s : List ℕ) (q : Request) (r : Query) (n : ℕ) (is_n : (header_in Little s).number ≡ n) (fits : FitsIn Little s n) (alike : AsksAs q r) (clean : scsi_offence v s q ≡ Clean) where
+module _ (s : List ℕ) (q : Request) (r : Query) (n : ℕ) (is_n : (header_in Little s).number ≡ n) (fits : FitsIn Little s n) (alike : AsksAs q r) (clean : scsi_offence s q ≡ Clean) where
   abbrev data_of : List ℕ
   data_of = turned Little Big s
 
   data_laid : laid Big (header_in Little s) (list_in Little s n) ++ [] ≡ data_of
   data_laid = append-nil _ ∙ ap (λ (m : ℕ). laid Big (header_in Little s) (list_in Little s m)) (sym is_n) ∙ turned-laid Little Big s
 
-  both : (page_offence Little v s q ≡ Clean) × (unless (eqb (header_in Little s).returned (header_in Little s).number) 4 ≡ Clean)
-  both = or_clean (page_offence Little v s q) _ clean
+  both : (page_offence Little s q ≡ Clean) × (unless (eqb (header_in Little s).returned (header_in Little s).number) 4 ≡ Clean)
+  both = or_clean (page_offence Little s q) _ clean
 
   returned : (header_in Little s).returned ≡ n
   returned = eqb-true _ _ (unless_clean _ 4 both.1) ∙ is_n
 
-  was : page·taken.Taken Little v s q
-  was = page·taken.taken Little v s q (ap (λ (f : Offence). (page.answer_of f (header_in Little s)).number) both.0)
+  was : page·taken.Taken Little s q
+  was = page·taken.taken Little s q (ap (λ (f : Offence). (page.answer_of f (header_in Little s)).number) both.0)
 
   long : length data_of ≡ base_of n
   long = length-turned Little Big s ∙ ap base_of is_n
@@ -77,17 +76,17 @@ module _ (v : Reading) (s : List ℕ) (q : Request) (r : Query) (n : ℕ) (is_n 
   fields = (subst (λ (x : ℕ). x ≤ 1) alike.filter was.asked.0, subst (λ (x : ℕ). x ≤ 1) alike.report was.asked.1)
 
   data_list : (x : Request) → filter_of x ≡ filter_of q → report_type_of x ≡ report_type_of q → start_of x ≤ start_of q
-      → (k : ℕ) → k < n → Listed v x (last_before Big data_of k) (descriptor_at Big data_of k)
+      → (k : ℕ) → k < n → Listed x (last_before Big data_of k) (descriptor_at Big data_of k)
   data_list x same_filter same_type not_above k l =
-      subst (λ (t : List ℕ). Listed v x (last_before Big t k) (descriptor_at Big t k)) data_laid
-      (list_kept Little Big s n fits [] v x (λ j h. listed_as v q x same_filter same_type not_above _ _ (was.list j (rw returned h))) k l)
+      subst (λ (t : List ℕ). Listed x (last_before Big t k) (descriptor_at Big t k)) data_laid
+      (list_kept Little Big s n fits [] x (λ j h. listed_as q x same_filter same_type not_above _ _ (was.list j (rw returned h))) k l)
 
-  asked_list : (k : ℕ) → k < n → Listed v (asked r) (last_before Big data_of k) (descriptor_at Big data_of k)
+  asked_list : (k : ℕ) → k < n → Listed (asked r) (last_before Big data_of k) (descriptor_at Big data_of k)
   asked_list =
       data_list (asked r) (filter_asked 0 r fields.0 fields.1 ∙ sym alike.filter) (report_asked 0 r fields.0 fields.1 ∙ sym alike.report)
       (omega (arith, alike.start))
 
-  keeps_lem : scsi·taken.Taken Big v data_of r
+  keeps_lem : scsi·taken.Taken Big data_of r
   keeps_lem =
       record {
         there = omega (arith, long);
@@ -100,14 +99,14 @@ module _ (v : Reading) (s : List ℕ) (q : Request) (r : Query) (n : ℕ) (is_n 
   torn : torn_of n (length data_of) ≡ false
   torn = rw (long, le-ltb (base_of n) (base_of n) (omega arith))
 
-  as_data : DataHolds v data_of r (header_in Little s) (page.slot_of Little s)
+  as_data : DataHolds data_of r (header_in Little s) (page.slot_of Little s)
   as_data =
       record {
         taken =
-            scsi·taken.takes Big v data_of r keeps_lem
-            ∙ (λ i. tells 0 (scsi.received (data_header i) (whole_of (data_number i) (length data_of)) (torn_of (data_number i) (length data_of))))
-            ∙ (λ i. tells 0 (scsi.received (header_in Little s) (whole i) (torn i)))
-            ∙ ap (λ (m : ℕ). tells 0 (scsi.received (header_in Little s) m false)) (sym is_n);
+            scsi·taken.takes Big data_of r keeps_lem
+            ∙ (λ i. tells 0 (scsi.reading (data_header i) (whole_of (data_number i) (length data_of)) (torn_of (data_number i) (length data_of))))
+            ∙ (λ i. tells 0 (scsi.reading (header_in Little s) (whole i) (torn i)))
+            ∙ ap (λ (m : ℕ). tells 0 (scsi.reading (header_in Little s) m false)) (sym is_n);
         elements = λ k.
             slots_alike (whole_of (header_in Big data_of).number (length data_of)) n (ap (λ (m : ℕ). whole_of m (length data_of)) data_number ∙ whole)
             (descriptor_at Big data_of k) (descriptor_at Little s k) k (data_descriptor k)
@@ -117,15 +116,15 @@ module _ (v : Reading) (s : List ℕ) (q : Request) (r : Query) (n : ℕ) (is_n 
   data_fits : FitsIn Big data_of n
   data_fits = subst (λ (t : List ℕ). FitsIn Big t n) data_laid (fits_kept Little Big s n fits [])
 
-  data_clean : data_offence Big v data_of r ≡ Clean
-  data_clean = (scsi·theorem.heard-clean Big v data_of r _ _ _ (sym as_data.taken)).0
+  data_clean : data_offence Big data_of r ≡ Clean
+  data_clean = (scsi·theorem.heard-clean Big data_of r _ _ _ (sym as_data.taken)).0
 
 pub page_to_data : PageToData
-page_to_data v s q r bytes alike clean = as_data v s q r (header_in Little s).number refl (bytes_fit Little s (header_in Little s).number bytes) alike clean
+page_to_data s q r bytes alike clean = as_data s q r (header_in Little s).number refl (bytes_fit Little s (header_in Little s).number bytes) alike clean
 
 -- ## Data as a page
 
-module _ (v : Reading) (s : List ℕ) (r : Query) (p n : ℕ) (is_n : (header_in Big s).number ≡ n) (fits : FitsIn Big s n) (clean : ata_offence v s r p ≡ Clean) where
+module _ (s : List ℕ) (r : Query) (p n : ℕ) (is_n : (header_in Big s).number ≡ n) (fits : FitsIn Big s n) (clean : ata_offence s r p ≡ Clean) where
   abbrev page_of_lem : List ℕ
   page_of_lem = paged p s
 
@@ -139,13 +138,13 @@ module _ (v : Reading) (s : List ℕ) (r : Query) (p n : ℕ) (is_n : (header_in
       ∙ ap (λ (t : List ℕ). t ++ replicate (512 * p - base_of (header_in Big s).number) 0) (turned-laid Big Little s)
 
   data_whole : whole_of n (length s) ≡ n
-  data_whole = ap (λ (m : ℕ). whole_of m (length s)) (sym is_n) ∙ (fits_clean v s r p clean).1 ∙ is_n
+  data_whole = ap (λ (m : ℕ). whole_of m (length s)) (sym is_n) ∙ (fits_clean s r p clean).1 ∙ is_n
 
   few : n + 1 ≤ 16 * p
-  few = subst (λ (m : ℕ). m + 1 ≤ 16 * p) is_n (fits_clean v s r p clean).2
+  few = subst (λ (m : ℕ). m + 1 ≤ 16 * p) is_n (fits_clean s r p clean).2
 
-  data_was : scsi·taken.Taken Big v s r
-  data_was = scsi·taken.taken Big v s r (ap (λ (f : Offence). (scsi.answer_of f (header_in Big s) (whole_of (header_in Big s).number (length s)) (torn_of (header_in Big s).number (length s))).number) (fits_clean v s r p clean).0)
+  data_was : scsi·taken.Taken Big s r
+  data_was = scsi·taken.taken Big s r (ap (λ (f : Offence). (scsi.answer_of f (header_in Big s) (whole_of (header_in Big s).number (length s)) (torn_of (header_in Big s).number (length s))).number) (fits_clean s r p clean).0)
 
   front_long : length (laid Little (header_in Big s) (list_in Big s n)) ≡ base_of n
   front_long = ap (λ (m : ℕ). length (laid Little (header_in Big s) (list_in Big s m))) (sym is_n) ∙ ap length (turned-laid Big Little s) ∙ length-turned Big Little s ∙ ap base_of is_n
@@ -177,13 +176,13 @@ module _ (v : Reading) (s : List ℕ) (r : Query) (p n : ℕ) (is_n : (header_in
 
   -- for a request whose rules the list keeps
   module _ (q : Request) (pages : pages_of q ≡ p) (asks : Asked q)
-      (list : (k : ℕ) → k < n → Listed v q (last_before Big s k) (descriptor_at Big s k)) where
-    page_list : (k : ℕ) → k < n → Listed v q (last_before Little page_of_lem k) (descriptor_at Little page_of_lem k)
+      (list : (k : ℕ) → k < n → Listed q (last_before Big s k) (descriptor_at Big s k)) where
+    page_list : (k : ℕ) → k < n → Listed q (last_before Little page_of_lem k) (descriptor_at Little page_of_lem k)
     page_list k l =
-        subst (λ (t : List ℕ). Listed v q (last_before Little t k) (descriptor_at Little t k)) page_laid
-        (list_kept Big Little s n fits zeros v q list k l)
+        subst (λ (t : List ℕ). Listed q (last_before Little t k) (descriptor_at Little t k)) page_laid
+        (list_kept Big Little s n fits zeros q list k l)
 
-    page_keeps : page·taken.Taken Little v page_of_lem q
+    page_keeps : page·taken.Taken Little page_of_lem q
     page_keeps =
         record {
           asked = asks;
@@ -193,25 +192,25 @@ module _ (v : Reading) (s : List ℕ) (r : Query) (p n : ℕ) (is_n : (header_in
           padding = subst (λ (m : ℕ). (i : ℕ) → i < length page_of_lem - base_of m → get_or page_of_lem (base_of m + i) 0 ≡ 0) (sym page_returned) padding;
         }
 
-    as_page : PageHolds v page_of_lem q (header_in Big s) (scsi.slot_of Big s)
+    as_page : PageHolds page_of_lem q (header_in Big s) (scsi.slot_of Big s)
     as_page =
         record {
-          taken = page·taken.takes Little v page_of_lem q page_keeps ∙ ap (λ (h : Header). tells 0 (page.header h)) page_header;
+          taken = page·taken.takes Little page_of_lem q page_keeps ∙ ap (λ (h : Header). tells 0 (page.header h)) page_header;
           elements = λ k.
               slots_alike (header_in Little page_of_lem).returned n page_returned (descriptor_at Little page_of_lem k) (descriptor_at Big s k) k (page_descriptor k)
               ∙ ap (λ (m : ℕ). cond (ltb k m) (Holds (descriptor_at Big s k)) Outside) (sym (ap (λ (m : ℕ). whole_of m (length s)) is_n ∙ data_whole));
         }
 
-  own_page : PageHolds v page_of_lem (asked_for p r) (header_in Big s) (scsi.slot_of Big s)
+  own_page : PageHolds page_of_lem (asked_for p r) (header_in Big s) (scsi.slot_of Big s)
   own_page =
       as_page (asked_for p r) refl (page·theorem.asked-to (asked_for p r) (not-refused p r data_was.fields.0 data_was.fields.1 (omega (arith, few))))
-      (λ k l. listed_as v (asked r) (asked_for p r) refl refl (omega arith) _ _ (data_was.list k (rw (is_n, data_whole) l)))
+      (λ k l. listed_as (asked r) (asked_for p r) refl refl (omega arith) _ _ (data_was.list k (rw (is_n, data_whole) l)))
 
-  page_clean : page_offence Little v page_of_lem (asked_for p r) ≡ Clean
-  page_clean = (page·theorem.heard-clean Little v page_of_lem (asked_for p r) _ (sym own_page.taken)).0
+  page_clean : page_offence Little page_of_lem (asked_for p r) ≡ Clean
+  page_clean = (page·theorem.heard-clean Little page_of_lem (asked_for p r) _ (sym own_page.taken)).0
 
 pub data_to_page : DataToPage
-data_to_page v s r p bytes clean = own_page v s r p (header_in Big s).number refl (bytes_fit Big s (header_in Big s).number bytes) clean
+data_to_page s r p bytes clean = own_page s r p (header_in Big s).number refl (bytes_fit Big s (header_in Big s).number bytes) clean
 
 -- ## There and back
 
@@ -219,47 +218,47 @@ pub or_both : (a b : Offence) → a ≡ Clean → b ≡ Clean → (a or_else b) 
 or_both a b x y = rw (x, y)
 
 pub there_and_back : ThereAndBack
-there_and_back v s q r p bytes alike clean few =
+there_and_back s q r p bytes alike clean few =
     let n = (header_in Little s).number in
     let fits = bytes_fit Little s n bytes in
     let t : List ℕ = turned Little Big s in
-    let there = as_data v s q r n refl fits alike clean in
-    let number = data_number v s q r n refl fits alike clean in
-    let whole_t = whole v s q r n refl fits alike clean in
+    let there = as_data s q r n refl fits alike clean in
+    let number = data_number s q r n refl fits alike clean in
+    let whole_t = whole s q r n refl fits alike clean in
     let fitting : fits_pages (whole_of (header_in Big t).number (length t)) (header_in Big t).number p ≡ true =
     rw (number, eq-eqb _ _ whole_t, le-leb (n + 1) (16 * p) few) in
-    let ok : ata_offence v t r p ≡ Clean = or_both _ _ (data_clean v s q r n refl fits alike clean) (ap (λ (b : Bool). unless b 4) fitting) in
-    let asks = (was v s q r n refl fits alike clean).asked in
+    let ok : ata_offence t r p ≡ Clean = or_both _ _ (data_clean s q r n refl fits alike clean) (ap (λ (b : Bool). unless b 4) fitting) in
+    let asks = (was s q r n refl fits alike clean).asked in
     let back =
-    as_page v t r p n number (data_fits v s q r n refl fits alike clean) ok (with_pages p q) refl (asks.0, asks.1, omega (arith, few), asks.3)
-    (data_list v s q r n refl fits alike clean (with_pages p q) refl refl (omega arith)) in (
+    as_page t r p n number (data_fits s q r n refl fits alike clean) ok (with_pages p q) refl (asks.0, asks.1, omega (arith, few), asks.3)
+    (data_list s q r n refl fits alike clean (with_pages p q) refl refl (omega arith)) in (
       ok,
       record {
-        taken = back.taken ∙ ap (λ (h : Header). tells 0 (page.header h)) (data_header v s q r n refl fits alike clean);
+        taken = back.taken ∙ ap (λ (h : Header). tells 0 (page.header h)) (data_header s q r n refl fits alike clean);
         elements = λ k. back.elements k ∙ there.elements k;
       },
     )
 
 pub back_and_there : BackAndThere
-back_and_there v s r p bytes low clean =
+back_and_there s r p bytes low clean =
     let n = (header_in Big s).number in
     let fits = bytes_fit Big s n bytes in
     let t : List ℕ = paged p s in
-    let was = data_was v s r p n refl fits clean in
+    let was = data_was s r p n refl fits clean in
     let alike : AsksAs (asked_for p r) r =
     record {
       filter = filter_asked p r was.fields.0 was.fields.1;
       report = report_asked p r was.fields.0 was.fields.1;
       start = omega (arith, start_asked p r low);
     } in
-    let there = own_page v s r p n refl fits clean in
-    let number = page_number v s r p n refl fits clean in
-    let same : eqb (header_in Little t).returned (header_in Little t).number ≡ true = eq-eqb _ _ (page_returned v s r p n refl fits clean ∙ sym number) in
-    let ok : scsi_offence v t (asked_for p r) ≡ Clean = or_both _ _ (page_clean v s r p n refl fits clean) (ap (λ (b : Bool). unless b 4) same) in
-    let back = as_data v t (asked_for p r) r n number (page_fits v s r p n refl fits clean) alike ok in (
+    let there = own_page s r p n refl fits clean in
+    let number = page_number s r p n refl fits clean in
+    let same : eqb (header_in Little t).returned (header_in Little t).number ≡ true = eq-eqb _ _ (page_returned s r p n refl fits clean ∙ sym number) in
+    let ok : scsi_offence t (asked_for p r) ≡ Clean = or_both _ _ (page_clean s r p n refl fits clean) (ap (λ (b : Bool). unless b 4) same) in
+    let back = as_data t (asked_for p r) r n number (page_fits s r p n refl fits clean) alike ok in (
       ok,
       record {
-        taken = back.taken ∙ ap (λ (h : Header). tells 0 (scsi.received h h.number false)) (page_header v s r p n refl fits clean);
+        taken = back.taken ∙ ap (λ (h : Header). tells 0 (scsi.reading h h.number false)) (page_header s r p n refl fits clean);
         elements = λ k. back.elements k ∙ there.elements k;
       },
     )

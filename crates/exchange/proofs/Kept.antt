@@ -13,7 +13,6 @@ use Rattle.layout.specs.declared.Descriptor.{Descriptor}
 use Rattle.offences.proofs.Checks.{before_same}
 use Rattle.offences.proofs.Laid.{laid_header, laid_descriptor}
 use Rattle.offences.specs.Checks.{base_of, descriptor_at, last_before}
-use Rattle.paper.specs.declared.Reading.{Reading}
 use Rattle.reader.proofs.Taken.{Listed}
 use Rattle.request.specs.Requests.{filter_of, report_type_of, start_of}
 use Rattle.request.specs.declared.Request.{Request}
@@ -31,9 +30,9 @@ pub bytes_fit : (o : Order) (s : List ℕ) (n : ℕ) → Bytes s → FitsIn o s 
 bytes_fit o s n e = record { header = header_fits o s e; list = λ k l. descriptor_fits o (drop (base_of k) s) (bytes_drop (base_of k) s e) }
 
 -- a descriptor that keeps the rules of one request keeps those of another with its filter and report type, and a start that is not above
-pub listed_as : (v : Reading) (p q : Request) → filter_of q ≡ filter_of p → report_type_of q ≡ report_type_of p → start_of q ≤ start_of p
-    → (last : ℕ) (d : Descriptor) → Listed v p last d → Listed v q last d
-listed_as v p q same_filter same_type not_above last d was =
+pub listed_as : (p q : Request) → filter_of q ≡ filter_of p → report_type_of q ≡ report_type_of p → start_of q ≤ start_of p
+    → (last : ℕ) (d : Descriptor) → Listed p last d → Listed q last d
+listed_as p q same_filter same_type not_above last d was =
     record {
       some = was.some;
       started = omega (arith, was.started);
@@ -65,8 +64,8 @@ module _ (from to : Order) (s : List ℕ) (n : ℕ) (fits : FitsIn from s n) (re
     list = λ k l. subst DescriptorFits (sym (descriptor_kept k l)) (fits.list k l);
   }
 
-  pub list_kept : (v : Reading) (q : Request) → ((k : ℕ) → k < n → Listed v q (last_before from s k) (descriptor_at from s k))
-      → (k : ℕ) → k < n → Listed v q (last_before to t k) (descriptor_at to t k)
-  list_kept v q list k l =
-      subst (λ (m : ℕ). Listed v q m (descriptor_at to t k)) (sym (last_kept k l))
-      (subst (λ (x : Descriptor). Listed v q (last_before from s k) x) (sym (descriptor_kept k l)) (list k l))
+  pub list_kept : (q : Request) → ((k : ℕ) → k < n → Listed q (last_before from s k) (descriptor_at from s k))
+      → (k : ℕ) → k < n → Listed q (last_before to t k) (descriptor_at to t k)
+  list_kept q list k l =
+      subst (λ (m : ℕ). Listed q m (descriptor_at to t k)) (sym (last_kept k l))
+      (subst (λ (x : Descriptor). Listed q (last_before from s k) x) (sym (descriptor_kept k l)) (list k l))

@@ -74,24 +74,24 @@ module _ (bytes buf out : List ℕ) (size : ℕ) where
 -- ## There and back
 
 pub page_turned_back : PageTurnedBack
-page_turned_back v s q room out size bytes first r p space back c alike second few wide =
-    let (clean, is_data) = converted (turned Little Big s) room out size (scsi_offence v s q) first in
-    let (ok, holds) = there_and_back v s q r p bytes alike clean few in
+page_turned_back s q room out size bytes first r p space back c alike second few wide =
+    let (clean, is_data) = converted (turned Little Big s) room out size (scsi_offence s q) first in
+    let (ok, holds) = there_and_back s q r p bytes alike clean few in
     let there : List ℕ = turned Little Big s in
-    let so : heard c back ≡ outcome (ata_offence v there r p) (paged p there) space =
-    second ∙ (λ i. outcome (ata_offence v (is_data i) r p) (paged p (is_data i)) space) in
-    let (done, is_page) = converts (paged p there) space (512 * p) (sym (page_bytes v there r p ok)) wide _ ok c back so in
-    (done, subst (λ (t : List ℕ). PageHolds v t (with_pages p q) (header_in Little s) (page.slot_of Little s)) (sym is_page) holds)
+    let so : heard c back ≡ outcome (ata_offence there r p) (paged p there) space =
+    second ∙ (λ i. outcome (ata_offence (is_data i) r p) (paged p (is_data i)) space) in
+    let (done, is_page) = converts (paged p there) space (512 * p) (sym (page_bytes there r p ok)) wide _ ok c back so in
+    (done, subst (λ (t : List ℕ). PageHolds t (with_pages p q) (header_in Little s) (page.slot_of Little s)) (sym is_page) holds)
 
 pub data_turned_back : DataTurnedBack
-data_turned_back v s r p room out size bytes low first space back c second wide =
-    let (clean, is_page) = converted (paged p s) room out size (ata_offence v s r p) first in
-    let (ok, holds) = back_and_there v s r p bytes low clean in
+data_turned_back s r p room out size bytes low first space back c second wide =
+    let (clean, is_page) = converted (paged p s) room out size (ata_offence s r p) first in
+    let (ok, holds) = back_and_there s r p bytes low clean in
     let there : List ℕ = paged p s in
     let n = (header_in Big s).number in
-    let so : heard c back ≡ outcome (scsi_offence v there (asked_for p r)) (turned Little Big there) space =
-    second ∙ (λ i. outcome (scsi_offence v (is_page i) (asked_for p r)) (turned Little Big (is_page i)) space) in
+    let so : heard c back ≡ outcome (scsi_offence there (asked_for p r)) (turned Little Big there) space =
+    second ∙ (λ i. outcome (scsi_offence (is_page i) (asked_for p r)) (turned Little Big (is_page i)) space) in
     let long : base_of n ≡ length (turned Little Big there) =
-    ap base_of (sym (page_number v s r p n refl (bytes_fit Big s n bytes) clean)) ∙ sym (length-turned Little Big there) in
+    ap base_of (sym (page_number s r p n refl (bytes_fit Big s n bytes) clean)) ∙ sym (length-turned Little Big there) in
     let (done, is_data) = converts (turned Little Big there) space (base_of n) long wide _ ok c back so in
-    (done, subst (λ (t : List ℕ). DataHolds v t r (header_in Big s) (scsi.slot_of Big s)) (sym is_data) holds)
+    (done, subst (λ (t : List ℕ). DataHolds t r (header_in Big s) (scsi.slot_of Big s)) (sym is_data) holds)

@@ -7,13 +7,14 @@ use lib.Dec.{eqb}
 use borrow.Author.Tests.{eq-eqb, eqb-true}
 use Rattle.cells.specs.Rulings.{Ruled}
 use Rattle.cells.specs.Sights.{gone}
+use Rattle.cells.specs.declared.Mark.TheVariants.{Clear, Set}
 use Rattle.cells.specs.declared.Note.TheVariants.{Full}
 use Rattle.cells.specs.declared.Position.TheVariants.{Work1, Work2, Work3, Work4, Work5, Wind1, Wind2, Wind3, Wind4}
 use Rattle.cells.specs.declared.Position.{Position}
 use Rattle.cells.specs.declared.Removal.{Removal}
-use Rattle.cells.specs.declared.Store.TheVariants.{Nothing, NativeTo, AccessibleTo, Marked, Graded, FailedAt, FailedCleared, Noted, NoteEmptied}
+use Rattle.cells.specs.declared.Store.TheVariants.{Nothing, NativeTo, AccessibleTo, Marked, Graded, FailedTo, Noted, NoteEmptied}
 use Rattle.cells.specs.declared.Store.{Store}
-use Rattle.conduct.proofs.Shapes.{still, moving, stopping, Shape, quiet_lem, clears, notes_lem, advances, winds, Grading, refuses, grades, each, choose}
+use Rattle.conduct.proofs.Shapes.{still, moving, stopping, Shape, quiet_lem, clears, notes, advances, winds, Grading, refuses, grades, each, choose}
 use Rattle.device.proofs.Stores.{store_at}
 use Rattle.device.specs.Machine.{Event, command, step, media_error, power_cut, comreset, hardware_reset, software_reset, grade, rule, told}
 use Rattle.device.specs.Record.{under_way, removed_number, see}
@@ -63,16 +64,16 @@ module _ (d : Device) (id : ElementId) (lba : Lba) where
       choose Notes (too_small d.cells.native.0 (see d id).part.blocks) (λ _ z. absurd (omega arith))
       (λ _. choose Notes (too_high d.cells.native.0 (see d id).part.blocks lba.0) (λ _ z. absurd (omega arith)) (λ _ z. refl))
 
-  notes-found : gone (see d id) ≡ false → Notes (judge_found d.table d.cells d.position id lba (see d id))
+  notes_found : gone (see d id) ≡ false → Notes (judge_found d.table d.cells d.position id lba (see d id))
   unfolding judge_found
-  notes-found s =
+  notes_found s =
       choose Notes (not ((see d id).hit && is_storage (see d id).part)) (λ _ z. absurd (omega arith))
       (λ there. choose Notes (removed_health (see d id).health) (λ q z. absurd (there_stands (see d id).hit _ _ there s q))
       (λ _. choose Notes (limit_met d.table.limit (removed_number d)) (λ _ z. absurd (omega arith)) (λ _. notes_room)))
 
   -- for an element at FFh, answered 0, it has cleared the mark
   abbrev Clears : Ruled → Type 0
-  Clears r = r.number ≡ 0 → r.store ≡ FailedCleared
+  Clears r = r.number ≡ 0 → r.store ≡ FailedTo Clear
 
   clears_found : gone (see d id) ≡ true → Clears (judge_found d.table d.cells d.position id lba (see d id))
   unfolding judge_found
@@ -114,11 +115,11 @@ module _ (d : Device) (security : Security) (r : Registers) (room : ℕ) (is_7_c
 
 pub acceptance : Acceptance
 acceptance d security r room is_7_c z standing =
-    removed_by d security r room is_7_c z (Noted (note_of d r)) (notes-found d (identifier_of r) (low48 r.lba) standing)
+    removed_by d security r room is_7_c z (Noted (note_of d r)) (notes_found d (identifier_of r) (low48 r.lba) standing)
 
 pub clearance : Clearance
 clearance d security r room is_7_c z gone_by =
-    removed_by d security r room is_7_c z FailedCleared (clears_found d (identifier_of r) (low48 r.lba) gone_by)
+    removed_by d security r room is_7_c z (FailedTo Clear) (clears_found d (identifier_of r) (low48 r.lba) gone_by)
 
 -- ## Stores that one event alone makes
 
@@ -129,8 +130,8 @@ Tells d e next (NativeTo v) = Unit {0}
 Tells d e next (AccessibleTo v) = Unit {0}
 Tells d e next (Marked place) = (e ≡ step) × ((w : Removal) × At Work3 w d × (place < size d.table) × (w.element.0 ≡ identifier_at d.table place))
 Tells d e next (Graded place h) = Unit {0}
-Tells d e next FailedCleared = Unit {0}
-Tells d e next (FailedAt id) = (e ≡ step) × ((w : Removal) × At Wind3 w d × (w.element ≡ id))
+Tells d e next (FailedTo Clear) = Unit {0}
+Tells d e next (FailedTo Set) = (e ≡ step) × ((w : Removal) × At Wind3 w d)
 Tells d e next (Noted w) = (next ≡ Work1) × ((see d w.element).hit ≡ true)
 Tells d e next NoteEmptied = Unit {0}
 
@@ -138,7 +139,7 @@ module _ (d : Device) where
   tells_still : (e : Event) (r : Ruled) → Shape d still r → Tells d e r.next r.store
   tells_still e r (quiet_lem n) = tt
   tells_still e r clears = tt
-  tells_still e r (notes_lem id lba n s) = (refl, s.hit)
+  tells_still e r (notes id lba n s) = (refl, s.hit)
 
   tells_stop : (e : Event) (r : Ruled) → Shape d stopping r → Tells d e r.next r.store
   tells_stop e r (quiet_lem n) = tt
@@ -156,7 +157,7 @@ module _ (d : Device) where
   tells_step w n Work5 e = tt
   tells_step w n Wind1 e = tt
   tells_step w n Wind2 e = tt
-  tells_step w n Wind3 e = (refl, (w, record { note = n; position = e }, refl))
+  tells_step w n Wind3 e = (refl, (w, record { note = n; position = e }))
   tells_step w n Wind4 e = tt
 
   tells_moving : (r : Ruled) → Shape d moving r → Tells d step r.next r.store
@@ -181,7 +182,7 @@ pub marking_store : MarkingStore
 marking_store d e place q = subst (Tells d e (rule d e).next) q (store_tells d e)
 
 pub setting_store : SettingStore
-setting_store d e id q = subst (Tells d e (rule d e).next) q (store_tells d e)
+setting_store d e q = subst (Tells d e (rule d e).next) q (store_tells d e)
 
 -- ## The note
 

@@ -15,7 +15,7 @@ use Rattle.cells.specs.declared.Position.TheVariants.{Work1, Work2, Work3, Work4
 use Rattle.cells.specs.declared.Position.{Position}
 use Rattle.cells.specs.declared.Removal.{Removal}
 use Rattle.cells.specs.declared.Store.TheVariants.{Nothing, Marked}
-use Rattle.conduct.proofs.Shapes.{Kind, Standing, Shape, quiet_lem, clears, notes_lem, advances, winds, Grading, refuses, grades, each}
+use Rattle.conduct.proofs.Shapes.{Kind, Standing, Shape, quiet_lem, clears, notes, advances, winds, Grading, refuses, grades, each}
 use Rattle.device.proofs.Stores.{store_at}
 use Rattle.device.specs.Machine.{Event, command, step, media_error, power_cut, comreset, hardware_reset, software_reset, grade, rule}
 use Rattle.device.specs.Record.{health_at, carried_out, see, wound_up}
@@ -185,7 +185,7 @@ module _ (start : Device) (asc : ascending 0 (identifiers start.table) ≡ true)
   keep_shape : (k : Kind) (r : Ruled) → Shape d k r → After G r
   keep_shape k r (quiet_lem n) = inv
   keep_shape k r clears = hold inv.held
-  keep_shape k r (notes_lem id lba empty s) =
+  keep_shape k r (notes id lba empty s) =
       hold (record { there = hit_present t d built id s.hit; aim = rw (unmarked id s) (sym (held_at start h d inv Empty empty).0); at = (unmarked id s, refl) })
   keep_shape k r (advances w e) = keep_step w e d.position (held_at start h d inv (Full w) e)
   keep_shape k r (winds w e) = on w e (held_at start h d inv (Full w) e) tt

@@ -12,7 +12,7 @@ use Rattle.cells.specs.declared.Position.{Position}
 use Rattle.cells.specs.declared.Removal.{Removal}
 use Rattle.cells.specs.declared.Store.TheVariants.{Marked, Noted}
 use Rattle.cells.specs.declared.Store.{Store}
-use Rattle.conduct.proofs.Shapes.{still, Shape, quiet_lem, clears, notes_lem, Grading, refuses, grades, each, marking_note}
+use Rattle.conduct.proofs.Shapes.{still, Shape, quiet_lem, clears, notes, Grading, refuses, grades, each, marking_note}
 use Rattle.device.proofs.Stores.{store_at}
 use Rattle.device.specs.Machine.{Event, command, step, media_error, power_cut, comreset, hardware_reset, software_reset, grade, rule, told}
 use Rattle.device.specs.Record.{carried_out, see, wound_up}
@@ -52,7 +52,7 @@ module _ (w : Removal) where
   stay : (p : Position) (d : Device) → At p w d → (r : Ruled) → Shape d still r → At p w (carried_out d r)
   stay p d o r (quiet_lem n) = o
   stay p d o r clears = record { note = o.note; position = o.position }
-  stay p d o r (notes_lem id lba empty s) = empty_full (sym empty ∙ o.note)
+  stay p d o r (notes id lba empty s) = empty_full (sym empty ∙ o.note)
 
   stay_grade : (p : Position) (d : Device) (id : ElementId) (h : ℕ) → At p w d → (r : Ruled) → Grading d id h r → At p w (carried_out d r)
   stay_grade p d id h o r refuses = o
@@ -132,7 +132,7 @@ module _ (w : Removal) where
   wind_on (suc (suc zero)) l d = (refl, refl)
   wind_on (suc (suc (suc n))) l d = absurd (omega arith)
 
-  wind_store_lem : (k : ℕ) (d : Device) → store_at d w (wind k) ≡ wind_store (wound_up d w) w k
+  wind_store_lem : (k : ℕ) (d : Device) → store_at d w (wind k) ≡ wind_store (wound_up d w) k
   wind_store_lem zero d = refl
   wind_store_lem (suc zero) d = refl
   wind_store_lem (suc (suc zero)) d = refl
@@ -162,11 +162,11 @@ stop_winds d w n software_reset q = absurd (false≢true q)
 stop_winds d w n (grade i v) q = absurd (false≢true q)
 
 pub four_steps : FourSteps
-four_steps d w o s c l = arrives w wind 3 (wind_on w) (wind_store (wound_up (after d s) w) w) d o s c l (wind_store_lem w (steps s) (after d s))
+four_steps d w o s c l = arrives w wind 3 (wind_on w) (wind_store (wound_up (after d s) w)) d o s c l (wind_store_lem w (steps s) (after d s))
 
 pub fourth_ends : FourthEnds
 fourth_ends d w o s c k =
-    ap (λ (y : Store). (make y (after d s).cells).note) ((four_steps d w o s c (omega arith)).store ∙ ap (wind_store (wound_up (after d s) w) w) k)
+    ap (λ (y : Store). (make y (after d s).cells).note) ((four_steps d w o s c (omega arith)).store ∙ ap (wind_store (wound_up (after d s) w)) k)
 
 -- the fourth step after a stop in any run
 pub fourth_after : (start : Device) (s : Script) (w : Removal) → (after start s).cells.note ≡ Full w → (e : Event) → stops e ≡ true → (t : Script) → calm t ≡ true → steps t ≡ 3

@@ -3,12 +3,12 @@ use Prim.Native.Nat.{ℕ, ◌≤◌, ◌<◌}
 use mathlib.Core.Bool.{Bool, true, false, cond, ◌||◌, true≢false, or-true}
 use mathlib.Core.Path.{◌≡◌, refl, sym, ap, ◌∙◌}
 use borrow.Author.Tests.{eqb-true, le-leb, leb-true}
-use Rattle.cells.specs.Cells.{make}
+use Rattle.cells.specs.Cells.{make, is_set}
 use Rattle.cells.specs.Sights.{gone}
 use Rattle.cells.specs.declared.Cells.{Cells}
 use Rattle.cells.specs.declared.Note.TheVariants.{Empty, Full}
 use Rattle.cells.specs.declared.Note.{Note}
-use Rattle.cells.specs.declared.Store.TheVariants.{Nothing, NativeTo, AccessibleTo, Marked, Graded, FailedAt, FailedCleared, Noted, NoteEmptied}
+use Rattle.cells.specs.declared.Store.TheVariants.{Nothing, NativeTo, AccessibleTo, Marked, Graded, FailedTo, Noted, NoteEmptied}
 use Rattle.cells.specs.declared.Store.{Store}
 use Rattle.conduct.proofs.PowerCut.{stop_keeps_cells}
 use Rattle.device.specs.Machine.{rule, power_cut}
@@ -29,14 +29,13 @@ other_lem true b e z = absurd (true≢false z)
 other_lem false b e z = e
 
 -- the failed mark is no part of the invariant
-failed_after : (s : Store) (c : Cells) → (make s c).failed ≡ failed_by s c.failed
+failed_after : (s : Store) (c : Cells) → is_set (make s c).failed ≡ failed_by s (is_set c.failed)
 failed_after Nothing c = refl
 failed_after (NativeTo v) c = refl
 failed_after (AccessibleTo v) c = refl
 failed_after (Marked place) c = refl
 failed_after (Graded place h) c = refl
-failed_after (FailedAt id) c = refl
-failed_after FailedCleared c = refl
+failed_after (FailedTo m) c = refl
 failed_after (Noted w) c = refl
 failed_after NoteEmptied c = refl
 
@@ -78,7 +77,7 @@ module _ (start : Device) (can : Startable start) where
   removed_in_lem : (s : Script) (i : ℕ) → i < size start.table → removed_health (health_at (after start s) i) ≡ marked start (history start s) (identifier_at start.table i)
   removed_in_lem s = removed_marked start can.ids (history start s) (after start s) (table_kept start s) (inv s)
 
-  failed_kept : (s : Script) → (after start s).cells.failed ≡ failed_in start (history start s)
+  failed_kept : (s : Script) → is_set (after start s).cells.failed ≡ failed_in start (history start s)
   failed_kept begin = refl
   failed_kept (s ▸ e) = failed_after (rule (after start s) e).store (after start s).cells ∙ ap (failed_by (rule (after start s) e).store) (failed_kept s)
 

@@ -7,6 +7,7 @@ use native.Mathlib.Nat.{min-eq_left}
 use native.Mathlib.Omega.{arith}
 use lib.ListN.{length, get_or, replicate, length-map, length-append, length-take, get_or-append}
 use borrow.Author.Tests.{leb-true, ne_eqb}
+use Rattle.cells.specs.Cells.{is_set}
 use Rattle.device.specs.Record.{health_at}
 use Rattle.device.specs.declared.Device.{Device}
 use Rattle.making.proofs.EveryMaking.{fresh_order}
@@ -48,7 +49,8 @@ module _ (o : Offer) (full : length o.elements ≡ 128) (g : good o.count (offer
   standing_lem i h =
       ne_eqb (health_at (fresh o) i) 0xFF (λ q. let low : health_at (fresh o) i ≤ 0xCF = leb-true (health_at (fresh o) i) 0xCF (graded_lem i h) in omega arith)
 
-  made_of_lem : MadeOf (offered o) o.limit o.reading (fresh o)
+  made_of_lem : MadeOf (offered o) o.limit (fresh o)
+  unfolding is_set
   made_of_lem = record {
     startable = record {
       ids = fresh_order o full g;
@@ -60,7 +62,6 @@ module _ (o : Offer) (full : length o.elements ≡ 128) (g : good o.count (offer
     healths = split_front o full few health_of 0;
     count = sym (rw (length-take, full) (min-eq_left few));
     limit = refl;
-    reading = refl;
     rests = refl;
     native_max = refl;
     accessible_max = refl;
@@ -73,7 +74,7 @@ pub accepted_starts : AcceptedStarts
 unfolding made_of
 accepted_starts there o a d full said_so = go (good o.count (offered o) o.limit) refl said_so
   where
-    go : (b : Bool) → good o.count (offered o) o.limit ≡ b → said a d ≡ cond b (tells 0 (fresh o)) (tells 8 there) → (number_of a ≡ 0 → (b ≡ true) × MadeOf (offered o) o.limit o.reading d) × (b ≡ true → number_of a ≡ 0)
-    go true g q = (λ _. (refl, subst (MadeOf (offered o) o.limit o.reading) (sym (ap (λ (u : Told Device). u.state) q)) (made_of_lem o full g)), λ _. ap (λ (u : Told Device). u.number) q)
+    go : (b : Bool) → good o.count (offered o) o.limit ≡ b → said a d ≡ cond b (tells 0 (fresh o)) (tells 8 there) → (number_of a ≡ 0 → (b ≡ true) × MadeOf (offered o) o.limit d) × (b ≡ true → number_of a ≡ 0)
+    go true g q = (λ _. (refl, subst (MadeOf (offered o) o.limit) (sym (ap (λ (u : Told Device). u.state) q)) (made_of_lem o full g)), λ _. ap (λ (u : Told Device). u.number) q)
     go false g q =
         (λ z. absurd (let e : number_of a ≡ 8 = ap (λ (u : Told Device). u.number) q in omega arith), λ z. absurd (false≢true z))

@@ -1,29 +1,28 @@
 -- The ledger: what demand 3 speaks of, read off the events, answers and stores of a history, and never off a device but the first.
 use Rattle.std.specs.Prelude.{ℕ, Bool, cond, ◌&&◌, ◌||◌, eqb}
+use Rattle.cells.specs.Cells.{is_set}
 use Rattle.cells.specs.Sights.{gone}
 use Rattle.device.specs.Machine.{Event}
 use Rattle.device.specs.Record.{health_at, see, wound_up}
 use Rattle.device.specs.declared.Device.{Device}
-use Rattle.cells.specs.declared.Mark.TheVariants.{Clear, Names}
 use Rattle.cells.specs.declared.Mark.{Mark}
 use Rattle.cells.specs.declared.Note.TheVariants.{Empty, Full}
 use Rattle.cells.specs.declared.Note.{Note}
 use Rattle.cells.specs.declared.Removal.{Removal}
-use Rattle.cells.specs.declared.Store.TheVariants.{Nothing, NativeTo, AccessibleTo, Marked, Graded, FailedAt, FailedCleared, Noted, NoteEmptied}
+use Rattle.cells.specs.declared.Store.TheVariants.{Nothing, NativeTo, AccessibleTo, Marked, Graded, FailedTo, Noted, NoteEmptied}
 use Rattle.cells.specs.declared.Store.{Store}
 use Rattle.table.specs.Elements.{identifier_at}
 use Rattle.table.specs.declared.Table.{Table}
 use Rattle.history.specs.Runs.{of_event, History, empty, ◌▹◌}
 
--- what the ledger reads of a store: the place that it marks, the removal that it notes, what the failed mark is after it; of any other, nothing
+-- what the ledger reads of a store: the place that it marks, the removal that it notes, the failed mark that it sets; of any other, nothing
 abbrev pub of_store : {A : Type 0} → (ℕ → A) → (Removal → A) → (Mark → A) → A → Store → A
 of_store marks notes fails nothing Nothing = nothing
 of_store marks notes fails nothing (NativeTo v) = nothing
 of_store marks notes fails nothing (AccessibleTo v) = nothing
 of_store marks notes fails nothing (Marked place) = marks place
 of_store marks notes fails nothing (Graded place h) = nothing
-of_store marks notes fails nothing (FailedAt id) = fails (Names id)
-of_store marks notes fails nothing FailedCleared = fails Clear
+of_store marks notes fails nothing (FailedTo m) = fails m
 of_store marks notes fails nothing (Noted w) = notes w
 of_store marks notes fails nothing NoteEmptied = nothing
 
@@ -76,12 +75,11 @@ recorded start h place =
     let id : ℕ = identifier_at start.table place in
     cond (marked start h id) 0xFF (grade_in h id (health_at start place))
 
--- ## The failed mark: it names the element of the last winding-up step 3, which alone sets it (Progress, `SettingStore`), or is clear if a clearing
--- store came since
+-- ## The failed mark: set exactly if winding-up step 3, which alone sets it (Progress, `SettingStore`), came after the last clearing store
 
-abbrev pub failed_by : Store → Mark → Mark
-failed_by x before = of_store (λ place. before) (λ w. before) (λ m. m) before x
+abbrev pub failed_by : Store → Bool → Bool
+failed_by x before = of_store (λ place. before) (λ w. before) is_set before x
 
-abbrev pub failed_in : Device → History → Mark
-failed_in start empty = start.cells.failed
+abbrev pub failed_in : Device → History → Bool
+failed_in start empty = is_set start.cells.failed
 failed_in start (past ▹ x) = failed_by x.store (failed_in start past)

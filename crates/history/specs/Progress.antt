@@ -1,11 +1,12 @@
 -- How a removal gets on.
 use Rattle.std.specs.Prelude.{ℕ, zero, suc, ◌-◌, ◌≤◌, ◌<◌, Bool, true, false, not, ◌&&◌, ◌≡◌}
 use Rattle.cells.specs.Sights.{gone}
+use Rattle.cells.specs.declared.Mark.TheVariants.{Clear, Set}
 use Rattle.cells.specs.declared.Note.TheVariants.{Empty, Full}
 use Rattle.cells.specs.declared.Position.TheVariants.{Work3, Wind1, Wind3}
 use Rattle.cells.specs.declared.Position.{Position}
 use Rattle.cells.specs.declared.Removal.{Removal}
-use Rattle.cells.specs.declared.Store.TheVariants.{NativeTo, AccessibleTo, Marked, FailedAt, FailedCleared, Noted, NoteEmptied}
+use Rattle.cells.specs.declared.Store.TheVariants.{NativeTo, AccessibleTo, Marked, FailedTo, Noted, NoteEmptied}
 use Rattle.cells.specs.declared.Store.{Store}
 use Rattle.device.specs.Machine.{Event, command, step, rule, told}
 use Rattle.device.specs.Record.{under_way, see, wound_up}
@@ -55,7 +56,7 @@ abbrev pub Clearance : Type 0
 Clearance =
     (d : Device) (security : Security) (r : Registers) (room : ℕ) → r.code ≡ 0x7C
     → (told d (command security r room)).number ≡ 0 → gone (see d (identifier_of r)) ≡ true
-    → (rule d (command security r room)).store ≡ FailedCleared
+    → (rule d (command security r room)).store ≡ FailedTo Clear
 
 -- ## Which events fill the note, make the marking store, and set the failed mark
 
@@ -77,11 +78,8 @@ MarkingStore =
     (d : Device) (e : Event) (place : ℕ) → (rule d e).store ≡ Marked place
     → (e ≡ step) × ((w : Removal) × At Work3 w d × (place < size d.table) × (w.element.0 ≡ identifier_at d.table place))
 
--- "The failed mark now names the element whose removal wound up last" (request 2026-07)
 abbrev pub SettingStore : Type 0
-SettingStore =
-    (d : Device) (e : Event) (id : ElementId) → (rule d e).store ≡ FailedAt id
-    → (e ≡ step) × ((w : Removal) × At Wind3 w d × (w.element ≡ id))
+SettingStore = (d : Device) (e : Event) → (rule d e).store ≡ FailedTo Set → (e ≡ step) × ((w : Removal) × At Wind3 w d)
 
 -- ## Undisturbed steps
 
@@ -96,7 +94,7 @@ abbrev pub work_store : ℕ → Removal → ℕ → Store
 work_store place w zero = NativeTo w.new
 work_store place w (suc zero) = AccessibleTo w.new
 work_store place w (suc (suc zero)) = Marked place
-work_store place w (suc (suc (suc zero))) = FailedCleared
+work_store place w (suc (suc (suc zero))) = FailedTo Clear
 work_store place w (suc (suc (suc (suc n)))) = NoteEmptied
 
 -- after an event that made the note
@@ -119,17 +117,17 @@ abbrev pub StopWinds : Type 0
 StopWinds = (d : Device) (w : Removal) → d.cells.note ≡ Full w → (e : Event) → stops e ≡ true → ((told d e).number ≡ 0) × At Wind1 w (told d e).state
 
 -- the list of winding up, to where it leads
-abbrev pub wind_store : Lba → Removal → ℕ → Store
-wind_store v w zero = NativeTo v
-wind_store v w (suc zero) = AccessibleTo v
-wind_store v w (suc (suc zero)) = FailedAt w.element
-wind_store v w (suc (suc (suc n))) = NoteEmptied
+abbrev pub wind_store : Lba → ℕ → Store
+wind_store v zero = NativeTo v
+wind_store v (suc zero) = AccessibleTo v
+wind_store v (suc (suc zero)) = FailedTo Set
+wind_store v (suc (suc (suc n))) = NoteEmptied
 
 abbrev pub FourSteps : Type 0
 FourSteps =
     (d : Device) (w : Removal) → At Wind1 w d
     → (s : Script) → calm s ≡ true → steps s ≤ 3
-    → OnItsWay (wind_store (wound_up (after d s) w) w) w (steps s) (after d s)
+    → OnItsWay (wind_store (wound_up (after d s) w)) w (steps s) (after d s)
 
 abbrev pub FourthEnds : Type 0
 FourthEnds =

@@ -1,5 +1,6 @@
 -- What a run keeps.
 use Rattle.std.specs.Prelude.{ℕ, ◌<◌, true, ◌≡◌}
+use Rattle.cells.specs.Cells.{is_set}
 use Rattle.device.specs.Record.{health_at}
 use Rattle.device.specs.declared.Device.{Device}
 use Rattle.cells.specs.declared.Note.TheVariants.{Empty}
@@ -23,5 +24,5 @@ pub record Promise (start : Device) (h : History) (d : Device) : Type 0 where
 pub record KeptByRuns (start : Device) (h : History) (d : Device) : Type 0 where
   -- "whenever no removal is under way"
   pub at_rest : d.cells.note ≡ Empty → Promise start h d
-  -- the failed mark is a cell, not the table, and is right at any time, with the element that it names
-  pub failed : d.cells.failed ≡ failed_in start h
+  -- the failed mark is a cell, not the table, and is right at any time
+  pub failed : is_set d.cells.failed ≡ failed_in start h

@@ -1,6 +1,5 @@
 -- Where a run may start, and that every accepted table makes such a start.
 use Rattle.std.specs.Prelude.{ℕ, ◌-◌, ◌<◌, ◌≤◌, Bool, true, false, ◌||◌, List, map, ◌≡◌, length, take}
-use Rattle.cells.specs.declared.Mark.TheVariants.{Clear}
 use Rattle.cells.specs.declared.Note.TheVariants.{Empty, Full}
 use Rattle.cells.specs.declared.Note.{Note}
 use Rattle.cells.specs.declared.Position.TheVariants.{Wind1}
@@ -16,7 +15,6 @@ use Rattle.paper.specs.Answers.{number_of}
 use Rattle.paper.specs.Elements.{removed_health, graded_health}
 use Rattle.paper.specs.Told.{said}
 use Rattle.paper.specs.declared.Answer.{Answer}
-use Rattle.paper.specs.declared.Reading.{Reading}
 use Rattle.table.specs.Elements.{live, identifiers, size, identifier_at, ascending}
 use Rattle.table.specs.declared.Table.{Table}
 use Rattle.history.specs.Ledger.{marked, address, failed_in}
@@ -43,27 +41,25 @@ pub record Startable (d : Device) : Type 0 where
   pub healths : (place : ℕ) → place < size d.table → fit (health_at d place) ≡ true
   pub begins : Begins d d.cells.note
 
--- a device that was made of elements and a limit, for a reading: its elements, "the starting maximum address is the sum minus 1", no note, nothing
--- marked, no failed mark
-pub record MadeOf (es : List Element) (most : ℕ) (v : Reading) (d : Device) : Type 0 where
+-- a device that was made of elements and a limit: its elements, "the starting maximum address is the sum minus 1", no note, nothing marked, no failed mark
+pub record MadeOf (es : List Element) (most : ℕ) (d : Device) : Type 0 where
   pub startable : Startable d
   pub parts : live d.table ≡ map part_of es
   pub healths : take d.table.count d.cells.healths ≡ map health_of es
   pub count : d.table.count ≡ length es
   pub limit : d.table.limit ≡ most
-  pub reading : d.table.reading ≡ v
   pub rests : d.cells.note ≡ Empty
   pub native_max : d.cells.native.0 ≡ block_sum es - 1
   pub accessible_max : d.cells.accessible.0 ≡ block_sum es - 1
   pub first : address d empty ≡ block_sum es - 1
   pub unmarked : (id : ℕ) → marked d empty id ≡ false
-  pub sound : failed_in d empty ≡ Clear
+  pub sound : failed_in d empty ≡ false
 
 -- "From any accepted table": 0 is answered exactly to the tables that document 01 accepts, and whoever is answered 0 has such a device
 abbrev pub AcceptedStarts : Type 0
 AcceptedStarts =
     (there : Device) (o : Offer) (a : Answer) (d : Device) → length o.elements ≡ 128 → said a d ≡ made_of there o
-    → (number_of a ≡ 0 → (good o.count (offered o) o.limit ≡ true) × MadeOf (offered o) o.limit o.reading d) × (good o.count (offered o) o.limit ≡ true → number_of a ≡ 0)
+    → (number_of a ≡ 0 → (good o.count (offered o) o.limit ≡ true) × MadeOf (offered o) o.limit d) × (good o.count (offered o) o.limit ≡ true → number_of a ≡ 0)
 
 -- what is left after a cut is such a start too
 abbrev pub CutStarts : Type 0

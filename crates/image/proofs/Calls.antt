@@ -8,7 +8,7 @@ use lib.Dec.{eqb}
 use Rattle.cells.specs.Rulings.{Ruled}
 use Rattle.cells.specs.declared.Cells.{Cells}
 use Rattle.conduct.proofs.EveryCall.{refusal_leaves}
-use Rattle.conduct.proofs.Shapes.{Kind, still, stopping, Shape, quiet_lem, clears, notes_lem, advances, winds, Grading, refuses, grades, each}
+use Rattle.conduct.proofs.Shapes.{Kind, still, stopping, Shape, quiet_lem, clears, notes, advances, winds, Grading, refuses, grades, each}
 use Rattle.device.specs.Machine.{Event, command, media_error, power_cut, comreset, hardware_reset, software_reset, grade, rule, told}
 use Rattle.device.specs.Record.{carried_out}
 use Rattle.device.specs.declared.Device.{Device}
@@ -43,7 +43,7 @@ module _ (i : Image) where
   unfolding keeps device_of
   commanded r (quiet_lem n) = refl
   commanded r clears = refl
-  commanded r (notes_lem id lba n s) = refl
+  commanded r (notes id lba n s) = refl
 
   -- an error or a cut stores nothing
   stopped_lem : (r : Ruled) → Shape d stopping r → at_position r.next i ≡ keeps i (carried_out d r)

@@ -11,15 +11,12 @@ use Rattle.offer.proofs.Laws.{good_count}
 use Rattle.offer.specs.Check.{good}
 use Rattle.offer.specs.Elements.{offered}
 use Rattle.offer.specs.declared.Offer.{Offer}
-use Rattle.paper.specs.Readings.{reading_number}
 use Rattle.paper.specs.Told.{tells}
-use Rattle.paper.specs.declared.Reading.TheVariants.{First, Second}
-use Rattle.paper.specs.declared.Reading.{Reading}
 use Rattle.table.specs.declared.Table.{Table}
 use Rattle.image.specs.Calls.{told_of, made_as, made_by}
 use Rattle.image.specs.Keeping.{keeps, built, image_of}
 use Rattle.image.specs.Promises.{ReadsOn, ReadsMade, RefusalLeavesImage, RefusedMakingLeaves, ResetLeavesImage}
-use Rattle.image.specs.Reading.{reading_of, device_of}
+use Rattle.image.specs.Reading.{device_of}
 use Rattle.image.specs.declared.Image.{Image}
 use Rattle.image.proofs.Keeping.{kept_stays, read_back}
 
@@ -37,15 +34,11 @@ reset_leaves_image i = (ap (tells 0) (kept_stays i), ap (tells 0) (kept_stays i)
 
 -- ## The making of a device
 
-reading_back : (v : Reading) → reading_of (reading_number v) ≡ v
-reading_back First = refl
-reading_back Second = refl
-
 pub built_back : (t : Table) → t.count ≤ 128 → (device_of (built t)).table ≡ t
 unfolding device_of built
 built_back t few =
     let same : min t.count 128 ≡ t.count = min-eq_left few in
-    λ k. record { parts = t.parts; count = same k; limit = t.limit; reading = reading_back t.reading k }
+    λ k. record { parts = t.parts; count = same k; limit = t.limit }
 
 module _ (i : Image) (o : Offer) where
   abbrev Made : Bool → Type 0

@@ -8,7 +8,7 @@ use lib.Dec.{eqb}
 use lib.ListN.{replicate}
 use Rattle.cells.specs.Cells.{is_full, is_set}
 use Rattle.cells.specs.declared.Cells.{Cells}
-use Rattle.cells.specs.declared.Mark.TheVariants.{Clear, Names}
+use Rattle.cells.specs.declared.Mark.TheVariants.{Clear, Set}
 use Rattle.cells.specs.declared.Mark.{Mark}
 use Rattle.cells.specs.declared.Note.TheVariants.{Empty, Full}
 use Rattle.cells.specs.declared.Note.{Note}
@@ -17,11 +17,10 @@ use Rattle.cells.specs.declared.Position.{Position}
 use Rattle.cells.specs.declared.Removal.{Removal}
 use Rattle.device.specs.declared.Device.{Device}
 use Rattle.paper.specs.Flags.{is_on}
-use Rattle.paper.specs.Readings.{reading_number}
 use Rattle.paper.specs.declared.ElementId.{ElementId}
 use Rattle.paper.specs.declared.Lba.{Lba}
 use Rattle.table.specs.declared.Table.{Table}
-use Rattle.image.specs.Keeping.{flag_for, place_for, element_for, old_for, new_for, named_for, keeps, built}
+use Rattle.image.specs.Keeping.{flag_for, place_for, element_for, old_for, new_for, keeps, built}
 use Rattle.image.specs.Private.{with_addresses, with_healths, with_mark, with_note, at_position}
 use Rattle.image.specs.Promises.{KeptStays}
 use Rattle.image.specs.Reading.{mark_of, note_of, position_of, place_of, removal_in, device_of}
@@ -61,31 +60,10 @@ pub note_put : (i : Image) (n : Note) (e : ElementId) (o v : Lba) (b : Bool) (f 
       failed = i.failed;
       position = i.position;
       healths = i.healths;
-      named = i.named;
-      reading = i.reading;
     } ≡ with_note n i
 note_put i n e o v b f is_e is_o is_v is_b is_f = rw (is_f, is_b, is_e, is_o, is_v) refl
 
-pub mark_put : (i : Image) (m : Mark) (x : ElementId) (b : Bool) (f : ℕ) → x ≡ named_for i.named m → b ≡ is_set m → f ≡ flag_for i.failed b
-    → record {
-      parts = i.parts;
-      native = i.native;
-      accessible = i.accessible;
-      old = i.old;
-      new = i.new;
-      element = i.element;
-      count = i.count;
-      limit = i.limit;
-      full = i.full;
-      failed = f;
-      position = i.position;
-      healths = i.healths;
-      named = x;
-      reading = i.reading;
-    } ≡ with_mark m i
-mark_put i m x b f is_x is_b is_f = rw (is_f, is_b, is_x) refl
-
-pub built_anew : (t : Table) (n r : ℕ) → n ≡ min t.count 128 → r ≡ reading_number t.reading
+pub built_anew : (t : Table) (n : ℕ) → n ≡ min t.count 128
     → record {
       parts = t.parts;
       native = record { 0 = 0 };
@@ -99,11 +77,9 @@ pub built_anew : (t : Table) (n r : ℕ) → n ≡ min t.count 128 → r ≡ rea
       failed = 0;
       position = 0;
       healths = replicate 128 0;
-      named = record { 0 = 0 };
-      reading = r;
     } ≡ built t
 unfolding built
-built_anew t n r is_n is_r = rw (is_n, is_r) refl
+built_anew t n is_n = rw is_n refl
 
 pub all_kept : (i : Image) (d : Device) (p n m h r : Image) → p ≡ at_position d.position i → n ≡ with_note d.cells.note p
     → m ≡ with_mark d.cells.failed n → h ≡ with_healths d.cells.healths m → r ≡ with_addresses d.cells.native d.cells.accessible h
@@ -115,11 +91,11 @@ all_kept i d p n m h r is_p is_n is_m is_h is_r =
 
 -- ## What is put down again stays
 
-mark_stays : (flag : ℕ) (id : ElementId) → flag_for flag (is_set (mark_of flag id)) ≡ flag
+mark_stays : (flag : ℕ) → flag_for flag (is_set (mark_of flag)) ≡ flag
 unfolding is_set
-mark_stays flag id = go (eqb flag 0) refl
+mark_stays flag = go (eqb flag 0) refl
   where
-    go : (b : Bool) → eqb flag 0 ≡ b → cond (is_set (cond (not b) (Names id) Clear)) (cond b 1 flag) 0 ≡ flag
+    go : (b : Bool) → eqb flag 0 ≡ b → cond (is_set (cond (not b) Set Clear)) (cond b 1 flag) 0 ≡ flag
     go true e = sym (eqb-true flag 0 e)
     go false e = refl
 
@@ -132,11 +108,6 @@ note_stays flag w = go (eqb flag 0) refl
 
 place_stays : (n : ℕ) → place_for n (position_of n) ≡ n
 place_stays n = rw (eq-eqb (place_of (position_of n)) (place_of (position_of n)) refl) refl
-
--- the element of a mark, set or clear
-named_stays : (id : ElementId) (b : Bool) → named_for id (cond b (Names id) Clear) ≡ id
-named_stays id true = refl
-named_stays id false = refl
 
 -- the numbers of a note, full or empty
 module _ (w : Removal) where
@@ -154,7 +125,7 @@ module _ (w : Removal) where
 
 abbrev healed : Image → List ℕ → Cells
 healed i hs =
-    record { native = i.native; accessible = i.accessible; healths = hs; failed = mark_of i.failed i.named; note = note_of i.full (removal_in i) }
+    record { native = i.native; accessible = i.accessible; healths = hs; failed = mark_of i.failed; note = note_of i.full (removal_in i) }
 
 -- an image with its own addresses, note and mark put down again, these healths, and this position
 own_kept : (i : Image) (hs : List ℕ) (p : Position)
@@ -172,11 +143,9 @@ own_kept i hs p =
       count = i.count;
       limit = i.limit;
       full = note_stays i.full (removal_in i) k;
-      failed = mark_stays i.failed i.named k;
+      failed = mark_stays i.failed k;
       position = place_for i.position p;
       healths = hs;
-      named = named_stays i.named (is_on i.failed) k;
-      reading = i.reading;
     })
 
 pub moved_kept : (i : Image) (p : Position) → at_position p i ≡ keeps i (record { table = (device_of i).table; cells = (device_of i).cells; position = p })
@@ -199,8 +168,6 @@ own_position i =
       failed = i.failed;
       position = sym (place_stays i.position) k;
       healths = i.healths;
-      named = i.named;
-      reading = i.reading;
     }
 
 pub graded_kept : (i : Image) (hs : List ℕ)
@@ -214,12 +181,12 @@ kept_stays i = sym (graded_kept i i.healths)
 
 -- ## What is put down is read
 
-mark_back : (flag : ℕ) (was : ElementId) (m : Mark) → mark_of (flag_for flag (is_set m)) (named_for was m) ≡ m
+mark_back : (flag : ℕ) (m : Mark) → mark_of (flag_for flag (is_set m)) ≡ m
 unfolding is_set
-mark_back flag was Clear = refl
-mark_back flag was (Names id) = go (eqb flag 0) refl
+mark_back flag Clear = refl
+mark_back flag Set = go (eqb flag 0) refl
   where
-    go : (b : Bool) → eqb flag 0 ≡ b → mark_of (cond b 1 flag) id ≡ Names id
+    go : (b : Bool) → eqb flag 0 ≡ b → mark_of (cond b 1 flag) ≡ Set
     go true e = refl
     go false e = rw e refl
 
@@ -262,7 +229,7 @@ read_back i d same =
             native = d.cells.native;
             accessible = d.cells.accessible;
             healths = d.cells.healths;
-            failed = mark_back i.failed i.named d.cells.failed k;
+            failed = mark_back i.failed d.cells.failed k;
             note = note_back i.full (removal_in i) d.cells.note k;
           };
       position = place_back i.position d.position k;

@@ -3,7 +3,7 @@ use Prim.Native.Nat.{ℕ}
 use mathlib.Core.Bool.{Bool, true, false}
 use mathlib.Core.Path.{◌≡◌, refl, sym, ap, ◌∙◌}
 use borrow.Author.Tests.{ne_eqb}
-use Rattle.cells.specs.declared.Mark.TheVariants.{Clear, Names}
+use Rattle.cells.specs.declared.Mark.TheVariants.{Clear, Set}
 use Rattle.cells.specs.declared.Mark.{Mark}
 use Rattle.cells.specs.declared.Note.TheVariants.{Empty, Full}
 use Rattle.cells.specs.declared.Note.{Note}
@@ -12,12 +12,9 @@ use Rattle.cells.specs.declared.Position.{Position}
 use Rattle.cells.specs.declared.Removal.{Removal}
 use Rattle.device.specs.declared.Device.{Device}
 use Rattle.paper.specs.Flags.{is_on}
-use Rattle.paper.specs.declared.ElementId.{ElementId}
-use Rattle.paper.specs.declared.Reading.TheVariants.{First, Second}
-use Rattle.paper.specs.declared.Reading.{Reading}
 use Rattle.paper.specs.declared.Security.TheVariants.{Locked}
 use Rattle.paper.specs.declared.Security.{Security}
-use Rattle.image.specs.Reading.{security_of, reading_of, mark_of, note_of, position_of, removal_in, device_of}
+use Rattle.image.specs.Reading.{security_of, mark_of, note_of, position_of, removal_in, device_of}
 use Rattle.image.specs.declared.Image.{Image}
 
 -- ## A number that a `match` has told, or none of those that it names
@@ -27,12 +24,6 @@ state_told e q = q ∙ sym (ap security_of e)
 
 pub state_other : {n : ℕ} → (n ≡ 1 → ⊥) → (n ≡ 2 → ⊥) → Locked ≡ security_of n
 state_other a b = simp (ne_eqb _ _ a, ne_eqb _ _ b)
-
-pub reading_told : {n : ℕ} → n ≡ 2 → Second ≡ reading_of n
-reading_told e = sym (ap reading_of e)
-
-pub reading_other : {n : ℕ} → (n ≡ 2 → ⊥) → First ≡ reading_of n
-reading_other z = simp (ne_eqb _ _ z)
 
 pub place-told : {n x : ℕ} {p : Position} → n ≡ x → p ≡ position_of x → p ≡ position_of n
 place-told e q = q ∙ sym (ap position_of e)
@@ -45,11 +36,11 @@ place_other a b c d e f g h =
 -- ## A flag
 
 module _ (flag : ℕ) (b : Bool) (is_b : b ≡ is_on flag) where
-  pub mark_set : (id : ElementId) → b ≡ true → Names id ≡ mark_of flag id
-  mark_set id y = sym (rw (sym is_b ∙ y))
+  pub mark_set : b ≡ true → Set ≡ mark_of flag
+  mark_set y = sym (rw (sym is_b ∙ y))
 
-  pub mark_clear : (id : ElementId) → b ≡ false → Clear ≡ mark_of flag id
-  mark_clear id n = sym (rw (sym is_b ∙ n))
+  pub mark_clear : b ≡ false → Clear ≡ mark_of flag
+  mark_clear n = sym (rw (sym is_b ∙ n))
 
   pub note_full : (w : Removal) → b ≡ true → Full w ≡ note_of flag w
   note_full w y = sym (rw (sym is_b ∙ y))
@@ -59,18 +50,17 @@ module _ (flag : ℕ) (b : Bool) (is_b : b ≡ is_on flag) where
 
 -- ## The device
 
-pub device_read : (i : Image) (m : Mark) (n : Note) (p : Position) (v : Reading) → m ≡ mark_of i.failed i.named → n ≡ note_of i.full (removal_in i)
-    → p ≡ position_of i.position → v ≡ reading_of i.reading
+pub device_read : (i : Image) (m : Mark) (n : Note) (p : Position) → m ≡ mark_of i.failed → n ≡ note_of i.full (removal_in i) → p ≡ position_of i.position
     → record {
-      table = record { parts = i.parts; count = i.count; limit = i.limit; reading = v };
+      table = record { parts = i.parts; count = i.count; limit = i.limit };
       cells = record { native = i.native; accessible = i.accessible; healths = i.healths; failed = m; note = n };
       position = p;
     } ≡ device_of i
 unfolding device_of
-device_read i m n p v is_m is_n is_p is_v =
+device_read i m n p is_m is_n is_p =
     λ k.
     record {
-      table = record { parts = i.parts; count = i.count; limit = i.limit; reading = is_v k };
+      table = record { parts = i.parts; count = i.count; limit = i.limit };
       cells = record { native = i.native; accessible = i.accessible; healths = i.healths; failed = is_m k; note = is_n k };
       position = is_p k;
     }

@@ -1,11 +1,9 @@
 -- The calls on an image: what the call by value tells of the device that the image is, put down in it.
-use Rattle.std.specs.Prelude.{ℕ, cond, List, eqb}
+use Rattle.std.specs.Prelude.{cond, eqb}
 use Rattle.device.specs.Machine.{Event, told}
 use Rattle.device.specs.declared.Device.{Device}
 use Rattle.making.specs.Making.{made_of}
-use Rattle.offer.specs.declared.Element.{Element}
 use Rattle.offer.specs.declared.Offer.{Offer}
-use Rattle.paper.specs.Readings.{reading_named, by_reading}
 use Rattle.paper.specs.Told.{Told, tells}
 use Rattle.image.specs.Keeping.{keeps, image_of}
 use Rattle.image.specs.Reading.{device_of}
@@ -23,8 +21,3 @@ made_as i t = tells t.number (cond (eqb t.number 0) (image_of t.state) i)
 
 unfoldable pub made_by : Image → Offer → Told Image
 made_by i o = made_as i (made_of (device_of i) o)
-
--- by a number that names no reading, none is made
-abbrev pub made_numbered : Image → List Element → ℕ → ℕ → ℕ → Told Image
-made_numbered i es count limit n =
-    by_reading (reading_named n) (tells 8 i) (λ v. made_by i (record { elements = es; count = count; limit = limit; reading = v }))

@@ -1,13 +1,10 @@
 -- What is put down of a device in an image. The table as built stays; "A number that says so already stays as it is" (c/recorder.h).
 use Rattle.std.specs.Prelude.{ℕ, min, Bool, cond, eqb, replicate}
 use Rattle.cells.specs.Cells.{is_full, is_set}
-use Rattle.cells.specs.declared.Mark.TheVariants.{Clear, Names}
-use Rattle.cells.specs.declared.Mark.{Mark}
 use Rattle.cells.specs.declared.Note.TheVariants.{Empty, Full}
 use Rattle.cells.specs.declared.Note.{Note}
 use Rattle.cells.specs.declared.Position.{Position}
 use Rattle.device.specs.declared.Device.{Device}
-use Rattle.paper.specs.Readings.{reading_number}
 use Rattle.paper.specs.declared.ElementId.{ElementId}
 use Rattle.paper.specs.declared.Lba.{Lba}
 use Rattle.table.specs.declared.Table.{Table}
@@ -35,11 +32,6 @@ abbrev pub new_for : Lba → Note → Lba
 new_for was Empty = was
 new_for was (Full w) = w.new
 
--- and a clear mark's
-abbrev pub named_for : ElementId → Mark → ElementId
-named_for was Clear = was
-named_for was (Names id) = id
-
 -- the image with a device's cells and position
 unfoldable pub keeps : Image → Device → Image
 keeps i d =
@@ -57,8 +49,6 @@ keeps i d =
       failed = flag_for i.failed (is_set c.failed);
       position = place_for i.position d.position;
       healths = c.healths;
-      named = named_for i.named c.failed;
-      reading = i.reading;
     }
 
 -- ## A new image
@@ -79,8 +69,6 @@ built t =
       failed = 0;
       position = 0;
       healths = replicate 128 0;
-      named = record { 0 = 0 };
-      reading = reading_number t.reading;
     }
 
 abbrev pub image_of : Device → Image

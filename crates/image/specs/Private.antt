@@ -5,7 +5,7 @@ use Rattle.cells.specs.declared.Mark.{Mark}
 use Rattle.cells.specs.declared.Note.{Note}
 use Rattle.cells.specs.declared.Position.{Position}
 use Rattle.paper.specs.declared.Lba.{Lba}
-use Rattle.image.specs.Keeping.{flag_for, place_for, element_for, old_for, new_for, named_for}
+use Rattle.image.specs.Keeping.{flag_for, place_for, element_for, old_for, new_for}
 use Rattle.image.specs.declared.Image.{Image}
 
 abbrev pub with_addresses : Lba → Lba → Image → Image
@@ -23,8 +23,6 @@ with_addresses native accessible i =
       failed = i.failed;
       position = i.position;
       healths = i.healths;
-      named = i.named;
-      reading = i.reading;
     }
 
 abbrev pub with_healths : List ℕ → Image → Image
@@ -42,8 +40,6 @@ with_healths healths i =
       failed = i.failed;
       position = i.position;
       healths = healths;
-      named = i.named;
-      reading = i.reading;
     }
 
 abbrev pub with_mark : Mark → Image → Image
@@ -61,8 +57,6 @@ with_mark mark i =
       failed = flag_for i.failed (is_set mark);
       position = i.position;
       healths = i.healths;
-      named = named_for i.named mark;
-      reading = i.reading;
     }
 
 abbrev pub with_note : Note → Image → Image
@@ -80,8 +74,6 @@ with_note note i =
       failed = i.failed;
       position = i.position;
       healths = i.healths;
-      named = i.named;
-      reading = i.reading;
     }
 
 abbrev pub at_position : Position → Image → Image
@@ -99,6 +91,4 @@ at_position position i =
       failed = i.failed;
       position = place_for i.position position;
       healths = i.healths;
-      named = i.named;
-      reading = i.reading;
     }

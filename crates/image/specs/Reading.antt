@@ -1,6 +1,6 @@
 -- What the numbers of an image say. "any bytes are a device" (c/recorder.h): each number has a reading, whatever it is.
 use Rattle.std.specs.Prelude.{ℕ, cond, eqb}
-use Rattle.cells.specs.declared.Mark.TheVariants.{Clear, Names}
+use Rattle.cells.specs.declared.Mark.TheVariants.{Clear, Set}
 use Rattle.cells.specs.declared.Mark.{Mark}
 use Rattle.cells.specs.declared.Note.TheVariants.{Empty, Full}
 use Rattle.cells.specs.declared.Note.{Note}
@@ -9,9 +9,6 @@ use Rattle.cells.specs.declared.Position.{Position}
 use Rattle.cells.specs.declared.Removal.{Removal}
 use Rattle.device.specs.declared.Device.{Device}
 use Rattle.paper.specs.Flags.{is_on}
-use Rattle.paper.specs.declared.ElementId.{ElementId}
-use Rattle.paper.specs.declared.Reading.TheVariants.{First, Second}
-use Rattle.paper.specs.declared.Reading.{Reading}
 use Rattle.paper.specs.declared.Security.TheVariants.{Locked, Unlocked, Frozen}
 use Rattle.paper.specs.declared.Security.{Security}
 use Rattle.image.specs.declared.Image.{Image}
@@ -20,13 +17,8 @@ use Rattle.image.specs.declared.Image.{Image}
 abbrev pub security_of : ℕ → Security
 security_of n = cond (eqb n 1) Unlocked (cond (eqb n 2) Frozen Locked)
 
--- 2 is the second reading, and any other number the first (c/recorder.h)
-abbrev pub reading_of : ℕ → Reading
-reading_of n = cond (eqb n 2) Second First
-
--- the failed mark names its element while its flag says that it is set
-abbrev pub mark_of : ℕ → ElementId → Mark
-mark_of flag id = cond (is_on flag) (Names id) Clear
+abbrev pub mark_of : ℕ → Mark
+mark_of flag = cond (is_on flag) Set Clear
 
 -- a removal's numbers are the note's while its flag says that it is full
 abbrev pub note_of : ℕ → Removal → Note
@@ -56,13 +48,13 @@ removal_in i = record { element = i.element; old = i.old; new = i.new }
 unfoldable pub device_of : Image → Device
 device_of i =
     record {
-      table = record { parts = i.parts; count = i.count; limit = i.limit; reading = reading_of i.reading };
+      table = record { parts = i.parts; count = i.count; limit = i.limit };
       cells =
           record {
             native = i.native;
             accessible = i.accessible;
             healths = i.healths;
-            failed = mark_of i.failed i.named;
+            failed = mark_of i.failed;
             note = note_of i.full (removal_in i);
           };
       position = position_of i.position;

@@ -6,22 +6,21 @@ ghost use Rattle.paper.specs.Output.{output};
 ghost use Rattle.paper.specs.Told.{tells, said};
 ghost use Rattle.sender.specs.Sent.{sent};
 ghost use Rattle.status.specs.Page.{shown};
-ghost use Rattle.image.specs.Calls.{told_of, made_by, made_numbered};
+ghost use Rattle.image.specs.Calls.{told_of, made_by};
 ghost use Rattle.image.specs.Keeping as keeping;
-ghost use Rattle.image.specs.Keeping.{flag_for, place_for, element_for, old_for, new_for, named_for, keeps};
+ghost use Rattle.image.specs.Keeping.{flag_for, place_for, element_for, old_for, new_for, keeps};
 ghost use Rattle.image.specs.Private as private;
-ghost use Rattle.image.specs.Reading.{security_of, reading_of, mark_of, note_of, position_of, place_of, device_of};
+ghost use Rattle.image.specs.Reading.{security_of, mark_of, note_of, position_of, place_of, device_of};
 
 use cells::{Cells, Mark, Note, Position, Removal};
 use device::Device;
 use offer::{Element, Offer};
-use paper::{ElementId, Lba, Named, Reading, Security, Written};
+use paper::{ElementId, Lba, Security, Written};
 use query::Query;
 use request::Request;
 use table::{Part, Table};
 
-// The table as built is `parts`, `count`, `limit` and `reading`; `element`, `old` and `new` are the note's while it is full, and `named` is the failed
-// mark's while it is set.
+// The table as built is `parts`, `count` and `limit`; `element`, `old` and `new` are the note's while it is full.
 #[repr(C)]
 #[derive(Drop)]
 pub struct Image {
@@ -37,8 +36,6 @@ pub struct Image {
     pub failed: u8,
     pub position: u32,
     pub healths: [u8; 128],
-    pub named: ElementId,
-    pub reading: u32,
 }
 
 // What a call hands back: the image after it, and its number in document 01's table.
@@ -61,20 +58,11 @@ fn security_of(state: u8) -> Security
     }
 }
 
-fn reading_of(number: u32) -> Reading
-    ensures { result ≡ reading_of number }
-{
-    match number {
-        2 => Reading::Second,
-        _ => Reading::First,
-    }
-}
-
-fn mark_of(flag: u8, id: ElementId) -> Mark
-    ensures { result ≡ mark_of flag id }
+fn mark_of(flag: u8) -> Mark
+    ensures { result ≡ mark_of flag }
 {
     if paper::is_on(flag) {
-        Mark::Names(id)
+        Mark::Set
     } else {
         Mark::Clear
     }
@@ -171,21 +159,11 @@ fn new_for(was: Lba, note: Note) -> Lba
     }
 }
 
-fn named_for(was: ElementId, mark: Mark) -> ElementId
-    ensures { result ≡ named_for was mark }
-{
-    match mark {
-        Mark::Clear => was,
-        Mark::Names(id) => id,
-    }
-}
-
 // A table as built, with nothing in its cells yet.
 fn built(table: Table) -> Image
     ensures { result ≡ keeping.built table }
 {
     let parts = table.parts;
-    let reading = table.reading;
     Image {
         parts,
         native: Lba(0),
@@ -199,8 +177,6 @@ fn built(table: Table) -> Image
         failed: 0,
         position: 0,
         healths: [0; 128],
-        named: ElementId(0),
-        reading: paper::reading_number(reading) as u32,
     }
 }
 
@@ -213,16 +189,14 @@ impl Image {
         let native = self.native;
         let accessible = self.accessible;
         let healths = self.healths;
-        let failed = mark_of(self.failed, self.named);
+        let failed = mark_of(self.failed);
         let note = note_of(self.full, self.element, self.old, self.new);
         let position = position_of(self.position);
-        let reading = reading_of(self.reading);
         Device {
             table: Table {
                 parts,
                 count: self.count as usize,
                 limit: self.limit,
-                reading,
             },
             cells: Cells {
                 native,
@@ -253,7 +227,6 @@ impl Image {
     fn with_mark(mut self, mark: Mark) -> Image
         ensures { result ≡ private.withMark mark self }
     {
-        self.named = named_for(self.named, mark);
         self.failed = flag_for(self.failed, mark.is_set());
         self
     }
@@ -294,10 +267,15 @@ impl Image {
     // ---- The calls
 
     // A new device in the place of this one, or 8.
-    fn make_for(self, offer: Offer) -> Imaged
-        ensures { tells result.answer result.image ≡ made_by self offer }
+    pub fn make(self, elements: [Element; 128], count: usize, limit: u16) -> Imaged
+        ensures { tells result.answer result.image ≡ made_by self (record { elements = elements; count = count; limit = limit }) }
     {
-        let s = making::make_device(self.device(), offer);
+        let o = Offer {
+            elements,
+            count,
+            limit,
+        };
+        let s = making::make_device(self.device(), o);
         let said = s.answer;
         let answer = paper::number_of(said);
         if answer != 0 {
@@ -310,25 +288,6 @@ impl Image {
         let table = made.table;
         let image = built(table).keep(made);
         Imaged { image, answer }
-    }
-
-    // For the reading of a number, which is 1 or 2: of any other no device is made.
-    pub fn make(self, elements: [Element; 128], count: usize, limit: u16, number: u8) -> Imaged
-        ensures { tells result.answer result.image ≡ made_numbered self elements count limit number }
-    {
-        let named = paper::reading_named(number as u64);
-        let Named::One(reading) = named else {
-            return Imaged {
-                image: self,
-                answer: 8,
-            };
-        };
-        self.make_for(Offer {
-            elements,
-            count,
-            limit,
-            reading,
-        })
     }
 
     // A step stores into any cell; a refusal is left here, so that a step has one way to put down what it stored.

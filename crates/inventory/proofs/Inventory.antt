@@ -8,8 +8,8 @@ use native.Mathlib.Nat.{min-le_right}
 use native.Mathlib.Numerals.{add-one}
 use native.Mathlib.Omega.{arith}
 use lib.ListN.{length, get_or, length-append}
+use Rattle.cells.specs.Cells.{is_set}
 use Rattle.cells.specs.declared.Cells.{Cells}
-use Rattle.cells.specs.declared.Mark.TheVariants.{Clear, Names}
 use Rattle.cells.specs.declared.Mark.{Mark}
 use Rattle.cells.specs.declared.Note.TheVariants.{Empty, Full}
 use Rattle.cells.specs.declared.Note.{Note}
@@ -18,11 +18,7 @@ use Rattle.cells.specs.declared.Position.{Position}
 use Rattle.cells.specs.declared.Removal.{Removal}
 use Rattle.device.specs.declared.Device.{Device}
 use Rattle.paper.specs.Flags.{is_on}
-use Rattle.paper.specs.Readings.{reading_number}
-use Rattle.paper.specs.declared.ElementId.{ElementId}
 use Rattle.paper.specs.declared.Lba.{Lba}
-use Rattle.paper.specs.declared.Reading.TheVariants.{First, Second}
-use Rattle.paper.specs.declared.Reading.{Reading}
 use Rattle.slices.specs.Lists.{stored, ended, one}
 use Rattle.table.specs.Elements.{blank_part}
 use Rattle.table.specs.declared.Part.{Part}
@@ -32,8 +28,8 @@ use Rattle.text.specs.Text.{ascii}
 use Rattle.writing.proofs.Puts.{puts_one, puts_same, puts_more}
 use Rattle.writing.specs.Private.{Puts}
 use Rattle.writing.specs.Writing.{number_line}
-use Rattle.inventory.specs.Inventory.{mark_text, removal_text, note_text, position_text, cells_line, element_line, elements_below, cells_of}
-use Rattle.inventory.specs.Private.{built_of, limits_of, failed_of, numbers_of, end_of, head_of}
+use Rattle.inventory.specs.Inventory.{removal_text, note_text, position_text, cells_line, element_line, elements_below, cells_of}
+use Rattle.inventory.specs.Private.{limits_of, failed_of, numbers_of, end_of, head_of}
 use Rattle.inventory.specs.Promises.{Enough}
 
 -- ## A word and a number
@@ -77,46 +73,29 @@ end_puts p d x y z i at m n r is_i is_x is_m is_y is_n =
 
 -- ## The cells' line
 
-pub built_puts : (limit number : ℕ) (v : Reading) (d x y : List ℕ) (at m r : ℕ) → number ≡ reading_number v
+pub limits_puts : (limit : ℕ) (native accessible : Lba) (d x y z : List ℕ) (at m n r : ℕ)
     → x ≡ stored d at (field "limit " limit) → m ≡ ended d at (field "limit " limit)
-    → y ≡ stored x m (field " reading " number) → r ≡ ended x m (field " reading " number) → Puts d at (built_of limit v) y r
-built_puts limit number v d x y at m r is_number is_x is_m is_y is_r =
-    let L : List ℕ = field "limit " limit in
-    let R : List ℕ = field " reading " (reading_number v) in
-    let same : field " reading " number ≡ R = rw is_number in
-    puts_more d x at m L R y r (puts_same x y m r (field " reading " number) R same is_y is_r) (puts_one d x at m L is_x is_m)
-
-pub limits_puts : (limit : ℕ) (v : Reading) (native accessible : Lba) (d x y z : List ℕ) (at m n r : ℕ) → Puts d at (built_of limit v) x m
     → y ≡ stored x m (field " native " native.0) → n ≡ ended x m (field " native " native.0)
     → z ≡ stored y n (field " accessible " accessible.0) → r ≡ ended y n (field " accessible " accessible.0)
-    → Puts d at (limits_of limit v native accessible) z r
-limits_puts limit v native accessible d x y z at m n r one is_y is_n =
-    let B : List ℕ = built_of limit v in
+    → Puts d at (limits_of limit native accessible) z r
+limits_puts limit native accessible d x y z at m n r is_x is_m is_y is_n =
+    let L : List ℕ = field "limit " limit in
     let N : List ℕ = field " native " native.0 in
-    then d y z at n r (B ++ N) (field " accessible " accessible.0) (then d x y at m n B N one is_y is_n)
+    then d y z at n r (L ++ N) (field " accessible " accessible.0) (then d x y at m n L N (puts_one d x at m L is_x is_m) is_y is_n)
 
-module _ (mark : Mark) (d x : List ℕ) (at r : ℕ) where
-  pub mark_clear : mark ≡ Clear → x ≡ stored d at (ascii "-") → r ≡ ended d at (ascii "-") → Puts d at (mark_text mark) x r
-  mark_clear e is_x is_r = rw e (puts_one d x at r (ascii "-") is_x is_r)
+pub failed_puts : (mark : Mark) (b : Bool) (f : ℕ) (d x : List ℕ) (at r : ℕ) → b ≡ is_set mark → f ≡ one b
+    → x ≡ stored d at (field " failed " f) → r ≡ ended d at (field " failed " f) → Puts d at (failed_of mark) x r
+failed_puts mark b f d x at r is_b is_f = puts_same d x at r (field " failed " f) (failed_of mark) (rw (is_f, is_b))
 
-  pub mark_names : (element : ElementId) (i : List ℕ) → mark ≡ Names element → i ≡ digits 16 8 element.0 → x ≡ stored d at i → r ≡ ended d at i
-      → Puts d at (mark_text mark) x r
-  mark_names element i e is_i is_x is_r = rw e (puts_same d x at r i (digits 16 8 element.0) is_i is_x is_r)
+pub numbers_puts : (limit : ℕ) (native accessible : Lba) (mark : Mark) (d x y : List ℕ) (at m r : ℕ) → Puts x m (failed_of mark) y r
+    → Puts d at (limits_of limit native accessible) x m → Puts d at (numbers_of limit native accessible mark) y r
+numbers_puts limit native accessible mark d x y at m r = puts_more d x at m (limits_of limit native accessible) (failed_of mark) y r
 
-pub failed_puts : (mark : Mark) (d x y : List ℕ) (at m r : ℕ) → x ≡ stored d at (ascii " failed ") → m ≡ ended d at (ascii " failed ")
-    → Puts x m (mark_text mark) y r → Puts d at (failed_of mark) y r
-failed_puts mark d x y at m r is_x is_m two = puts_more d x at m (ascii " failed ") (mark_text mark) y r two (puts_one d x at m (ascii " failed ") is_x is_m)
-
-pub numbers_puts : (limit : ℕ) (v : Reading) (native accessible : Lba) (mark : Mark) (d x y : List ℕ) (at m r : ℕ) → Puts x m (failed_of mark) y r
-    → Puts d at (limits_of limit v native accessible) x m → Puts d at (numbers_of limit v native accessible mark) y r
-numbers_puts limit v native accessible mark d x y at m r = puts_more d x at m (limits_of limit v native accessible) (failed_of mark) y r
-
-pub line_puts : (limit : ℕ) (v : Reading) (c : Cells) (p : Position) (d x y z w : List ℕ) (at k m n r : ℕ)
-    → Puts d at (numbers_of limit v c.native c.accessible c.failed) x k
+pub line_puts : (limit : ℕ) (c : Cells) (p : Position) (d x y z w : List ℕ) (at k m n r : ℕ) → Puts d at (numbers_of limit c.native c.accessible c.failed) x k
     → y ≡ stored x k (ascii " note ") → m ≡ ended x k (ascii " note ") → Puts y m (note_text c.note) z n → Puts z n (end_of p) w r
-    → Puts d at (cells_line limit v c p) w r
-line_puts limit v c p d x y z w at k m n r one is_y is_m three four =
-    let A : List ℕ = numbers_of limit v c.native c.accessible c.failed in
+    → Puts d at (cells_line limit c p) w r
+line_puts limit c p d x y z w at k m n r one is_y is_m three four =
+    let A : List ℕ = numbers_of limit c.native c.accessible c.failed in
     let B : List ℕ = ascii " note " in
     let noted : Puts x k (B ++ note_text c.note) z n = puts_more x y k m B (note_text c.note) z n three (puts_one x y k m B is_y is_m) in
     puts_more d z at n (A ++ (B ++ note_text c.note)) (end_of p) w r four (puts_more d x at k A (B ++ note_text c.note) z n noted one)
@@ -146,11 +125,11 @@ elements_next ps hs i d x y from at r two one =
 
 -- ## The whole text
 
-pub cells_puts : (v : Device) (d x y : List ℕ) (at m r : ℕ) → Puts d at (cells_line v.table.limit v.table.reading v.cells v.position) x m
+pub cells_puts : (v : Device) (d x y : List ℕ) (at m r : ℕ) → Puts d at (cells_line v.table.limit v.cells v.position) x m
     → Puts x m (elements_below v.table.parts v.cells.healths (min v.table.count 128)) y r → Puts d at (cells_of v) y r
 unfolding cells_of
 cells_puts v d x y at m r one two =
-    puts_more d x at m (cells_line v.table.limit v.table.reading v.cells v.position)
+    puts_more d x at m (cells_line v.table.limit v.cells v.position)
     (elements_below v.table.parts v.cells.healths (min v.table.count 128)) y r two one
 
 -- ## How long
@@ -158,14 +137,6 @@ cells_puts v d x y at m r one two =
 length_bit : (b : Bool) → length (decimal_of (one b)) ≡ 1
 length_bit true = refl
 length_bit false = refl
-
-length_reading : (v : Reading) → length (decimal_of (reading_number v)) ≡ 1
-length_reading First = refl
-length_reading Second = refl
-
-length_mark : (mark : Mark) → length (mark_text mark) ≤ 8
-length_mark Clear = omega arith
-length_mark (Names element) = omega arith
 
 length_note : (note : Note) → length (note_text note) ≤ 50
 length_note Empty = omega arith
@@ -182,16 +153,15 @@ length_position Wind2 = refl
 length_position Wind3 = refl
 length_position Wind4 = refl
 
-length_line : (limit : ℕ) (v : Reading) (c : Cells) (p : Position) → length (cells_line limit v c p) ≤ 200
-length_line limit v c p =
+length_line : (limit : ℕ) (c : Cells) (p : Position) → length (cells_line limit c p) ≤ 200
+length_line limit c p =
     simp length-append
     (omega (
       arith,
       length_decimal limit,
-      length_reading v,
       length_decimal c.native.0,
       length_decimal c.accessible.0,
-      length_mark c.failed,
+      length_bit (is_set c.failed),
       length_note c.note,
       length_position p,
     ))
@@ -208,12 +178,12 @@ length_elements ps hs (suc n) =
 pub length_cells : (v : Device) → length (cells_of v) ≤ 6000
 unfolding cells_of
 length_cells v =
-    let first : List ℕ = cells_line v.table.limit v.table.reading v.cells v.position in
+    let first : List ℕ = cells_line v.table.limit v.cells v.position in
     let n : ℕ = min v.table.count 128 in
     omega (
       arith,
       length-append first (elements_below v.table.parts v.cells.healths n),
-      length_line v.table.limit v.table.reading v.cells v.position,
+      length_line v.table.limit v.cells v.position,
       length_elements v.table.parts v.cells.healths n,
       min-le_right v.table.count 128,
     )

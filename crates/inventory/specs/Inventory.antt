@@ -1,8 +1,7 @@
 -- docs/BENCH.md, `cells`: a line of the cells, then one for each element in order.
 use Rattle.std.specs.Prelude.{ℕ, zero, suc, min, List, [], ◌++◌, get_or}
+use Rattle.cells.specs.Cells.{is_set}
 use Rattle.cells.specs.declared.Cells.{Cells}
-use Rattle.cells.specs.declared.Mark.TheVariants.{Clear, Names}
-use Rattle.cells.specs.declared.Mark.{Mark}
 use Rattle.cells.specs.declared.Note.TheVariants.{Empty, Full}
 use Rattle.cells.specs.declared.Note.{Note}
 use Rattle.cells.specs.declared.Position.TheVariants.{Work1, Work2, Work3, Work4, Work5, Wind1, Wind2, Wind3, Wind4}
@@ -10,8 +9,6 @@ use Rattle.cells.specs.declared.Position.{Position}
 use Rattle.cells.specs.declared.Removal.{Removal}
 use Rattle.device.specs.declared.Device.{Device}
 use Rattle.paper.specs.Flags.{is_on}
-use Rattle.paper.specs.Readings.{reading_number}
-use Rattle.paper.specs.declared.Reading.{Reading}
 use Rattle.slices.specs.Lists.{one}
 use Rattle.table.specs.Elements.{blank_part}
 use Rattle.table.specs.declared.Part.{Part}
@@ -20,11 +17,6 @@ use Rattle.text.specs.Text.{ascii}
 use Rattle.writing.specs.Writing.{number_line}
 
 -- ## The cells
-
--- "`-` where the mark is clear, or the element that it names in 8 upper hex digits"
-abbrev pub mark_text : Mark → List ℕ
-mark_text Clear = ascii "-"
-mark_text (Names element) = digits 16 8 element.0
 
 -- "`note ID OLD NEW` if full, ID 8 upper hex digits", else `-`
 abbrev pub removal_text : Removal → List ℕ
@@ -46,14 +38,13 @@ position_text Wind2 = ascii "wind2"
 position_text Wind3 = ascii "wind3"
 position_text Wind4 = ascii "wind4"
 
--- "limit L reading R native N accessible N failed F note - position P"
-abbrev pub cells_line : ℕ → Reading → Cells → Position → List ℕ
-cells_line limit v c p =
+-- "limit L native N accessible N failed F note - position P"
+abbrev pub cells_line : ℕ → Cells → Position → List ℕ
+cells_line limit c p =
     (ascii "limit " ++ decimal_of limit)
-    ++ (ascii " reading " ++ decimal_of (reading_number v))
     ++ (ascii " native " ++ decimal_of c.native.0)
     ++ (ascii " accessible " ++ decimal_of c.accessible.0)
-    ++ (ascii " failed " ++ mark_text c.failed)
+    ++ (ascii " failed " ++ decimal_of (one (is_set c.failed)))
     ++ (ascii " note " ++ note_text c.note)
     ++ (ascii " position " ++ position_text p ++ ascii "\n")
 
@@ -74,5 +65,5 @@ elements_below ps healths (suc n) = elements_below ps healths n ++ element_line 
 -- the elements that count are the first `count`, or all 128 where the count is larger
 unfoldable pub cells_of : Device → List ℕ
 cells_of d =
-    cells_line d.table.limit d.table.reading d.cells d.position
+    cells_line d.table.limit d.cells d.position
     ++ elements_below d.table.parts d.cells.healths (min d.table.count 128)

@@ -1,29 +1,25 @@
 -- Parts of the lines.
 use Rattle.std.specs.Prelude.{ℕ, List, ◌++◌}
+use Rattle.cells.specs.Cells.{is_set}
 use Rattle.cells.specs.declared.Mark.{Mark}
 use Rattle.cells.specs.declared.Position.{Position}
-use Rattle.paper.specs.Readings.{reading_number}
 use Rattle.paper.specs.declared.Lba.{Lba}
-use Rattle.paper.specs.declared.Reading.{Reading}
+use Rattle.slices.specs.Lists.{one}
 use Rattle.table.specs.declared.Part.{Part}
 use Rattle.text.specs.Digits.{digits, decimal_of}
 use Rattle.text.specs.Text.{ascii}
-use Rattle.inventory.specs.Inventory.{mark_text, position_text}
+use Rattle.inventory.specs.Inventory.{position_text}
 
--- how the table was built
-abbrev pub built_of : ℕ → Reading → List ℕ
-built_of limit v = (ascii "limit " ++ decimal_of limit) ++ (ascii " reading " ++ decimal_of (reading_number v))
-
-abbrev pub limits_of : ℕ → Reading → Lba → Lba → List ℕ
-limits_of limit v native accessible =
-    built_of limit v ++ (ascii " native " ++ decimal_of native.0) ++ (ascii " accessible " ++ decimal_of accessible.0)
+abbrev pub limits_of : ℕ → Lba → Lba → List ℕ
+limits_of limit native accessible =
+    (ascii "limit " ++ decimal_of limit) ++ (ascii " native " ++ decimal_of native.0) ++ (ascii " accessible " ++ decimal_of accessible.0)
 
 abbrev pub failed_of : Mark → List ℕ
-failed_of mark = ascii " failed " ++ mark_text mark
+failed_of m = ascii " failed " ++ decimal_of (one (is_set m))
 
 -- the cells' line up to the failed mark
-abbrev pub numbers_of : ℕ → Reading → Lba → Lba → Mark → List ℕ
-numbers_of limit v native accessible mark = limits_of limit v native accessible ++ failed_of mark
+abbrev pub numbers_of : ℕ → Lba → Lba → Mark → List ℕ
+numbers_of limit native accessible mark = limits_of limit native accessible ++ failed_of mark
 
 -- its end
 abbrev pub end_of : Position → List ℕ

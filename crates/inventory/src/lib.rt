@@ -2,12 +2,12 @@
 ghost use Rattle.std.specs.Prelude.{◌≡◌, min};
 ghost use Rattle.writing.specs.Private as writing·private;
 ghost use Rattle.writing.specs.Writing.{stored_in, ended_in};
-ghost use Rattle.inventory.specs.Inventory.{mark_text, removal_text, note_text, position_text, cells_line, element_line, elements_below, cells_of};
+ghost use Rattle.inventory.specs.Inventory.{removal_text, note_text, position_text, cells_line, element_line, elements_below, cells_of};
 ghost use Rattle.inventory.specs.Private as private;
 
 use cells::{Cells, Mark, Note, Position, Removal};
 use device::Device;
-use paper::{Lba, Reading};
+use paper::Lba;
 use table::Part;
 
 // ---- The cells
@@ -46,47 +46,19 @@ fn step_name(p: Position) -> [u8; 5]
     }
 }
 
-// How the table was built.
-fn put_built(out: &mut [u8], at: usize, limit: u16, reading: Reading) -> usize
-    ensures { writing·private.Puts out.old at (private.builtOf limit reading) out.new result }
+fn put_limits(out: &mut [u8], at: usize, limit: u16, native: Lba, accessible: Lba) -> usize
+    ensures { writing·private.Puts out.old at (private.limitsOf limit native accessible) out.new result }
 {
-    let number = paper::reading_number(reading);
     let a = writing::field(out, at, b"limit ", limit as u64);
-    writing::field(out, a, b" reading ", number as u64)
-}
-
-fn put_limits(
-    out: &mut [u8],
-    at: usize,
-    limit: u16,
-    reading: Reading,
-    native: Lba,
-    accessible: Lba,
-) -> usize
-    ensures { writing·private.Puts out.old at (private.limitsOf limit reading native accessible) out.new result }
-{
-    let a = put_built(out, at, limit, reading);
     let b = writing::field(out, a, b" native ", native.0);
     writing::field(out, b, b" accessible ", accessible.0)
-}
-
-fn put_mark(out: &mut [u8], at: usize, mark: Mark) -> usize
-    ensures { writing·private.Puts out.old at (mark_text mark) out.new result }
-{
-    match mark {
-        Mark::Clear => writing::word(out, at, b"-"),
-        Mark::Names(element) => {
-            let id = writing::hex8(element.0);
-            writing::word(out, at, &id)
-        }
-    }
 }
 
 fn put_failed(out: &mut [u8], at: usize, mark: Mark) -> usize
     ensures { writing·private.Puts out.old at (private.failedOf mark) out.new result }
 {
-    let a = writing::word(out, at, b" failed ");
-    put_mark(out, a, mark)
+    let failed = slices::bit(mark.is_set());
+    writing::field(out, at, b" failed ", failed as u64)
 }
 
 // The cells' line up to the failed mark.
@@ -94,14 +66,13 @@ fn put_numbers(
     out: &mut [u8],
     at: usize,
     limit: u16,
-    reading: Reading,
     native: Lba,
     accessible: Lba,
     mark: Mark,
 ) -> usize
-    ensures { writing·private.Puts out.old at (private.numbersOf limit reading native accessible mark) out.new result }
+    ensures { writing·private.Puts out.old at (private.numbersOf limit native accessible mark) out.new result }
 {
-    let a = put_limits(out, at, limit, reading, native, accessible);
+    let a = put_limits(out, at, limit, native, accessible);
     put_failed(out, a, mark)
 }
 
@@ -115,14 +86,14 @@ fn put_end(out: &mut [u8], at: usize, p: Position) -> usize
     writing::word(out, b, b"\n")
 }
 
-fn put_line(out: &mut [u8], at: usize, limit: u16, reading: Reading, c: Cells, p: Position) -> usize
-    ensures { writing·private.Puts out.old at (cells_line limit reading c p) out.new result }
+fn put_line(out: &mut [u8], at: usize, limit: u16, c: Cells, p: Position) -> usize
+    ensures { writing·private.Puts out.old at (cells_line limit c p) out.new result }
 {
     let native = c.native;
     let accessible = c.accessible;
     let mark = c.failed;
     let note = c.note;
-    let a = put_numbers(out, at, limit, reading, native, accessible, mark);
+    let a = put_numbers(out, at, limit, native, accessible, mark);
     let b = writing::word(out, a, b" note ");
     let d = put_note(out, b, note);
     put_end(out, d, p)
@@ -185,9 +156,8 @@ pub fn put_cells(out: &mut [u8], at: usize, d: Device) -> usize
     }
     let t = d.table;
     let c = d.cells;
-    let reading = t.reading;
     let position = d.position;
-    let begun = put_line(out, at, t.limit, reading, c, position);
+    let begun = put_line(out, at, t.limit, c, position);
     let ps = t.parts;
     let healths = c.healths;
     put_elements(out, begun, ps, healths, t.count)

@@ -17,18 +17,18 @@ poked kept p page = cond (leb kept p.place) page (stored page p.place (p.byte �
 abbrev pub kept_after : PageCall → ℕ → List ℕ → ℕ
 kept_after (calls.Length n) kept page = min n (length page)
 kept_after (calls.Poke p) kept page = kept
-kept_after (calls.Read p) kept page = kept
-kept_after (calls.Next p) kept page = kept
-kept_after (calls.ReadScsi p) kept page = kept
+kept_after (calls.Read q) kept page = kept
+kept_after (calls.Next q) kept page = kept
+kept_after (calls.ReadScsi q) kept page = kept
 
 -- what then stands there; "`read FEATURE COUNT LBA` runs the reader on it" and changes nothing, nor do `next FEATURE COUNT LBA` and
--- `scsiread FILTER TYPE START`, in whichever reading
+-- `scsiread FILTER TYPE START`
 abbrev pub page_after : PageCall → ℕ → List ℕ → List ℕ
 page_after (calls.Length n) kept page = lengthened kept (min n (length page)) page
 page_after (calls.Poke p) kept page = poked kept p page
-page_after (calls.Read p) kept page = page
-page_after (calls.Next p) kept page = page
-page_after (calls.ReadScsi p) kept page = page
+page_after (calls.Read q) kept page = page
+page_after (calls.Next q) kept page = page
+page_after (calls.ReadScsi q) kept page = page
 
 -- how long it is with some bytes in its place, if there is room for them
 abbrev pub replaced : ℕ → List ℕ → List ℕ → ℕ

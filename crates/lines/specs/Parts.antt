@@ -34,7 +34,7 @@ same [] (y ∷ b) = false
 same (x ∷ a) [] = false
 same (x ∷ a) (y ∷ b) = eqb x y && same a b
 
--- this name, and no more than n words; that there are no fewer the fields say, since none that a call must have may be empty
+-- this name, and no more than n words; that there are no fewer the fields say, since none may be empty
 unfoldable pub named : List ℕ → ℕ → List ℕ → Bool
 named name n l = same (word_at 0 l) name && is_empty (word_at n l)
 

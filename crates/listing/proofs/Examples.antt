@@ -9,7 +9,6 @@ use Rattle.layout.specs.Bytes.{all_ones}
 use Rattle.layout.specs.Examples.{zeros, header_g1, page_g1}
 use Rattle.layout.specs.declared.Descriptor.{Descriptor}
 use Rattle.offences.specs.Checks.{descriptor_at}
-use Rattle.paper.specs.declared.Reading.TheVariants.{First}
 use Rattle.reader.specs.Judgement.{Values, header}
 use Rattle.request.specs.Requests.{refused, takes_health}
 use Rattle.rows.specs.Rows.{descriptor_line, header_line}
@@ -27,7 +26,7 @@ abbrev element : ℕ → Descriptor
 element capacity = record { id = record { 0 = 0x0001_0003 }; restorable = false; kind = 0x01; health = 0x70; capacity = capacity }
 
 -- it is taken, whatever the capacity
-taken : (a b c : ℕ) → (judged First (page a b c)).state ≡ header header_g1
+taken : (a b c : ℕ) → (judged (page a b c)).state ≡ header header_g1
 unfolding refused takes_health
 taken a b c = refl
 

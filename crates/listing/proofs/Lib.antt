@@ -1,5 +1,4 @@
 -- What is proved of `listing`'s definitions, and of its functions.
-pub mod EitherReading
 pub mod EveryListing
 pub mod Examples
 pub mod Listing

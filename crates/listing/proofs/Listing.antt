@@ -11,7 +11,6 @@ use Rattle.layout.specs.declared.Header.{Header}
 use Rattle.offences.specs.Checks.{base_of}
 use Rattle.paper.specs.Output.{Output, written}
 use Rattle.paper.specs.Told.{Told, tells}
-use Rattle.paper.specs.declared.Reading.TheVariants.{First}
 use Rattle.reader.specs.Judgement.{Values, place, heard, read_of}
 use Rattle.reader.specs.declared.Judgement.TheVariants.{Accepted, Refused}
 use Rattle.reader.specs.declared.Judgement.{Judgement}
@@ -27,16 +26,16 @@ use Rattle.listing.proofs.EveryListing.{there}
 -- ## The input
 
 module _ (s : List ℕ) where
-  pub input_long : 65536 < length s → tells 9 (place 65536) ≡ judged First s
+  pub input_long : 65536 < length s → tells 9 (place 65536) ≡ judged s
   input_long h = sym (rw (lt-ltb _ _ h))
 
-  pub input_read : length s ≤ 65536 → (q : Request) → q ≡ request_of s → (r : Judgement) → heard r ≡ read_of Little First s q → heard r ≡ judged First s
+  pub input_read : length s ≤ 65536 → (q : Request) → q ≡ request_of s → (r : Judgement) → heard r ≡ read_of Little s q → heard r ≡ judged s
   input_read h q is_q r e = e ∙ rw is_q (sym (rw (le-ltb _ _ h)))
 
 -- ## The whole listing
 
-module _ (s out : List ℕ) (answer : Judgement) (is_answer : heard answer ≡ judged First s) (t : Told Output) where
-  was_judged : (a : Judgement) → answer ≡ a → (judged First s).state ≡ (heard a).state
+module _ (s out : List ℕ) (answer : Judgement) (is_answer : heard answer ≡ judged s) (t : Told Output) where
+  was_judged : (a : Judgement) → answer ≡ a → (judged s).state ≡ (heard a).state
   was_judged a e = sym (ap (λ (u : Told Values). u.state) is_answer) ∙ ap (λ (b : Judgement). (heard b).state) e
 
   text_listed : (a : Judgement) → answer ≡ a → (l : List ℕ) → l ≡ first_line (heard a).state ++ lines_below Little s (line_count (heard a).state)

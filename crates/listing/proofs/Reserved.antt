@@ -6,7 +6,6 @@ use mathlib.Core.Path.{◌≡◌, refl}
 use lib.Dec.{ltb}
 use Rattle.entries.specs.Entries.{lines_below}
 use Rattle.paper.specs.Told.{tells}
-use Rattle.paper.specs.declared.Reading.TheVariants.{First}
 use Rattle.reader.proofs.Reserved.{read_same, descriptor_same}
 use Rattle.reader.specs.Judgement.{place}
 use Rattle.reader.specs.Reserved.{LooksAlike}
@@ -21,8 +20,8 @@ module _ (s t : List ℕ) (alike : LooksAlike Little s t) where
   lines_same zero = refl
   lines_same (suc n) = λ i. lines_same n i ++ descriptor_line (descriptor_same Little s t alike n i)
 
-  judged-same : judged First s ≡ judged First t
-  judged-same = λ i. cond (ltb 65536 (alike.long i)) (tells 9 (place 65536)) (read_same Little s t alike First (request_for (alike.long i / 512)) i)
+  judged-same : judged s ≡ judged t
+  judged-same = λ i. cond (ltb 65536 (alike.long i)) (tells 9 (place 65536)) (read_same Little s t alike (request_for (alike.long i / 512)) i)
 
 pub reserved_unlisted : ReservedUnlisted
 unfolding listing_of

@@ -3,23 +3,22 @@ ghost use Rattle.std.specs.Prelude.{◌≡◌};
 ghost use Rattle.io.specs.Counts.{IsPrefixLen};
 ghost use Rattle.paper.specs.Output.{output};
 ghost use Rattle.paper.specs.Told.{said};
-ghost use Rattle.paper.specs.declared.Reading.TheVariants.{First};
 ghost use Rattle.reader.specs.Judgement.{heard};
 ghost use Rattle.listing.specs.Listing.{judged, listed};
 
-use paper::{PageCount, Reading, Written};
+use paper::{PageCount, Written};
 use reader::Judgement;
 use words::Order;
 
 // The reader's answer; a longer input does not reach it.
 fn judge(input: &[u8]) -> Judgement
-    ensures { heard result ≡ judged First input.now }
+    ensures { heard result ≡ judged input.now }
 {
     if 65536 < input.len() {
         return Judgement::Refused(65536);
     }
     let pages = PageCount((input.len() / 512) as u16);
-    reader::read(input, request::request_for(pages), Reading::First)
+    reader::read(input, request::request_for(pages))
 }
 
 // The whole listing, or nothing where it does not fit. Of what was returned none is missing.

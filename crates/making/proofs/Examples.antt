@@ -13,17 +13,17 @@ use Rattle.making.specs.Examples.{MadeOfA, RowsHold, RemovalsHold, OthersHold}
 use Rattle.making.specs.Making.{made_of}
 
 pub rows_hold : RowsHold
-unfolding sight_in see_in judge_room judge_found
-rows_hold v = refl
+unfolding sight_in see_in is_set judge_room judge_found
+rows_hold = refl
 
 pub removals_hold : RemovalsHold
-unfolding sight_in see_in judge_room judge_found grade_seen
-removals_hold v = refl
+unfolding sight_in see_in is_set judge_room judge_found grade_seen
+removals_hold = refl
 
 pub others_hold : OthersHold
 unfolding sight_in see_in is_set judge_room judge_found is_open media_number other_number refused
-others_hold v = refl
+others_hold = refl
 
 pub made_of_a : MadeOfA
 unfolding good made_of
-made_of_a v there = (refl, refl, refl)
+made_of_a there = (refl, refl, refl)

@@ -1,30 +1,28 @@
--- Document 01's bench examples R1 to R8 of device A, the limit alone (R8 would meet check 6 without it), and the machine's edges, in either
--- reading. That device A is made, and that the rows of each table hold, is stated; proofs/ has the proof under the same name in lower case.
+-- Document 01's bench examples R1 to R8 of device A, the limit alone (R8 would meet check 6 without it), and the machine's edges. That device
+-- A is made, and that the rows of each table hold, is stated; proofs/ has the proof under the same name in lower case.
 use Rattle.std.specs.Prelude.{ℕ, Bool, true, false, not, ◌&&◌, List, [], ◌∷◌, ◌++◌, ◌≡◌, eqb, take, replicate}
-use Rattle.cells.specs.declared.Mark.TheVariants.{Clear, Names}
-use Rattle.cells.specs.declared.Mark.{Mark}
+use Rattle.cells.specs.Cells.{is_set}
 use Rattle.device.specs.Machine.{Event, command, step, media_error, power_cut, comreset, hardware_reset, software_reset, grade, told}
 use Rattle.device.specs.Record.{under_way}
 use Rattle.device.specs.declared.Device.{Device}
 use Rattle.offer.specs.Examples.{offer_a}
 use Rattle.paper.specs.Registers.{Registers}
 use Rattle.paper.specs.Told.{tells}
-use Rattle.paper.specs.declared.Reading.{Reading}
 use Rattle.paper.specs.declared.Security.TheVariants.{Locked, Unlocked, Frozen}
 use Rattle.slices.specs.Lists.{all}
 use Rattle.making.specs.Making.{fresh, made_of}
 
 -- "Device A, limit 2"
-abbrev pub device_a : Reading → Device
-device_a v = fresh (offer_a v 2)
+abbrev pub device_a : Device
+device_a = fresh (offer_a 2)
 
 -- its table is accepted with that limit, and with 1; with 129 it is refused
 abbrev pub MadeOfA : Type 0
 MadeOfA =
-    (v : Reading) (there : Device)
-    → (made_of there (offer_a v 2) ≡ tells 0 (device_a v))
-    × (made_of there (offer_a v 1) ≡ tells 0 (fresh (offer_a v 1)))
-    × (made_of there (offer_a v 129) ≡ tells 8 there)
+    (there : Device)
+    → (made_of there (offer_a 2) ≡ tells 0 device_a)
+    × (made_of there (offer_a 1) ≡ tells 0 (fresh (offer_a 1)))
+    × (made_of there (offer_a 129) ≡ tells 8 there)
 
 abbrev pub run : Device → List Event → Device
 run d [] = d
@@ -54,8 +52,8 @@ R5 = cut_after 2 4
 abbrev pub R6 : List Event
 R6 = cut_after 3 4
 
--- from a device, after some events that are answered 0: the number that one more gets, and then both maxima, the healths, the element that the failed
--- mark names, or 0, and whether a removal is under way
+-- from a device, after some events that are answered 0: the number that one more gets, and then both maxima, the healths, the failed mark,
+-- whether a removal is under way
 pub record Row : Type 0 where
   pub device : Device
   pub before : List Event
@@ -63,10 +61,10 @@ pub record Row : Type 0 where
   pub number : ℕ
   pub maximum : ℕ
   pub healths : List ℕ
-  pub failed : ℕ
+  pub failed : Bool
   pub busy : Bool
 
-abbrev pub row : Device → List Event → Event → ℕ → ℕ → List ℕ → ℕ → Bool → Row
+abbrev pub row : Device → List Event → Event → ℕ → ℕ → List ℕ → Bool → Bool → Row
 row d es e n m hs f b = record { device = d; before = es; event = e; number = n; maximum = m; healths = hs; failed = f; busy = b }
 
 abbrev pub same_healths : List ℕ → List ℕ → Bool
@@ -79,17 +77,12 @@ abbrev pub same_bool : Bool → Bool → Bool
 same_bool true b = b
 same_bool false b = not b
 
--- the element that the failed mark names; no element has 0
-abbrev pub named_by : Mark → ℕ
-named_by Clear = 0
-named_by (Names id) = id.0
-
 abbrev pub shows : Row → Device → Bool
 shows r d =
     eqb d.cells.native.0 r.maximum
     && eqb d.cells.accessible.0 r.maximum
     && same_healths (take d.table.count d.cells.healths) r.healths
-    && eqb (named_by d.cells.failed) r.failed
+    && same_bool (is_set d.cells.failed) r.failed
     && same_bool (under_way d) r.busy
 
 -- each of the events is answered 0
@@ -102,41 +95,37 @@ holds r =
     let d : Device = run r.device r.before in
     accepted r.device r.before && eqb (told d r.event).number r.number && shows r (told d r.event).state
 
--- 0001_0003h
-abbrev pub slow : ℕ
-slow = 0x0001_0003
-
 abbrev pub as_built : List ℕ
 as_built = 0x20 ∷ 0x10 ∷ 0x70 ∷ 0 ∷ []
 
 abbrev pub one_gone : List ℕ
 one_gone = 0x20 ∷ 0x10 ∷ 0xFF ∷ 0 ∷ []
 
-abbrev pub rows : Reading → List Row
-rows v =
+abbrev pub rows : List Row
+rows =
     -- R1
-    row (device_a v) (remove 1 3 0 ∷ steps 4) step 0 2499 one_gone 0 false
+    row device_a (remove 1 3 0 ∷ steps 4) step 0 2499 one_gone false false
     -- R2, R3
-    ∷ row (device_a v) [] (remove 0 0 0) 4 2999 as_built 0 false
-    ∷ row (device_a v) [] (remove 2 0 0) 4 2999 as_built 0 false
+    ∷ row device_a [] (remove 0 0 0) 4 2999 as_built false false
+    ∷ row device_a [] (remove 2 0 0) 4 2999 as_built false false
     -- R4
-    ∷ row (device_a v) [] (remove 1 3 2499) 0 2999 as_built 0 true
-    ∷ row (device_a v) [] (remove 1 3 2500) 4 2999 as_built 0 false
+    ∷ row device_a [] (remove 1 3 2499) 0 2999 as_built false true
+    ∷ row device_a [] (remove 1 3 2500) 4 2999 as_built false false
     -- R5, R6
-    ∷ row (device_a v) (cut_after 2 3) step 0 2999 as_built slow false
-    ∷ row (device_a v) (cut_after 3 3) step 0 2499 one_gone slow false
+    ∷ row device_a (cut_after 2 3) step 0 2999 as_built true false
+    ∷ row device_a (cut_after 3 3) step 0 2499 one_gone true false
     -- R7
-    ∷ row (device_a v) R6 (remove 1 3 0xFFFF_FFFF_FFFF) 0 2499 one_gone 0 false
+    ∷ row device_a R6 (remove 1 3 0xFFFF_FFFF_FFFF) 0 2499 one_gone false false
     -- R8
-    ∷ row (device_a v) (R1 ++ (remove 0 1 0 ∷ steps 4)) step 0 1499 (0xFF ∷ 0x10 ∷ 0xFF ∷ 0 ∷ []) 0 false
-    ∷ row (device_a v) (R1 ++ (remove 0 1 0 ∷ steps 5)) (remove 0 3 0) 4 1499 (0xFF ∷ 0x10 ∷ 0xFF ∷ 0 ∷ []) 0 false
+    ∷ row device_a (R1 ++ (remove 0 1 0 ∷ steps 4)) step 0 1499 (0xFF ∷ 0x10 ∷ 0xFF ∷ 0 ∷ []) false false
+    ∷ row device_a (R1 ++ (remove 0 1 0 ∷ steps 5)) (remove 0 3 0) 4 1499 (0xFF ∷ 0x10 ∷ 0xFF ∷ 0 ∷ []) false false
     -- the limit alone: 2,499 - 1,000 blocks would leave room
-    ∷ row (fresh (offer_a v 1)) R1 (remove 0 1 0) 4 2499 one_gone 0 false
-    ∷ row (device_a v) R1 (remove 0 1 0) 0 2499 one_gone 0 true
+    ∷ row (fresh (offer_a 1)) R1 (remove 0 1 0) 4 2499 one_gone false false
+    ∷ row device_a R1 (remove 0 1 0) 0 2499 one_gone false true
     ∷ []
 
 abbrev pub RowsHold : Type 0
-RowsHold = (v : Reading) → all holds (rows v) ≡ true
+RowsHold = all holds rows ≡ true
 
 -- ## The edges: what the examples above do not reach
 
@@ -154,99 +143,99 @@ abbrev pub graded : ℕ → ℕ → Event
 graded id h = grade (record { 0 = id }) h
 
 -- events that leave device A as built, and those that leave it in mid-removal after two steps
-abbrev pub idle : Reading → Event → ℕ → Row
-idle v e n = row (device_a v) [] e n 2999 as_built 0 false
+abbrev pub idle : Event → ℕ → Row
+idle e n = row device_a [] e n 2999 as_built false false
 
-abbrev pub amid : Reading → Event → ℕ → Row
-amid v e n = row (device_a v) (remove 1 3 0 ∷ steps 2) e n 2499 as_built 0 true
+abbrev pub amid : Event → ℕ → Row
+amid e n = row device_a (remove 1 3 0 ∷ steps 2) e n 2499 as_built false true
 
-abbrev pub removals : Reading → List Row
-removals v =
+abbrev pub removals : List Row
+removals =
     -- checks 1 and 2, in this order
-    idle v (locked 0x7C) 1
-    ∷ amid v (locked 0x7C) 1
-    ∷ amid v (remove 0 1 0) 2
+    idle (locked 0x7C) 1
+    ∷ amid (locked 0x7C) 1
+    ∷ amid (remove 0 1 0) 2
     -- check 6 without a limit: 1,499 - 1,500; and the least that is left
-    ∷ row (fresh (offer_a v 0)) (R1 ++ (remove 0 1 0 ∷ steps 5)) (remove 0 3 0) 4 1499 (0xFF ∷ 0x10 ∷ 0xFF ∷ 0 ∷ []) 0 false
-    ∷ row (device_a v) ((remove 1 3 1501 ∷ steps 5) ++ (remove 0 3 0 ∷ steps 4)) step 0 1 (0x20 ∷ 0xFF ∷ 0xFF ∷ 0 ∷ []) 0 false
-    ∷ row (device_a v) (remove 1 3 1500 ∷ steps 5) (remove 0 3 0) 4 1500 one_gone 0 false
+    ∷ row (fresh (offer_a 0)) (R1 ++ (remove 0 1 0 ∷ steps 5)) (remove 0 3 0) 4 1499 (0xFF ∷ 0x10 ∷ 0xFF ∷ 0 ∷ []) false false
+    ∷ row device_a ((remove 1 3 1501 ∷ steps 5) ++ (remove 0 3 0 ∷ steps 4)) step 0 1 (0x20 ∷ 0xFF ∷ 0xFF ∷ 0 ∷ []) false false
+    ∷ row device_a (remove 1 3 1500 ∷ steps 5) (remove 0 3 0) 4 1500 one_gone false false
     -- the LBA is the new maximum; bits above 47 are ignored, so 2^48 is 0
-    ∷ row (device_a v) (remove 1 3 100 ∷ steps 4) step 0 100 one_gone 0 false
-    ∷ row (device_a v) (remove 1 3 0x1_0000_0000_0000 ∷ steps 4) step 0 2499 one_gone 0 false
+    ∷ row device_a (remove 1 3 100 ∷ steps 4) step 0 100 one_gone false false
+    ∷ row device_a (remove 1 3 0x1_0000_0000_0000 ∷ steps 4) step 0 2499 one_gone false false
     -- work step 4 clears a mark
-    ∷ row (device_a v) (R6 ++ (remove 0 1 0 ∷ steps 4)) step 0 1499 (0xFF ∷ 0x10 ∷ 0xFF ∷ 0 ∷ []) 0 false
+    ∷ row device_a (R6 ++ (remove 0 1 0 ∷ steps 4)) step 0 1499 (0xFF ∷ 0x10 ∷ 0xFF ∷ 0 ∷ []) false false
     -- without a removal
-    ∷ idle v step 10
-    ∷ idle v media_error 10
-    ∷ row (device_a v) R5 power_cut 0 2999 as_built slow false
+    ∷ idle step 10
+    ∷ idle media_error 10
+    ∷ row device_a R5 power_cut 0 2999 as_built true false
     -- a cut right after acceptance, an error in mid-removal, and an error during winding up, which starts again
-    ∷ row (device_a v) (cut_after 0 3) step 0 2999 as_built slow false
-    ∷ row (device_a v) (remove 1 3 0 ∷ (steps 4 ++ (media_error ∷ steps 3))) step 0 2499 one_gone slow false
-    ∷ row (device_a v) (cut_after 3 2 ++ (media_error ∷ steps 3)) step 0 2499 one_gone slow false
+    ∷ row device_a (cut_after 0 3) step 0 2999 as_built true false
+    ∷ row device_a (remove 1 3 0 ∷ (steps 4 ++ (media_error ∷ steps 3))) step 0 2499 one_gone true false
+    ∷ row device_a (cut_after 3 2 ++ (media_error ∷ steps 3)) step 0 2499 one_gone true false
     -- a reset stops nothing, in winding up neither
-    ∷ row (device_a v) (remove 1 3 0 ∷ (steps 2 ++ (comreset ∷ hardware_reset ∷ software_reset ∷ steps 2))) step 0 2499 one_gone 0 false
-    ∷ row (device_a v) (cut_after 2 2 ++ (software_reset ∷ steps 1)) step 0 2999 as_built slow false
+    ∷ row device_a (remove 1 3 0 ∷ (steps 2 ++ (comreset ∷ hardware_reset ∷ software_reset ∷ steps 2))) step 0 2499 one_gone false false
+    ∷ row device_a (cut_after 2 2 ++ (software_reset ∷ steps 1)) step 0 2999 as_built true false
     -- grades
-    ∷ row (device_a v) [] (graded 3 0xCF) 0 2999 (0x20 ∷ 0xCF ∷ 0x70 ∷ 0 ∷ []) 0 false
-    ∷ row (device_a v) (remove 1 3 0 ∷ steps 2) (graded 0x0001_0003 0) 0 2499 (0x20 ∷ 0x10 ∷ 0 ∷ 0 ∷ []) 0 true
-    ∷ idle v (graded 3 0xD0) 11
-    ∷ idle v (graded 2 0x10) 11
-    ∷ row (device_a v) R1 (graded 0x0001_0003 0x10) 11 2499 one_gone 0 false
+    ∷ row device_a [] (graded 3 0xCF) 0 2999 (0x20 ∷ 0xCF ∷ 0x70 ∷ 0 ∷ []) false false
+    ∷ row device_a (remove 1 3 0 ∷ steps 2) (graded 0x0001_0003 0) 0 2499 (0x20 ∷ 0x10 ∷ 0 ∷ 0 ∷ []) false true
+    ∷ idle (graded 3 0xD0) 11
+    ∷ idle (graded 2 0x10) 11
+    ∷ row device_a R1 (graded 0x0001_0003 0x10) 11 2499 one_gone false false
     ∷ []
 
 abbrev pub RemovalsHold : Type 0
-RemovalsHold = (v : Reading) → all holds (removals v) ≡ true
+RemovalsHold = all holds removals ≡ true
 
-abbrev pub others : Reading → List Row
-others v =
+abbrev pub others : List Row
+others =
     -- "After R1, 25h: LBA 2,499 COUNT 1: 0; COUNT 2: 5. After R5 or R6: 3."
-    row (device_a v) R1 (access 2499 1) 0 2499 one_gone 0 false
-    ∷ row (device_a v) R1 (access 2499 2) 5 2499 one_gone 0 false
-    ∷ row (device_a v) R5 (access 0 1) 3 2999 as_built slow false
-    ∷ row (device_a v) R6 (access 0 1) 3 2499 one_gone slow false
+    row device_a R1 (access 2499 1) 0 2499 one_gone false false
+    ∷ row device_a R1 (access 2499 2) 5 2499 one_gone false false
+    ∷ row device_a R5 (access 0 1) 3 2999 as_built true false
+    ∷ row device_a R6 (access 0 1) 3 2499 one_gone true false
     -- COUNT 0 means 65,536; bits above 47 are ignored; other commands pass with the mark
-    ∷ idle v (access 0 0) 5
-    ∷ idle v (access 0x1_0000_0000_0000 1) 0
-    ∷ row (device_a v) R5 (other 0xEF 0 0) 0 2999 as_built slow false
+    ∷ idle (access 0 0) 5
+    ∷ idle (access 0x1_0000_0000_0000 1) 0
+    ∷ row device_a R5 (other 0xEF 0 0) 0 2999 as_built true false
     -- unknown codes, and the order of 2, 6, 3
-    ∷ idle v (other 0x7D 0 0) 6
-    ∷ amid v (other 0x7D 0 0) 2
-    ∷ amid v (access 0 1) 2
-    ∷ row (device_a v) (R5 ++ (remove 1 3 0 ∷ [])) (access 0 1) 2 2999 as_built slow true
+    ∷ idle (other 0x7D 0 0) 6
+    ∷ amid (other 0x7D 0 0) 2
+    ∷ amid (access 0 1) 2
+    ∷ row device_a (R5 ++ (remove 1 3 0 ∷ [])) (access 0 1) 2 2999 as_built true true
     -- open, and its neighbours
-    ∷ amid v (other 0xEC 0 0) 0
-    ∷ amid v (other 0x2F 0 0x1E0) 0
-    ∷ amid v (other 0x2F 0 0x11) 2
-    ∷ amid v (other 0x47 0 0x04) 0
-    ∷ amid v (other 0x47 0 0x00) 2
-    ∷ amid v (other 0x0B 0 0) 0
-    ∷ amid v (other 0xF2 0 0) 0
-    ∷ amid v (other 0xEF 0x107 0) 0
-    ∷ amid v (other 0xEF 0x06 0) 2
-    ∷ amid v (other 0xB0 0xD5 0x30) 0
-    ∷ amid v (other 0xB0 0xD5 0x10) 2
-    ∷ amid v (other 0xB0 0xDA 0x77) 0
-    ∷ amid v (other 0xB0 0xD0 0x30) 2
+    ∷ amid (other 0xEC 0 0) 0
+    ∷ amid (other 0x2F 0 0x1E0) 0
+    ∷ amid (other 0x2F 0 0x11) 2
+    ∷ amid (other 0x47 0 0x04) 0
+    ∷ amid (other 0x47 0 0x00) 2
+    ∷ amid (other 0x0B 0 0) 0
+    ∷ amid (other 0xF2 0 0) 0
+    ∷ amid (other 0xEF 0x107 0) 0
+    ∷ amid (other 0xEF 0x06 0) 2
+    ∷ amid (other 0xB0 0xD5 0x30) 0
+    ∷ amid (other 0xB0 0xD5 0x10) 2
+    ∷ amid (other 0xB0 0xDA 0x77) 0
+    ∷ amid (other 0xB0 0xD0 0x30) 2
     -- 2026-02: "only the Unload form", whatever stands above FEATURE 7:0 and LBA 27:0; "Other forms get 2 during a removal", winding up
     -- included, and 0 at rest
-    ∷ amid v (other 0xE1 0x44 0x0554E4C) 0
-    ∷ amid v (other 0xE1 0xFF44 0xFFFF_FFFF_F055_4E4C) 0
-    ∷ amid v (other 0xE1 0x45 0x0554E4C) 2
-    ∷ amid v (other 0xE1 0x44 0x8554E4C) 2
-    ∷ row (device_a v) (cut_after 2 0) (other 0xE1 0 0) 2 2499 as_built 0 true
-    ∷ idle v (other 0xE1 0 0) 0
+    ∷ amid (other 0xE1 0x44 0x0554E4C) 0
+    ∷ amid (other 0xE1 0xFF44 0xFFFF_FFFF_F055_4E4C) 0
+    ∷ amid (other 0xE1 0x45 0x0554E4C) 2
+    ∷ amid (other 0xE1 0x44 0x8554E4C) 2
+    ∷ row device_a (cut_after 2 0) (other 0xE1 0 0) 2 2499 as_built false true
+    ∷ idle (other 0xE1 0 0) 0
     -- 12h: 4, then 7; in any security state, and during a removal
-    ∷ amid v (command Locked (registers 0x12 0x4100 1 0) 512) 0
-    ∷ idle v (command Frozen (registers 0x12 0 1 0) 511) 7
-    ∷ idle v (command Unlocked (registers 0x12 0 0 0) 0) 4
-    ∷ idle v (command Unlocked (registers 0x12 0x8000 1 0) 0) 4
+    ∷ amid (command Locked (registers 0x12 0x4100 1 0) 512) 0
+    ∷ idle (command Frozen (registers 0x12 0 1 0) 511) 7
+    ∷ idle (command Unlocked (registers 0x12 0 0 0) 0) 4
+    ∷ idle (command Unlocked (registers 0x12 0x8000 1 0) 0) 4
     -- reserved bits, before the buffer; and those above LBA 47, which are ignored
-    ∷ amid v (command Locked (registers 0x12 0x0001 1 0) 512) 4
-    ∷ idle v (command Frozen (registers 0x12 0x1000 1 0) 0) 4
-    ∷ idle v (command Unlocked (registers 0x12 0 1 0x1_0000_0003) 511) 4
-    ∷ idle v (command Unlocked (registers 0x12 0 1 0xFFFF_8000_0000_0000) 512) 4
-    ∷ idle v (command Unlocked (registers 0x12 0 1 0xFFFF_0000_0000_0003) 512) 0
+    ∷ amid (command Locked (registers 0x12 0x0001 1 0) 512) 4
+    ∷ idle (command Frozen (registers 0x12 0x1000 1 0) 0) 4
+    ∷ idle (command Unlocked (registers 0x12 0 1 0x1_0000_0003) 511) 4
+    ∷ idle (command Unlocked (registers 0x12 0 1 0xFFFF_8000_0000_0000) 512) 4
+    ∷ idle (command Unlocked (registers 0x12 0 1 0xFFFF_0000_0000_0003) 512) 0
     ∷ []
 
 abbrev pub OthersHold : Type 0
-OthersHold = (v : Reading) → all holds (others v) ≡ true
+OthersHold = all holds others ≡ true

@@ -3,7 +3,6 @@ use Prim.Native.Nat.{ℕ, suc}
 use mathlib.Core.List.{List, [], ◌∷◌, ◌++◌}
 use mathlib.Core.Path.{◌≡◌, refl}
 use Rattle.layout.specs.Examples.{zeros, page_g1}
-use Rattle.paper.specs.declared.Reading.TheVariants.{First}
 use Rattle.reach.specs.Pages.{reach_of}
 use Rattle.request.specs.Requests.{refused, takes_health}
 use Rattle.slices.specs.Lists.{up_to, flat}
@@ -13,7 +12,7 @@ use Rattle.moves.specs.Moves.{next_text}
 
 -- `next 0 1 0`
 abbrev onward : List ℕ → List ℕ
-onward s = next_text First s (record { feature = 0; count = record { 0 = 1 }; lba = record { 0 = 0 } })
+onward s = next_text s (record { feature = 0; count = record { 0 = 1 }; lba = record { 0 = 0 } })
 
 abbrev element : List ℕ → List ℕ
 element id = zeros 4 ++ id ++ zeros 24

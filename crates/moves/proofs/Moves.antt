@@ -5,7 +5,6 @@ use mathlib.Core.Path.{◌≡◌, sym, ap, ◌∙◌}
 use native.Mathlib.Omega.{arith}
 use lib.ListN.{length, take, length-append}
 use Rattle.paper.specs.declared.ElementId.{ElementId}
-use Rattle.paper.specs.declared.Reading.{Reading}
 use Rattle.request.specs.declared.Request.{Request}
 use Rattle.slices.specs.Lists.{stored, ended}
 use Rattle.text.proofs.Digits.{length_decimal}
@@ -29,22 +28,22 @@ module _ (m found : Move) (is_found : m ≡ found) (t : List ℕ) (is_t : t ≡ 
   pub move_ended : (r : ℕ) → r ≡ ended d at t → r ≡ ended d at (move_line (heard m).state)
   move_ended r is_r = is_r ∙ ap (ended d at) same_lem
 
-module _ (v : Reading) (page kept : List ℕ) (q : Request) (m : Move) (is_kept : kept ≡ take 65536 page) (is_m : heard m ≡ next_of v kept q) where
-  line : move_line (heard m).state ≡ next_text v page q
+module _ (page kept : List ℕ) (q : Request) (m : Move) (is_kept : kept ≡ take 65536 page) (is_m : heard m ≡ next_of kept q) where
+  line : move_line (heard m).state ≡ next_text page q
   unfolding next_text
   line = rw (is_m, is_kept)
 
-  pub next_stored : (d x : List ℕ) (at : ℕ) → x ≡ stored d at (move_line (heard m).state) → x ≡ stored d at (next_text v page q)
+  pub next_stored : (d x : List ℕ) (at : ℕ) → x ≡ stored d at (move_line (heard m).state) → x ≡ stored d at (next_text page q)
   next_stored d x at is_x = is_x ∙ ap (stored d at) line
 
-  pub next_ended : (d : List ℕ) (at r : ℕ) → r ≡ ended d at (move_line (heard m).state) → r ≡ ended d at (next_text v page q)
+  pub next_ended : (d : List ℕ) (at r : ℕ) → r ≡ ended d at (move_line (heard m).state) → r ≡ ended d at (next_text page q)
   next_ended d at r is_r = is_r ∙ ap (ended d at) line
 
-length_move : (m : Values) → length (move_line m) ≤ 26
+length_move : (v : Values) → length (move_line v) ≤ 26
 length_move (ask id) = omega arith
 length_move end = omega arith
 length_move (place p) = simp length-append (omega (arith, length_decimal p))
 
-pub length_next : (v : Reading) (page : List ℕ) (q : Request) → length (next_text v page q) ≤ 26
+pub length_next : (page : List ℕ) (q : Request) → length (next_text page q) ≤ 26
 unfolding next_text
-length_next v page q = length_move (next_of v (take 65536 page) q).state
+length_next page q = length_move (next_of (take 65536 page) q).state

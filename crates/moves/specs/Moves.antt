@@ -2,7 +2,6 @@
 use Rattle.std.specs.Prelude.{ℕ, List, ◌++◌, take}
 use Rattle.contents.specs.Contents.{refused_line}
 use Rattle.paper.specs.declared.ElementId.{ElementId}
-use Rattle.paper.specs.declared.Reading.{Reading}
 use Rattle.request.specs.declared.Request.{Request}
 use Rattle.text.specs.Digits.{digits}
 use Rattle.text.specs.Text.{ascii}
@@ -19,5 +18,5 @@ move_line end = ascii "end\n"
 move_line (place p) = refused_line p
 
 -- the kept page has at most 65,536 bytes
-unfoldable pub next_text : Reading → List ℕ → Request → List ℕ
-next_text v page q = move_line (next_of v (take 65536 page) q).state
+unfoldable pub next_text : List ℕ → Request → List ℕ
+next_text page q = move_line (next_of (take 65536 page) q).state

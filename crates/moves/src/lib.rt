@@ -4,7 +4,7 @@ ghost use Rattle.slices.specs.Lists.{stored, ended};
 ghost use Rattle.walk.specs.Next.{heard};
 ghost use Rattle.moves.specs.Moves.{ask_line, move_line, next_text};
 
-use paper::{ElementId, Reading};
+use paper::ElementId;
 use request::Request;
 use walk::Move;
 
@@ -31,10 +31,10 @@ fn put_move(out: &mut [u8], at: usize, next: Move) -> usize
 }
 
 // Stores the line from a place on and answers where it ends; nothing, if it does not fit.
-pub fn put(out: &mut [u8], at: usize, page: &[u8], request: Request, reading: Reading) -> usize
-    ensures out_after { out.new ≡ stored out.old at (next_text reading page.now request) }
-    ensures value { result ≡ ended out.old at (next_text reading page.now request) }
+pub fn put(out: &mut [u8], at: usize, page: &[u8], request: Request) -> usize
+    ensures out_after { out.new ≡ stored out.old at (next_text page.now request) }
+    ensures value { result ≡ ended out.old at (next_text page.now request) }
 {
     let kept = slices::head(page, 65536);
-    put_move(out, at, walk::next(kept, request, reading))
+    put_move(out, at, walk::next(kept, request))
 }

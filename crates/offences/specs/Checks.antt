@@ -3,7 +3,6 @@ use Rattle.std.specs.Prelude.{ℕ, zero, suc, ◌+◌, ◌*◌, Bool, not, ◌&&
 use Rattle.layout.specs.Bytes.{descriptor_in}
 use Rattle.layout.specs.declared.Descriptor.{Descriptor}
 use Rattle.paper.specs.Elements.{removed_health}
-use Rattle.paper.specs.declared.Reading.{Reading}
 use Rattle.request.specs.Requests.{filter_of, report_type_of, takes_id, takes_type, takes_health}
 use Rattle.request.specs.declared.Request.{Request}
 use Rattle.words.specs.declared.Order.{Order}
@@ -31,12 +30,12 @@ abbrev pub earned : Descriptor → Bool
 earned d = not d.restorable || removed_health d.health
 
 -- ".. (its byte 4); restoration bit .. (13); type outside the report type (14); health outside the filter (15)"
-abbrev pub check_of : Reading → Request → ℕ → ℕ → Descriptor → Offence
-check_of v q last base d =
+abbrev pub check_of : Request → ℕ → ℕ → Descriptor → Offence
+check_of q last base d =
     unless (in_turn q last d.id.0) (base + 4) or_else
     (unless (earned d) (base + 13) or_else
     (unless (takes_type (report_type_of q) d.kind) (base + 14) or_else
-    unless (takes_health v (filter_of q) d.health) (base + 15)))
+    unless (takes_health (filter_of q) d.health) (base + 15)))
 
-abbrev pub offence_at : Order → Reading → List ℕ → Request → ℕ → Offence
-offence_at o v s q k = check_of v q (last_before o s k) (base_of k) (descriptor_at o s k)
+abbrev pub offence_at : Order → List ℕ → Request → ℕ → Offence
+offence_at o s q k = check_of q (last_before o s k) (base_of k) (descriptor_at o s k)

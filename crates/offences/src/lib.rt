@@ -7,7 +7,7 @@ ghost use Rattle.offences.specs.Private as private;
 ghost use Rattle.offences.specs.declared.Offence.TheVariants.{Clean};
 
 use layout::Descriptor;
-use paper::{ElementId, Reading};
+use paper::ElementId;
 use request::Request;
 use words::Order;
 
@@ -46,9 +46,9 @@ fn is_earned(d: Descriptor) -> bool
 }
 
 // The first offence of a descriptor that starts at `base`, after the last identifier.
-fn judge(d: Descriptor, request: Request, reading: Reading, last: ElementId, base: usize) -> Offence
+fn judge(d: Descriptor, request: Request, last: ElementId, base: usize) -> Offence
     requires { base + 32 < 2 ^ 64 }
-    ensures { result ≡ check_of reading request last.0 base d }
+    ensures { result ≡ check_of request last.0 base d }
 {
     let id = d.id;
     if !is_in_turn(request, last, id) {
@@ -60,7 +60,7 @@ fn judge(d: Descriptor, request: Request, reading: Reading, last: ElementId, bas
     if !request.takes_type(d.kind) {
         return Offence::At(base + 14);
     }
-    if !request.takes_health(reading, d.health) {
+    if !request.takes_health(d.health) {
         return Offence::At(base + 15);
     }
     Offence::Clean
@@ -77,8 +77,8 @@ pub fn descriptor_at(page: &[u8], k: u32, o: Order) -> Descriptor
 // ---- Past plain descriptors
 
 // Whether a descriptor is clean and its restoration bit clear. What is promised is that it is clean, and of any other nothing.
-fn is_plain(d: Descriptor, request: Request, reading: Reading, last: ElementId) -> bool
-    ensures { result ≡ true → (base : ℕ) → Clean ≡ check_of reading request last.0 base d }
+fn is_plain(d: Descriptor, request: Request, last: ElementId) -> bool
+    ensures { result ≡ true → (base : ℕ) → Clean ≡ check_of request last.0 base d }
 {
     let id = d.id;
     if !is_in_turn(request, last, id) {
@@ -90,7 +90,7 @@ fn is_plain(d: Descriptor, request: Request, reading: Reading, last: ElementId) 
     if !request.takes_type(d.kind) {
         return false;
     }
-    request.takes_health(reading, d.health)
+    request.takes_health(d.health)
 }
 
 // The descriptor at a place, whose bytes are there, so that none is tested for.
@@ -102,16 +102,9 @@ fn whole_at(page: &[u8], at: usize, o: Order) -> Descriptor
 }
 
 // Past plain descriptors, two a turn, if the list is all there. An odd last one is left.
-fn past_plain(
-    page: &[u8],
-    request: Request,
-    reading: Reading,
-    count: u32,
-    o: Order,
-    from: Place,
-) -> Place
-    requires { private.Swept o reading page.now request count from.at from.last.0 }
-    ensures { (from.at ≤ result.at) × private.Swept o reading page.now request count result.at result.last.0 }
+fn past_plain(page: &[u8], request: Request, count: u32, o: Order, from: Place) -> Place
+    requires { private.Swept o page.now request count from.at from.last.0 }
+    ensures { (from.at ≤ result.at) × private.Swept o page.now request count result.at result.last.0 }
 {
     let last_at = 32 * (count as usize);
     if page.len() < last_at + 32 {
@@ -121,13 +114,13 @@ fn past_plain(
     let mut at = from.at;
     while at < last_at {
         let d = whole_at(page, at, o);
-        if !is_plain(d, request, reading, last) {
+        if !is_plain(d, request, last) {
             return Place { at, last };
         }
         let id = d.id;
         let next = at + 32;
         let e = whole_at(page, next, o);
-        if !is_plain(e, request, reading, id) {
+        if !is_plain(e, request, id) {
             return Place { at: next, last: id };
         }
         last = e.id;
@@ -139,8 +132,8 @@ fn past_plain(
 // ---- The list
 
 // The first offence of the first `count` descriptors: past plain ones, and what is left judged one by one.
-pub fn check_list(page: &[u8], request: Request, reading: Reading, count: u32, o: Order) -> Offence
-    ensures { result ≡ first_below count (offence_at o reading page.now request) }
+pub fn check_list(page: &[u8], request: Request, count: u32, o: Order) -> Offence
+    ensures { result ≡ first_below count (offence_at o page.now request) }
 {
     let end = 32 + 32 * (count as usize);
     let mut next = Place {
@@ -148,13 +141,13 @@ pub fn check_list(page: &[u8], request: Request, reading: Reading, count: u32, o
         last: ElementId(0),
     };
     loop {
-        next = past_plain(page, request, reading, count, o, next);
+        next = past_plain(page, request, count, o, next);
         let at = next.at;
         if end <= at {
             return Offence::Clean;
         }
         let d = Descriptor::read_at(page, at, o);
-        let found = judge(d, request, reading, next.last, at);
+        let found = judge(d, request, next.last, at);
         if let Offence::At(place) = found {
             return Offence::At(place);
         }

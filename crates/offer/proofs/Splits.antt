@@ -45,8 +45,8 @@ module _ {A B : Type 0} (f : A → B) (z : B) (es : List A) (d : A) where
         so ∙ rw (end, long, same, taken es count n full is_n)
 
 pub table_built : (o : Offer) (ps : List Part) → ps ≡ map part_of (offered o) ++ replicate (128 - o.count) blank_part
-    → record { parts = ps; count = o.count; limit = o.limit; reading = o.reading } ≡ table_of o
-table_built o ps e = λ i. record { parts = e i; count = o.count; limit = o.limit; reading = o.reading }
+    → record { parts = ps; count = o.count; limit = o.limit } ≡ table_of o
+table_built o ps e = λ i. record { parts = e i; count = o.count; limit = o.limit }
 
 -- ## What an offered table is split into, of up to 128
 

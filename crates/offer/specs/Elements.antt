@@ -40,8 +40,7 @@ health_of e = e.health
 
 -- unused places hold blanks and 00h
 abbrev pub table_of : Offer → Table
-table_of o =
-    record { parts = map part_of (offered o) ++ replicate (128 - o.count) blank_part; count = o.count; limit = o.limit; reading = o.reading }
+table_of o = record { parts = map part_of (offered o) ++ replicate (128 - o.count) blank_part; count = o.count; limit = o.limit }
 
 abbrev pub healths_of : Offer → List ℕ
 healths_of o = map health_of (offered o) ++ replicate (128 - o.count) 0

@@ -1,6 +1,5 @@
 -- The elements of document 01's bench device A.
 use Rattle.std.specs.Prelude.{ℕ, false, List, ◌∷◌, replicate}
-use Rattle.paper.specs.declared.Reading.{Reading}
 use Rattle.offer.specs.Elements.{element_of, blank}
 use Rattle.offer.specs.declared.Element.{Element}
 use Rattle.offer.specs.declared.Offer.{Offer}
@@ -13,5 +12,5 @@ element id kind health blocks = element_of (record { 0 = id }) kind health false
 abbrev pub elements_a : List Element
 elements_a = element 1 1 0x20 1000 ∷ element 3 1 0x10 1500 ∷ element 0x0001_0003 1 0x70 500 ∷ element 0x0002_0000 2 0 0 ∷ replicate 124 blank
 
-abbrev pub offer_a : Reading → ℕ → Offer
-offer_a reading limit = record { elements = elements_a; count = 4; limit = limit; reading = reading }
+abbrev pub offer_a : ℕ → Offer
+offer_a limit = record { elements = elements_a; count = 4; limit = limit }

@@ -7,7 +7,7 @@ ghost use Rattle.offer.specs.Elements.{offered, part_of};
 ghost use Rattle.offer.specs.Private as private;
 ghost use Rattle.offer.specs.Search as search;
 
-use paper::{ElementId, Reading};
+use paper::ElementId;
 use table::{Part, Table};
 
 // An element as document 01 has it in an offered table; `kind` is its type, a word that the language keeps. As a part, it has a field for each
@@ -23,13 +23,12 @@ pub struct Element {
     pub blocks: u64,
 }
 
-// An offered table, and the reading that it is to be built for.
+// An offered table.
 #[derive(Drop)]
 pub struct Offer {
     pub elements: [Element; 128],
     pub count: usize,
     pub limit: u16,
-    pub reading: Reading,
 }
 
 // What the check says: 8, or 0 with the blocks of all elements.
@@ -238,12 +237,10 @@ impl Offer {
     {
         let es = self.elements;
         let parts = parts_of(es, self.count);
-        let reading = self.reading;
         Table {
             parts,
             count: self.count,
             limit: self.limit,
-            reading,
         }
     }
 

@@ -1,6 +1,5 @@
 -- What is proved of `paper`'s definitions, and of its functions.
 pub mod Once
 pub mod Output
-pub mod Readings
 pub mod Senses
 pub mod Table12

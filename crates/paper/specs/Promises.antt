@@ -1,15 +1,11 @@
--- What holds of every answer, of bytes in a lent buffer, of table 12, and of a reading's number. Each is a statement; proofs/ has the proof under the
--- same name in lower case.
+-- What holds of every answer, of bytes in a lent buffer, and of table 12. Each is a statement; proofs/ has the proof under the same name in lower case.
 use Rattle.std.specs.Prelude.{ℕ, List, [], ◌≡◌, eqb, get_or}
 use Rattle.paper.specs.Answers.{number_of}
 use Rattle.paper.specs.Output.{Output, output, written}
-use Rattle.paper.specs.Readings.{reading_number, reading_named}
 use Rattle.paper.specs.Table12.{aborts, grid, row_of, column_of}
 use Rattle.paper.specs.Told.{Told, said}
 use Rattle.paper.specs.declared.Answer.{Answer}
 use Rattle.paper.specs.declared.Command.{Command}
-use Rattle.paper.specs.declared.Named.TheVariants.{One}
-use Rattle.paper.specs.declared.Reading.{Reading}
 use Rattle.paper.specs.declared.Security.{Security}
 
 -- no two answers have one number
@@ -32,7 +28,3 @@ RefusalWritesNothing = (bytes out : List ℕ) → ((written bytes out).number �
 -- "A two by three array of arrays: the command's row by the security state's column": its 1s are what table 12 aborts
 abbrev pub GridRight : Type 0
 GridRight = (k : Command) (s : Security) → eqb (get_or (get_or grid (row_of k) []) (column_of s) 0) 1 ≡ aborts k s
-
--- a number names a reading exactly if it is its own
-abbrev pub NamesItsOwn : Type 0
-NamesItsOwn = (n : ℕ) (v : Reading) → (n ≡ reading_number v → reading_named n ≡ One v) × (reading_named n ≡ One v → n ≡ reading_number v)

@@ -1,9 +1,7 @@
 // What document 01 speaks of (identifiers, addresses, page counts, security) and what a call says.
 ghost use Rattle.std.specs.Prelude.{◌≡◌};
 ghost use Rattle.paper.specs.Answers.{number_of, sense_of};
-ghost use Rattle.paper.specs.Elements.{lowest_code};
 ghost use Rattle.paper.specs.Flags.{is_on};
-ghost use Rattle.paper.specs.Readings.{reading_number, reading_named};
 ghost use Rattle.paper.specs.Registers.{low48};
 ghost use Rattle.paper.specs.Table12.{aborts, row_of, column_of};
 
@@ -33,20 +31,6 @@ pub enum Security {
 pub enum Command {
     Remove,
     Status,
-}
-
-// Which codes a health has: document 01's, or the later ones beside them (request 2026-07).
-#[derive(Drop)]
-pub enum Reading {
-    First,
-    Second,
-}
-
-// What a number names of them.
-#[derive(Drop)]
-pub enum Named {
-    No,
-    One(Reading),
 }
 
 // What a device call says. The page reader's 9 has a byte place and an answer of its own.
@@ -102,37 +86,6 @@ impl Lba {
         ensures { result ≡ low48 self }
     {
         Lba(self.0 % 281474976710656)
-    }
-}
-
-// The lowest health that tells of depopulation; the highest is FFh.
-pub fn lowest_code(reading: Reading) -> u8
-    ensures { result ≡ lowest_code reading }
-{
-    match reading {
-        Reading::First => 0xFF,
-        Reading::Second => 0xFB,
-    }
-}
-
-// The number of a reading: 1 or 2.
-pub fn reading_number(reading: Reading) -> u8
-    ensures { result ≡ reading_number reading }
-{
-    match reading {
-        Reading::First => 1,
-        Reading::Second => 2,
-    }
-}
-
-// The reading of a number, if it is one's.
-pub fn reading_named(number: u64) -> Named
-    ensures { result ≡ reading_named number }
-{
-    match number {
-        1 => Named::One(Reading::First),
-        2 => Named::One(Reading::Second),
-        _ => Named::No,
     }
 }
 

@@ -18,7 +18,6 @@ use Rattle.layout.specs.Bytes.{descriptor_in}
 use Rattle.layout.specs.declared.Descriptor.{Descriptor}
 use Rattle.offences.specs.Checks.{base_of}
 use Rattle.paper.specs.declared.ElementId.{ElementId}
-use Rattle.paper.specs.declared.Reading.{Reading}
 use Rattle.reach.specs.Opening.{accepted}
 use Rattle.reach.specs.Pages.{count_of, element_at, bound_of, end_of}
 use Rattle.request.specs.Requests.{pages_of}
@@ -30,24 +29,24 @@ use Rattle.parts.specs.Promises.{HandsOut, HandsOutEach}
 
 pub hands_out : HandsOut
 unfolding descriptor_part element_at
-hands_out v s q k is_accepted_lem l =
-    let long : length s ≡ 512 * pages_of q = (is_taken v s q is_accepted_lem).long in
-    let room : 32 ≤ length (drop (base_of k) s) = omega (arith, l, long, count_room v s q is_accepted_lem, length-drop (base_of k) s) in
+hands_out s q k is_accepted_lem l =
+    let long : length s ≡ 512 * pages_of q = (is_taken s q is_accepted_lem).long in
+    let room : 32 ≤ length (drop (base_of k) s) = omega (arith, l, long, count_room s q is_accepted_lem, length-drop (base_of k) s) in
     let whole : descriptor_part s k ≡ take 32 (drop (base_of k) s) = rw (lt-ltb k (count_of s) l, le-ltb (length (drop (base_of k) s)) 32 room) in (
       ap length whole ∙ length-take-le 32 (drop (base_of k) s) room,
       ap (descriptor_in Little) whole ∙ part_read Little (drop (base_of k) s),
     )
 
-module _ (v : Reading) (s t : List ℕ) (q : Request) (of_s : accepted v s q ≡ true) (of_t : accepted v t q ≡ true) where
+module _ (s t : List ℕ) (q : Request) (of_s : accepted s q ≡ true) (of_t : accepted t q ≡ true) where
   -- what is promised of a line
   abbrev Handed : Line → Type 0
   Handed l = (length (part_of s t l) ≡ 32) × ((descriptor_in Little (part_of s t l)).id ≡ id_of s t l)
 
   of_older : (id : ElementId) (i : ℕ) → standing s id ≡ stands i → Handed (OnlyOlder i)
-  of_older id i e = let (long, equal) = hands_out v s q i of_s ((stands_for s id i).0 e).0 in (long, ap (λ (d : Descriptor). d.id) equal)
+  of_older id i e = let (long, equal) = hands_out s q i of_s ((stands_for s id i).0 e).0 in (long, ap (λ (d : Descriptor). d.id) equal)
 
   of_newer : (id : ElementId) (j : ℕ) → standing t id ≡ stands j → Handed (OnlyNewer j)
-  of_newer id j e = let (long, equal) = hands_out v t q j of_t ((stands_for t id j).0 e).0 in (long, ap (λ (d : Descriptor). d.id) equal)
+  of_newer id j e = let (long, equal) = hands_out t q j of_t ((stands_for t id j).0 e).0 in (long, ap (λ (d : Descriptor). d.id) equal)
 
   every_both : (ls ms : List Line) → Every Handed ls → Every Handed ms → Every Handed (ls ++ ms)
   every_both [] ms p q = q
@@ -76,4 +75,4 @@ module _ (v : Reading) (s t : List ℕ) (q : Request) (of_s : accepted v s q ≡
 
 pub hands_out_each : HandsOutEach
 unfolding differences_of
-hands_out_each v s t q of_s of_t = handed_in v s t q of_s of_t (end_of (bound_of s t)).0 1
+hands_out_each s t q of_s of_t = handed_in s t q of_s of_t (end_of (bound_of s t)).0 1

@@ -5,7 +5,6 @@ use Rattle.compare.specs.Promises.{id_of}
 use Rattle.compare.specs.declared.Line.{Line}
 use Rattle.layout.specs.Bytes.{descriptor_in}
 use Rattle.layout.specs.Reserved.{DescriptorsAlike}
-use Rattle.paper.specs.declared.Reading.{Reading}
 use Rattle.reach.specs.Opening.{accepted}
 use Rattle.reach.specs.Pages.{count_of, element_at}
 use Rattle.reader.specs.Reserved.{LooksAlike}
@@ -17,13 +16,13 @@ use Rattle.parts.specs.Parts.{descriptor_part, part_of}
 -- of an accepted page, each descriptor is handed out whole, and reads as what stands there
 abbrev pub HandsOut : Type 0
 HandsOut =
-    (v : Reading) (s : List ℕ) (q : Request) (k : ℕ) → accepted v s q ≡ true → k < count_of s
+    (s : List ℕ) (q : Request) (k : ℕ) → accepted s q ≡ true → k < count_of s
     → (length (descriptor_part s k) ≡ 32) × (descriptor_in Little (descriptor_part s k) ≡ element_at s k)
 
 -- "For each line the tool hands out the descriptor itself": 32 bytes with the line's identifier
 abbrev pub HandsOutEach : Type 0
 HandsOutEach =
-    (v : Reading) (s t : List ℕ) (q : Request) → accepted v s q ≡ true → accepted v t q ≡ true
+    (s t : List ℕ) (q : Request) → accepted s q ≡ true → accepted t q ≡ true
     → Every (λ l. (length (part_of s t l) ≡ 32) × ((descriptor_in Little (part_of s t l)).id ≡ id_of s t l)) (differences_of s t)
 
 -- of pages that look alike a line hands out descriptors that are alike; s and t look like s' and t'

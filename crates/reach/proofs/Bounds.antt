@@ -13,7 +13,6 @@ use Rattle.layout.specs.declared.Header.{Header}
 use Rattle.offences.specs.Checks.{descriptor_at, last_before}
 use Rattle.paper.specs.Told.{tells}
 use Rattle.paper.specs.declared.ElementId.{ElementId}
-use Rattle.paper.specs.declared.Reading.{Reading}
 use Rattle.reader.specs.Judgement as judgement
 use Rattle.reader.specs.declared.Judgement.TheVariants as says
 use Rattle.reader.specs.declared.Judgement.{Judgement}
@@ -29,32 +28,32 @@ use Rattle.reach.specs.declared.Turn.TheVariants.{Older, Newer}
 
 -- ## Both judged
 
-module _ (v : Reading) (s : List ℕ) (q : Request) (r : Judgement) (is_r : judgement.heard r ≡ judgement.read_of Little v s q) where
-  accepted_yes : (h : Header) → r ≡ says.Accepted h → accepted v s q ≡ true
+module _ (s : List ℕ) (q : Request) (r : Judgement) (is_r : judgement.heard r ≡ judgement.read_of Little s q) where
+  accepted_yes : (h : Header) → r ≡ says.Accepted h → accepted s q ≡ true
   unfolding accepted
   accepted_yes h e = rw (← is_r, e)
 
-  accepted_no : (p : ℕ) → r ≡ says.Refused p → accepted v s q ≡ false
+  accepted_no : (p : ℕ) → r ≡ says.Refused p → accepted s q ≡ false
   unfolding accepted
   accepted_no p e = rw (← is_r, e)
 
-module _ (v : Reading) (s t : List ℕ) (q : Request) (a : Judgement) (is_a : judgement.heard a ≡ judgement.read_of Little v s q) where
-  pub open_older : (p : ℕ) → a ≡ says.Refused p → tells 9 (turn Older) ≡ open_of v s t q
-  open_older p e = sym (rw (accepted_no v s q a is_a p e))
+module _ (s t : List ℕ) (q : Request) (a : Judgement) (is_a : judgement.heard a ≡ judgement.read_of Little s q) where
+  pub open_older : (p : ℕ) → a ≡ says.Refused p → tells 9 (turn Older) ≡ open_of s t q
+  open_older p e = sym (rw (accepted_no s q a is_a p e))
 
-  module _ (h : Header) (y : a ≡ says.Accepted h) (b : Judgement) (is_b : judgement.heard b ≡ judgement.read_of Little v t q) where
-    pub open_newer : (p : ℕ) → b ≡ says.Refused p → tells 9 (turn Newer) ≡ open_of v s t q
-    open_newer p e = sym (rw (accepted_yes v s q a is_a h y, accepted_no v t q b is_b p e))
+  module _ (h : Header) (y : a ≡ says.Accepted h) (b : Judgement) (is_b : judgement.heard b ≡ judgement.read_of Little t q) where
+    pub open_newer : (p : ℕ) → b ≡ says.Refused p → tells 9 (turn Newer) ≡ open_of s t q
+    open_newer p e = sym (rw (accepted_yes s q a is_a h y, accepted_no t q b is_b p e))
 
-    pub open_both : (g : Header) → b ≡ says.Accepted g → (m : Bound) → m ≡ bound_of s t → tells 0 (bound m) ≡ open_of v s t q
-    open_both g z m is_m = sym (rw (accepted_yes v s q a is_a h y, accepted_yes v t q b is_b g z, ← is_m))
+    pub open_both : (g : Header) → b ≡ says.Accepted g → (m : Bound) → m ≡ bound_of s t → tells 0 (bound m) ≡ open_of s t q
+    open_both g z m is_m = sym (rw (accepted_yes s q a is_a h y, accepted_yes t q b is_b g z, ← is_m))
 
-module _ (v : Reading) (s t : List ℕ) where
-  pub older_long : 65536 < length s → tells 9 (turn Older) ≡ judged v s t
+module _ (s t : List ℕ) where
+  pub older_long : 65536 < length s → tells 9 (turn Older) ≡ judged s t
   unfolding judged
   older_long h = sym (rw (lt-ltb _ _ h))
 
-  pub both_read : length s ≤ 65536 → (q : Request) → q ≡ request_of s → (r : Opening) → heard r ≡ open_of v s t q → heard r ≡ judged v s t
+  pub both_read : length s ≤ 65536 → (q : Request) → q ≡ request_of s → (r : Opening) → heard r ≡ open_of s t q → heard r ≡ judged s t
   unfolding judged
   both_read h q is_q r e = e ∙ rw is_q (sym (rw (le-ltb _ _ h)))
 

@@ -9,7 +9,6 @@ use lib.Dec.{leb}
 use borrow.Author.Tests.{lt-ltb, leb-true, leb-false, eqb-true}
 use Rattle.layout.specs.Bytes.{header_in, room_of}
 use Rattle.offences.specs.Checks.{descriptor_at, last_before}
-use Rattle.paper.specs.declared.Reading.{Reading}
 use Rattle.reader.proofs.Taken.{Taken, taken}
 use Rattle.request.specs.Requests.{pages_of}
 use Rattle.request.specs.declared.Request.{Request}
@@ -19,7 +18,7 @@ use Rattle.reach.specs.Pages.{count_of, element_at, reach_of}
 use Rattle.reach.specs.declared.Bound.TheVariants.{UpTo}
 use Rattle.reach.specs.Promises.{CutBounds}
 
-module _ (v : Reading) (s : List ℕ) (q : Request) (page : Taken Little v s q) (cut : (header_in Little s).returned < (header_in Little s).number) where
+module _ (s : List ℕ) (q : Request) (page : Taken Little s q) (cut : (header_in Little s).returned < (header_in Little s).number) where
   abbrev returned : ℕ
   returned = (header_in Little s).returned
 
@@ -42,11 +41,11 @@ module _ (v : Reading) (s : List ℕ) (q : Request) (page : Taken Little v s q) 
 
 pub cut_bounds : CutBounds
 unfolding accepted count_of element_at reach_of
-cut_bounds v s q ok cut =
-    let page : Taken Little v s q = taken Little v s q (eqb-true _ _ ok) in
+cut_bounds s q ok cut =
+    let page : Taken Little s q = taken Little s q (eqb-true _ _ ok) in
     let n : ℕ = (header_in Little s).returned in
-    let at_last = last v s q page cut n refl in (
-      full v s q page cut (leb (room_of (pages_of q)) (header_in Little s).number) refl,
+    let at_last = last s q page cut n refl in (
+      full s q page cut (leb (room_of (pages_of q)) (header_in Little s).number) refl,
       rw (lt-ltb n (header_in Little s).number cut) (ap (λ (id : ℕ). UpTo (record { 0 = id })) at_last.0),
       at_last.1,
     )

@@ -5,7 +5,6 @@ use mathlib.Core.List.{List}
 use mathlib.Core.Path.{◌≡◌}
 use lib.Dec.{eqb, ltb}
 use Rattle.paper.specs.Told.{tells}
-use Rattle.paper.specs.declared.Reading.{Reading}
 use Rattle.reader.proofs.Reserved.{header_same, descriptor_same, last_same, read_same}
 use Rattle.reader.specs.Reserved.{LooksAlike}
 use Rattle.request.specs.Requests.{request_for}
@@ -28,9 +27,9 @@ module _ (s s' : List ℕ) (alike : LooksAlike Little s s') where
   unfolding element_at
   element-same = descriptor_same Little s s' alike
 
-  accepted-same : (v : Reading) (q : Request) → accepted v s q ≡ accepted v s' q
+  accepted-same : (q : Request) → accepted s q ≡ accepted s' q
   unfolding accepted
-  accepted-same v q = λ i. eqb (read_same Little s s' alike v q i).number 0
+  accepted-same q = λ i. eqb (read_same Little s s' alike q i).number 0
 
   pub reach_same : reach_of s ≡ reach_of s'
   unfolding reach_of
@@ -45,16 +44,15 @@ module _ (s s' t t' : List ℕ) (older : LooksAlike Little s s') (newer : LooksA
   unfolding bound_of
   bound_same = λ i. smallest (reach_same s s' older i) (reach_same t t' newer i)
 
-  module _ (v : Reading) where
-    open_same : (q : Request) → open_of v s t q ≡ open_of v s' t' q
-    open_same q = λ i.
-        cond (accepted-same s s' older v q i)
-        (cond (accepted-same t t' newer v q i) (tells 0 (bound (bound_same i))) (tells 9 (turn Newer)))
-        (tells 9 (turn Older))
+  open_same : (q : Request) → open_of s t q ≡ open_of s' t' q
+  open_same q = λ i.
+      cond (accepted-same s s' older q i)
+      (cond (accepted-same t t' newer q i) (tells 0 (bound (bound_same i))) (tells 9 (turn Newer)))
+      (tells 9 (turn Older))
 
-    judged-same : judged v s t ≡ judged v s' t'
-    unfolding judged
-    judged-same = λ i. cond (ltb 65536 (older.long i)) (tells 9 (turn Older)) (open_same (request_for (older.long i / 512)) i)
+  judged-same : judged s t ≡ judged s' t'
+  unfolding judged
+  judged-same = λ i. cond (ltb 65536 (older.long i)) (tells 9 (turn Older)) (open_same (request_for (older.long i / 512)) i)
 
 pub reserved_unopened : ReservedUnopened
-reserved_unopened v s s' t t' older newer = (open_same s s' t t' older newer v, judged-same s s' t t' older newer v)
+reserved_unopened s s' t t' older newer = (open_same s s' t t' older newer, judged-same s s' t t' older newer)

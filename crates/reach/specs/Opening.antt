@@ -1,7 +1,6 @@
 -- "Compare two that the reader accepted for the same request"; "Refusals: 9 with the page's turn, older first."
 use Rattle.std.specs.Prelude.{ℕ, Bool, cond, List, eqb, ltb, length}
 use Rattle.paper.specs.Told.{Told, tells}
-use Rattle.paper.specs.declared.Reading.{Reading}
 use Rattle.reader.specs.Judgement.{read_of}
 use Rattle.request.specs.Requests.{request_of}
 use Rattle.request.specs.declared.Request.{Request}
@@ -22,14 +21,14 @@ abbrev pub heard : Opening → Told Values
 heard (Accepted b) = tells 0 (bound b)
 heard (Refused t) = tells 9 (turn t)
 
--- the reader accepts the page for the request, in the reading that it is told
-unfoldable pub accepted : Reading → List ℕ → Request → Bool
-accepted v s q = eqb (read_of Little v s q).number 0
+-- the reader accepts the page for the request
+unfoldable pub accepted : List ℕ → Request → Bool
+accepted s q = eqb (read_of Little s q).number 0
 
-abbrev pub open_of : Reading → List ℕ → List ℕ → Request → Told Values
-open_of v s t q = cond (accepted v s q) (cond (accepted v t q) (tells 0 (bound (bound_of s t))) (tells 9 (turn Newer))) (tells 9 (turn Older))
+abbrev pub open_of : List ℕ → List ℕ → Request → Told Values
+open_of s t q = cond (accepted s q) (cond (accepted t q) (tells 0 (bound (bound_of s t))) (tells 9 (turn Newer))) (tells 9 (turn Older))
 
 -- "As many pages as the files have, up to 65,536 bytes each, request as for the listing": it is one request, so with the older's pages. An
 -- older page of more bytes is refused here; a newer one of another length than the older's, by the reader
-unfoldable pub judged : Reading → List ℕ → List ℕ → Told Values
-judged v s t = cond (ltb 65536 (length s)) (tells 9 (turn Older)) (open_of v s t (request_of s))
+unfoldable pub judged : List ℕ → List ℕ → Told Values
+judged s t = cond (ltb 65536 (length s)) (tells 9 (turn Older)) (open_of s t (request_of s))

@@ -1,13 +1,12 @@
 // How far a status page reaches; how far two are compared, or which of them is refused.
 ghost use Rattle.std.specs.Prelude.{◌≡◌};
 ghost use Rattle.offences.specs.Checks.{last_before};
-ghost use Rattle.paper.specs.declared.Reading.TheVariants.{First};
 ghost use Rattle.words.specs.declared.Order.TheVariants.{Little};
 ghost use Rattle.reach.specs.Opening.{heard, open_of, judged};
 ghost use Rattle.reach.specs.Pages.{reach_of, smallest, bound_of, end_of};
 
 use layout::Header;
-use paper::{ElementId, PageCount, Reading};
+use paper::{ElementId, PageCount};
 use reader::Judgement;
 use request::Request;
 use words::Order;
@@ -74,13 +73,13 @@ fn bound_of(older: &[u8], newer: &[u8]) -> Bound
 }
 
 // Whether two pages can be compared as answers to one request, and how far.
-pub fn open(older: &[u8], newer: &[u8], request: Request, reading: Reading) -> Opening
-    ensures { heard result ≡ open_of reading older.now newer.now request }
+pub fn open(older: &[u8], newer: &[u8], request: Request) -> Opening
+    ensures { heard result ≡ open_of older.now newer.now request }
 {
-    if let Judgement::Refused(_) = reader::read(older, request, reading) {
+    if let Judgement::Refused(_) = reader::read(older, request) {
         return Opening::Refused(Turn::Older);
     }
-    if let Judgement::Refused(_) = reader::read(newer, request, reading) {
+    if let Judgement::Refused(_) = reader::read(newer, request) {
         return Opening::Refused(Turn::Newer);
     }
     Opening::Accepted(bound_of(older, newer))
@@ -88,13 +87,13 @@ pub fn open(older: &[u8], newer: &[u8], request: Request, reading: Reading) -> O
 
 // Both pages as answers to the listing's request, with as many pages as the older has.
 pub fn judge(older: &[u8], newer: &[u8]) -> Opening
-    ensures { heard result ≡ judged First older.now newer.now }
+    ensures { heard result ≡ judged older.now newer.now }
 {
     if 65536 < older.len() {
         return Opening::Refused(Turn::Older);
     }
     let pages = PageCount((older.len() / 512) as u16);
-    open(older, newer, request::request_for(pages), Reading::First)
+    open(older, newer, request::request_for(pages))
 }
 
 fn end_of(b: Bound) -> ElementId

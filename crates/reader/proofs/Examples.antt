@@ -8,8 +8,6 @@ use lib.ListN.{get_or, set, take, drop, replicate}
 use Rattle.layout.specs.Examples.{zeros, header_g1, element_g1, front_g1, page_g1}
 use Rattle.layout.specs.Reserved.{in_header, in_descriptor}
 use Rattle.paper.specs.Told.{tells}
-use Rattle.paper.specs.declared.Reading.TheVariants.{First, Second}
-use Rattle.paper.specs.declared.Reading.{Reading}
 use Rattle.request.specs.Requests.{refused, takes_health}
 use Rattle.request.specs.declared.Request.{Request}
 use Rattle.slices.specs.Lists.{all, up_to}
@@ -20,7 +18,7 @@ use Rattle.reader.specs.declared.Slot.TheVariants.{Outside, Holds}
 abbrev request : ℕ → ℕ → ℕ → Request
 request feature count lba = record { feature = feature; count = record { 0 = count }; lba = record { 0 = lba } }
 
-G1Read : read_of Little First page_g1 (request 0x4100 1 0) ≡ tells 0 (header header_g1)
+G1Read : read_of Little page_g1 (request 0x4100 1 0) ≡ tells 0 (header header_g1)
 unfolding refused takes_health
 G1Read = refl
 
@@ -33,12 +31,9 @@ abbrev is_at : ℕ → Values → Bool
 is_at p (header h) = false
 is_at p (place r) = eqb p r
 
--- refused at the place, in a reading and for a request
-abbrev refused_in : Reading → Request → ℕ → List ℕ → Bool
-refused_in v q p s = is_at p (read_of Little v s q).state
-
+-- refused at the place, for a request
 abbrev refused_for : Request → ℕ → List ℕ → Bool
-refused_for q p s = refused_in First q p s
+refused_for q p s = is_at p (read_of Little s q).state
 
 -- for G1's
 abbrev refused_at : ℕ → List ℕ → Bool
@@ -64,36 +59,15 @@ tried : all (λ (b : Bool). b)
     ∷ refused_at 45 (set (set (set page_g1 45 1) 46 2) 511 7)
     ∷ refused_at 47 (set (set page_g1 47 0) 64 9)
     -- in the other order N is 0100_0000h
-    ∷ is_at 4 (read_of Big First page_g1 (request 0x4100 1 0)).state
+    ∷ is_at 4 (read_of Big page_g1 (request 0x4100 1 0)).state
     ∷ []) ≡ true
 unfolding refused takes_health
 tried = refl
 
--- ## In the second reading
-
--- G1's page with another health is taken, for a FEATURE
-abbrev taken : Reading → ℕ → ℕ → Bool
-taken v feature health = eqb (read_of Little v (set page_g1 47 health) (request feature 1 0)).number 0
-
--- it is refused at byte 15 of its descriptor, for G1's
-abbrev outside : Reading → ℕ → Bool
-outside v health = refused_in v (request 0x4100 1 0) 47 (set page_g1 47 health)
-
--- FBh to FEh pass its filter and not the first's, D0h and FAh pass neither; without the filter each is taken
-readings_tried : all (λ (b : Bool). b)
-    (all (taken First 0x4100) (0x65 ∷ 0xCF ∷ 0xFF ∷ [])
-    ∷ all (outside First) (0x64 ∷ 0xD0 ∷ 0xFA ∷ 0xFB ∷ 0xFE ∷ [])
-    ∷ all (taken Second 0x4100) (0x65 ∷ 0xCF ∷ 0xFB ∷ 0xFE ∷ 0xFF ∷ [])
-    ∷ all (outside Second) (0x64 ∷ 0xD0 ∷ 0xFA ∷ [])
-    ∷ all (λ (v : Reading). all (taken v 0x0100) (0x64 ∷ 0xD0 ∷ 0xFA ∷ 0xFE ∷ [])) (First ∷ Second ∷ [])
-    ∷ []) ≡ true
-unfolding refused takes_health
-readings_tried = refl
-
 -- ## Read to the last byte
 
 -- padding is looked at
-padding : (read_of Little First (front_g1 ++ zeros 447 ++ (7 ∷ [])) (request 0x4100 1 0)).state ≡ place 511
+padding : (read_of Little (front_g1 ++ zeros 447 ++ (7 ∷ [])) (request 0x4100 1 0)).state ≡ place 511
 unfolding refused takes_health
 padding = refl
 
@@ -106,7 +80,7 @@ ones n = replicate n 0xFF
 abbrev wild : List ℕ
 wild = take 16 front_g1 ++ ones 20 ++ take 4 (drop 36 front_g1) ++ ones 5 ++ (0xFE ∷ take 10 (drop 46 front_g1)) ++ ones 8 ++ zeros 448
 
-reserved : (read_of Little First wild (request 0x4100 1 0) ≡ tells 0 (header header_g1)) × (slot_of Little wild 0 ≡ Holds element_g1)
+reserved : (read_of Little wild (request 0x4100 1 0) ≡ tells 0 (header header_g1)) × (slot_of Little wild 0 ≡ Holds element_g1)
 unfolding refused takes_health
 reserved = (refl, refl)
 

@@ -4,19 +4,18 @@ use mathlib.Core.List.{List}
 use mathlib.Core.Path.{◌≡◌}
 use Rattle.offences.specs.Checks.{offence_at}
 use Rattle.offences.specs.First.{first_below}
-use Rattle.paper.specs.declared.Reading.{Reading}
 use Rattle.request.proofs.Requests.{refused-same}
 use Rattle.request.specs.Requests.{SameFields}
 use Rattle.request.specs.declared.Request.{Request}
 use Rattle.words.specs.declared.Order.{Order}
 use Rattle.reader.specs.Promises.{IgnoredUnread}
 
-module _ (o : Order) (v : Reading) (s : List ℕ) (p q : Request) (same : SameFields p q) where
-  offence_same : (k : ℕ) → offence_at o v s p k ≡ offence_at o v s q k
+module _ (o : Order) (s : List ℕ) (p q : Request) (same : SameFields p q) where
+  offence_same : (k : ℕ) → offence_at o s p k ≡ offence_at o s q k
   offence_same k = rw (same.start, same.report, same.filter)
 
-  list_same : (n : ℕ) → first_below n (offence_at o v s p) ≡ first_below n (offence_at o v s q)
+  list_same : (n : ℕ) → first_below n (offence_at o s p) ≡ first_below n (offence_at o s q)
   list_same n = λ i. first_below n (λ k. offence_same k i)
 
 pub ignored_unread : IgnoredUnread
-ignored_unread o v s p q same = rw (refused-same p q same, same.pages, list_same o v s p q same _)
+ignored_unread o s p q same = rw (refused-same p q same, same.pages, list_same o s p q same _)

@@ -15,10 +15,8 @@ use Rattle.offences.specs.Checks.{base_of, descriptor_at, last_before, in_turn, 
 use Rattle.offences.specs.First.{unless, ◌orElse◌, first_below}
 use Rattle.offences.specs.declared.Offence.TheVariants.{Clean, At}
 use Rattle.offences.specs.declared.Offence.{Offence}
-use Rattle.paper.specs.Elements.{storage_type, slow, lowest_code, tells_depopulation}
+use Rattle.paper.specs.Elements.{storage_type, removed_health, slow, graded_health}
 use Rattle.paper.specs.Told.{Told, tells}
-use Rattle.paper.specs.declared.Reading.TheVariants.{First, Second}
-use Rattle.paper.specs.declared.Reading.{Reading}
 use Rattle.request.proofs.Requests.{accepted_lem, not-refused}
 use Rattle.request.proofs.ReservedBits.{unset_exactly}
 use Rattle.request.specs.Requests.{filter_of, report_type_of, pages_of, start_of, refused, takes_id, takes_type, in_filter, takes_health}
@@ -81,66 +79,53 @@ type_exactly r kind = (
   λ f. implies (eqb r 1) (storage_type kind) (λ y. eq-eqb _ _ (f (eqb-true _ _ y))),
 )
 
-between : (a b h : ℕ) → (leb a h && leb h b) ≡ true → (a ≤ h) × (h ≤ b)
-between a b h e = let both = and_both (leb a h) (leb h b) e in (leb-true _ _ both.0, leb-true _ _ both.1)
+filter_to : (h : ℕ) → in_filter h ≡ true → InFilter h
+filter_to h e =
+    ⊎_elim
+    (λ x. let b = and_both (leb 0x65 h) (graded_health h) x in inl (leb-true _ _ b.0, leb-true _ _ b.1))
+    (λ x. inr (eqb-true _ _ x))
+    (or_either (slow h) (removed_health h) e)
 
--- what the filter lets through, over the lowest code
-module _ (v : Reading) (h : ℕ) where
-  abbrev LetThrough : Type 0
-  LetThrough = ((0x65 ≤ h) × (h ≤ 0xCF)) ⊎ ((lowest_code v ≤ h) × (h ≤ 0xFF))
+filter_from : (h : ℕ) → InFilter h → in_filter h ≡ true
+filter_from h (inl (low, high)) = rw (le-leb 0x65 h low, le-leb h 0xCF high)
+filter_from h (inr e) = rw (eq-eqb h 0xFF e, or-true)
 
-  through_to : in_filter v h ≡ true → LetThrough
-  through_to e = ⊎_elim (λ x. inl (between 0x65 0xCF h x)) (λ x. inr (between (lowest_code v) 0xFF h x)) (or_either (slow h) (tells_depopulation v h) e)
-
-  through_from : LetThrough → in_filter v h ≡ true
-  through_from (inl (low, high)) = rw (le-leb 0x65 h low, le-leb h 0xCF high)
-  through_from (inr (low, high)) = rw (le-leb (lowest_code v) h low, le-leb h 0xFF high, or-true)
-
-filter_to : (v : Reading) (h : ℕ) → in_filter v h ≡ true → InFilter v h
-filter_to First h e = ⊎_elim inl (λ (low, high). inr (omega arith)) (through_to First h e)
-filter_to Second h e = through_to Second h e
-
-filter_from : (v : Reading) (h : ℕ) → InFilter v h → in_filter v h ≡ true
-filter_from First h (inl slow) = through_from First h (inl slow)
-filter_from First h (inr e) = through_from First h (inr (omega arith, omega arith))
-filter_from Second h f = through_from Second h f
-
-pub health_exactly : (v : Reading) (f h : ℕ) → (takes_health v f h ≡ true → f ≡ 1 → InFilter v h) × ((f ≡ 1 → InFilter v h) → takes_health v f h ≡ true)
+pub health_exactly : (f h : ℕ) → (takes_health f h ≡ true → f ≡ 1 → InFilter h) × ((f ≡ 1 → InFilter h) → takes_health f h ≡ true)
 unfolding takes_health
-health_exactly v f h = (
-  λ e y. filter_to v h (implied (eqb f 1) (in_filter v h) e (eq-eqb _ _ y)),
-  λ g. implies (eqb f 1) (in_filter v h) (λ y. filter_from v h (g (eqb-true _ _ y))),
+health_exactly f h = (
+  λ e y. filter_to h (implied (eqb f 1) (in_filter h) e (eq-eqb _ _ y)),
+  λ g. implies (eqb f 1) (in_filter h) (λ y. filter_from h (g (eqb-true _ _ y))),
 )
 
 -- ## The checks decide the rules
 
-descriptor_decides : (v : Reading) (q : Request) (last base : ℕ) (d : Descriptor) → Decides (check_of v q last base d) (descriptor_rules v q last base d)
-descriptor_decides v q last base d =
+descriptor_decides : (q : Request) (last base : ℕ) (d : Descriptor) → Decides (check_of q last base d) (descriptor_rules q last base d)
+descriptor_decides q last base d =
     let type = type_exactly (report_type_of q) d.kind in
-    let health = health_exactly v (filter_of q) d.health in
+    let health = health_exactly (filter_of q) d.health in
     next (in_turn q last d.id.0) (rule (base + 4) _) (turn_to q last d.id.0) (turn_from q last d.id.0) _ _
     (next (earned d) (rule (base + 13) _) (earned_to d) (earned_from d) _ _
     (next (takes_type (report_type_of q) d.kind) (rule (base + 14) _) type.0 type.1 _ _
-    (one_lem (takes_health v (filter_of q) d.health) (rule (base + 15) _) health.0 health.1)))
+    (one_lem (takes_health (filter_of q) d.health) (rule (base + 15) _) health.0 health.1)))
 
 pub next_same : (a b p : ℕ) (c : Offence) (rs : List Rule) → Decides c rs → Decides (unless (eqb a b) p or_else c) (rule p (a ≡ b) ∷ rs)
 next_same a b p = next (eqb a b) (rule p (a ≡ b)) (eqb-true a b) (eq-eqb a b)
 
-module _ (o : Order) (v : Reading) (s : List ℕ) (q : Request) where
-  pub list_decides : (n : ℕ) → Decides (first_below n (offence_at o v s q)) (below n (rules_at o v s q))
-  list_decides n = all-below n (offence_at o v s q) (rules_at o v s q) (λ k. descriptor_decides v q (last_before o s k) (base_of k) (descriptor_at o s k))
+module _ (o : Order) (s : List ℕ) (q : Request) where
+  pub list_decides : (n : ℕ) → Decides (first_below n (offence_at o s q)) (below n (rules_at o s q))
+  list_decides n = all-below n (offence_at o s q) (rules_at o s q) (λ k. descriptor_decides q (last_before o s k) (base_of k) (descriptor_at o s k))
 
   padding_decides : (n from : ℕ) → Decides (first_below n (padding_at s from)) (below n (padding_rules s from))
   padding_decides n from =
       all-below n (padding_at s from) (padding_rules s from)
       (λ i. one_lem (eqb (get_or s (from + i) 0) 0) (rule (from + i) (get_or s (from + i) 0 ≡ 0)) (eqb-true _ _) (eq-eqb _ _))
 
-  page_decides : Decides (page_offence o v s q) (page_rules o v s q)
+  page_decides : Decides (page_offence o s q) (page_rules o s q)
   page_decides =
       let n = (header_in o s).returned in
-      let list : Offence = first_below n (offence_at o v s q) in
+      let list : Offence = first_below n (offence_at o s q) in
       let padding : Offence = first_below (length s - base_of n) (padding_at s (base_of n)) in
-      let rest : List Rule = below n (rules_at o v s q) ++ below (length s - base_of n) (padding_rules s (base_of n)) in
+      let rest : List Rule = below n (rules_at o s q) ++ below (length s - base_of n) (padding_rules s (base_of n)) in
       next (not (refused q)) (rule 0 (Asked q)) (λ e. asked_to q (not-true _ e)) (λ a. ap not (asked_from q a)) _ _
       (next_same (length s) (512 * pages_of q) 0 _ _
       (next_same n (returned_of (header_in o s).number (pages_of q)) 4 (list or_else padding) rest
@@ -157,11 +142,11 @@ module _ (o : Order) (s : List ℕ) (q : Request) where
   answered a = answer_of a (header_in o s)
 
 pub takes_exactly : TakesExactly
-takes_exactly o v s q = takes (answered o s q) place refl (λ p. refl) (page_offence o v s q) (page_rules o v s q) (page_decides o v s q)
+takes_exactly o s q = takes (answered o s q) place refl (λ p. refl) (page_offence o s q) (page_rules o s q) (page_decides o s q)
 
 pub refuses_exactly : RefusesExactly
 unfolding placed
-refuses_exactly o v s q = refuses (answered o s q) place refl (λ p. refl) (page_offence o v s q) (page_rules o v s q) (page_decides o v s q) placed (λ p. refl)
+refuses_exactly o s q = refuses (answered o s q) place refl (λ p. refl) (page_offence o s q) (page_rules o s q) (page_decides o s q) placed (λ p. refl)
 
 -- ## What was heard tells the offence
 
@@ -169,17 +154,17 @@ given : Header → Values → Header
 given g (header h) = h
 given g (place p) = g
 
-module _ (o : Order) (v : Reading) (s : List ℕ) (q : Request) where
+module _ (o : Order) (s : List ℕ) (q : Request) where
   -- a header goes with 0, and is the page's
-  pub heard_clean : (h : Header) → tells 0 (header h) ≡ read_of o v s q → (page_offence o v s q ≡ Clean) × (h ≡ header_in o s)
+  pub heard_clean : (h : Header) → tells 0 (header h) ≡ read_of o s q → (page_offence o s q ≡ Clean) × (h ≡ header_in o s)
   unfolding given
   heard_clean h e =
-      let clean : page_offence o v s q ≡ Clean = clean_0 (answered o s q) place refl (λ p. refl) (page_offence o v s q) (ap (λ (t : Told Values). t.number) (sym e)) in
+      let clean : page_offence o s q ≡ Clean = clean_0 (answered o s q) place refl (λ p. refl) (page_offence o s q) (ap (λ (t : Told Values). t.number) (sym e)) in
       (clean, ap (λ (t : Told Values). given h t.state) (e ∙ ap (answered o s q) clean))
 
-  pub heard_at : (p : ℕ) → tells 9 (place p) ≡ read_of o v s q → page_offence o v s q ≡ At p
+  pub heard_at : (p : ℕ) → tells 9 (place p) ≡ read_of o s q → page_offence o s q ≡ At p
   unfolding placed
-  heard_at p e = at_9 (answered o s q) place refl (λ r. refl) placed (λ r. refl) (page_offence o v s q) p (sym e)
+  heard_at p e = at_9 (answered o s q) place refl (λ r. refl) placed (λ r. refl) (page_offence o s q) p (sym e)
 
 tag : Values → ℕ
 tag (header h) = 0
@@ -190,6 +175,5 @@ unfolding tag given
 header_of_lem Clean g h e = (refl, ap (given g) e)
 header_of_lem (At p) g h e = absurd (let no : ◌≡◌ {A = ℕ} 1 0 = ap tag e in omega arith)
 
-pub with_header : (o : Order) (v : Reading) (s : List ℕ) (q : Request) (h : Header) → (read_of o v s q).state ≡ header h
-    → ((read_of o v s q).number ≡ 0) × (header_in o s ≡ h)
-with_header o v s q h = header_of_lem (page_offence o v s q) (header_in o s) h
+pub with_header : (o : Order) (s : List ℕ) (q : Request) (h : Header) → (read_of o s q).state ≡ header h → ((read_of o s q).number ≡ 0) × (header_in o s ≡ h)
+with_header o s q h = header_of_lem (page_offence o s q) (header_in o s) h

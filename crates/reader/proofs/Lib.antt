@@ -8,4 +8,3 @@ pub mod Page
 pub mod Reserved
 pub mod Rules
 pub mod Taken
-pub mod Unfiltered

@@ -18,4 +18,4 @@ back (Accepted h) = refl
 back (Refused p) = refl
 
 pub one_judgement : OneJudgement
-one_judgement t a b is_a is_b = sym (back a) ∙ ap answer (is_a ∙ sym is_b) ∙ back b
+one_judgement o s q a b is_a is_b = sym (back a) ∙ ap answer (is_a ∙ sym is_b) ∙ back b

@@ -16,7 +16,6 @@ use Rattle.layout.specs.declared.Header.{Header}
 use Rattle.offences.proofs.Checks.{before_same, list_same}
 use Rattle.offences.specs.Checks.{base_of, descriptor_at, last_before}
 use Rattle.offences.specs.First.{unless, ◌orElse◌, first_below}
-use Rattle.paper.specs.declared.Reading.{Reading}
 use Rattle.request.specs.Requests.{pages_of, refused}
 use Rattle.request.specs.declared.Request.{Request}
 use Rattle.words.specs.declared.Order.{Order}
@@ -48,23 +47,23 @@ module _ (o : Order) (s t : List ℕ) (alike : LooksAlike o s t) where
   pub last_same : (k : ℕ) → last_before o s k ≡ last_before o t k
   last_same k = before_same o o s t k (λ j less. descriptor_same j)
 
-  module _ (v : Reading) (q : Request) where
+  module _ (q : Request) where
     padding_same : (k : ℕ) → padding_at s (base_of n) k ≡ padding_at t (base_of n) k
     padding_same k = ap (λ (b : ℕ). unless (eqb b 0) (base_of n + k)) (alike.padding (base_of n + k) (omega arith))
 
-    contents_same : contents_of o v s q n ≡ contents_of o v t q (header_in o t).returned
+    contents_same : contents_of o s q n ≡ contents_of o t q (header_in o t).returned
     contents_same =
-        (λ i. list_same o o s t n (λ k less. descriptor_same k) v q i or_else first_below (alike.long i - base_of n) (λ k. padding_same k i))
-        ∙ ap (λ (h : Header). contents_of o v t q h.returned) header_same
+        (λ i. list_same o o s t n (λ k less. descriptor_same k) q i or_else first_below (alike.long i - base_of n) (λ k. padding_same k i))
+        ∙ ap (λ (h : Header). contents_of o t q h.returned) header_same
 
-    offences_same : page_offence o v s q ≡ page_offence o v t q
+    offences_same : page_offence o s q ≡ page_offence o t q
     offences_same = λ i.
         unless (not (refused q)) 0 or_else
         (unless (eqb (alike.long i) (512 * pages_of q)) 0 or_else
         (unless (eqb (header_same i).returned (returned_of (header_same i).number (pages_of q))) 4 or_else
         contents_same i))
 
-    pub read_same : read_of o v s q ≡ read_of o v t q
+    pub read_same : read_of o s q ≡ read_of o t q
     read_same = λ i. answer_of (offences_same i) (header_same i)
 
   slot_same : (k : ℕ) → slot_of o s k ≡ slot_of o t k

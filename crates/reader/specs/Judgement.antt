@@ -6,7 +6,6 @@ use Rattle.offences.specs.Checks.{descriptor_at}
 use Rattle.offences.specs.declared.Offence.TheVariants.{Clean, At}
 use Rattle.offences.specs.declared.Offence.{Offence}
 use Rattle.paper.specs.Told.{Told, tells}
-use Rattle.paper.specs.declared.Reading.{Reading}
 use Rattle.request.specs.declared.Request.{Request}
 use Rattle.words.specs.declared.Order.{Order}
 use Rattle.reader.specs.Page.{page_offence}
@@ -29,9 +28,9 @@ abbrev pub answer_of : Offence → Header → Told Values
 answer_of Clean h = tells 0 (header h)
 answer_of (At p) h = tells 9 (place p)
 
--- a page whose numbers are in an order; document 01's are little-endian. "The reader is told which reading applies" (request 2026-07)
-abbrev pub read_of : Order → Reading → List ℕ → Request → Told Values
-read_of o v s q = answer_of (page_offence o v s q) (header_in o s)
+-- a page whose numbers are in an order; document 01's are little-endian
+abbrev pub read_of : Order → List ℕ → Request → Told Values
+read_of o s q = answer_of (page_offence o s q) (header_in o s)
 
 abbrev pub slot_of : Order → List ℕ → ℕ → Slot
 slot_of o s k = cond (ltb k (header_in o s).returned) (Holds (descriptor_at o s k)) Outside

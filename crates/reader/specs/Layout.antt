@@ -3,8 +3,6 @@ use Rattle.std.specs.Prelude.{ℕ, zero, suc, ◌+◌, ◌-◌, ◌*◌, ◌≤�
 use Rattle.layout.specs.Bytes.{header_in, returned_of}
 use Rattle.layout.specs.declared.Descriptor.{Descriptor}
 use Rattle.offences.specs.Checks.{base_of, descriptor_at, last_before}
-use Rattle.paper.specs.declared.Reading.TheVariants.{First, Second}
-use Rattle.paper.specs.declared.Reading.{Reading}
 use Rattle.request.specs.Requests.{filter_of, report_type_of, pages_of, start_of, FieldsAlone}
 use Rattle.request.specs.declared.Request.{Request}
 use Rattle.words.specs.declared.Order.{Order}
@@ -37,31 +35,30 @@ below (suc n) g = below n g ++ g n
 abbrev pub Asked : Request → Type 0
 Asked q = (filter_of q ≤ 1) × (report_type_of q ≤ 1) × (1 ≤ pages_of q) × FieldsAlone q
 
--- "only health 65h to CFh, or FFh"; and "Newer drives name FBh to FEh" (request 2026-07), which pass in the second reading
-abbrev pub InFilter : Reading → ℕ → Type 0
-InFilter First health = ((0x65 ≤ health) × (health ≤ 0xCF)) ⊎ (health ≡ 0xFF)
-InFilter Second health = ((0x65 ≤ health) × (health ≤ 0xCF)) ⊎ ((0xFB ≤ health) × (health ≤ 0xFF))
+-- "only health 65h to CFh, or FFh"
+abbrev pub InFilter : ℕ → Type 0
+InFilter health = ((0x65 ≤ health) × (health ≤ 0xCF)) ⊎ (health ≡ 0xFF)
 
 -- of a descriptor that starts at `base`, after the identifier `last`: its bytes 4, 13, 14 and 15
-abbrev pub descriptor_rules : Reading → Request → ℕ → ℕ → Descriptor → List Rule
-descriptor_rules v q last base d =
+abbrev pub descriptor_rules : Request → ℕ → ℕ → Descriptor → List Rule
+descriptor_rules q last base d =
     rule (base + 4) ((1 ≤ d.id.0) × (start_of q ≤ d.id.0) × (last < d.id.0))
     ∷ rule (base + 13) (d.restorable ≡ true → d.health ≡ 0xFF)
     ∷ rule (base + 14) (report_type_of q ≡ 1 → d.kind ≡ 1)
-    ∷ rule (base + 15) (filter_of q ≡ 1 → InFilter v d.health)
+    ∷ rule (base + 15) (filter_of q ≡ 1 → InFilter d.health)
     ∷ []
 
-abbrev pub rules_at : Order → Reading → List ℕ → Request → ℕ → List Rule
-rules_at o v s q k = descriptor_rules v q (last_before o s k) (base_of k) (descriptor_at o s k)
+abbrev pub rules_at : Order → List ℕ → Request → ℕ → List Rule
+rules_at o s q k = descriptor_rules q (last_before o s k) (base_of k) (descriptor_at o s k)
 
 -- not: "non-zero padding byte"
 abbrev pub padding_rules : List ℕ → ℕ → ℕ → List Rule
 padding_rules s from i = rule (from + i) (get_or s (from + i) 0 ≡ 0) ∷ []
 
-abbrev pub page_rules : Order → Reading → List ℕ → Request → List Rule
-page_rules o v s q =
+abbrev pub page_rules : Order → List ℕ → Request → List Rule
+page_rules o s q =
     let h = header_in o s in
     rule 0 (Asked q)
     ∷ rule 0 (length s ≡ 512 * pages_of q)
     ∷ rule 4 (h.returned ≡ returned_of h.number (pages_of q))
-    ∷ (below h.returned (rules_at o v s q) ++ below (length s - base_of h.returned) (padding_rules s (base_of h.returned)))
+    ∷ (below h.returned (rules_at o s q) ++ below (length s - base_of h.returned) (padding_rules s (base_of h.returned)))

@@ -8,7 +8,7 @@ ghost use Rattle.reader.specs.Page.{padding_at, contents_of};
 
 use layout::{Descriptor, Header};
 use offences::Offence;
-use paper::{PageCount, Reading};
+use paper::PageCount;
 use request::Request;
 use words::Order;
 
@@ -43,11 +43,11 @@ fn check_padding(page: &[u8], from: usize) -> Offence
 }
 
 // The first offence of the descriptors and of the padding after them.
-fn check_contents(page: &[u8], request: Request, reading: Reading, count: u32, o: Order) -> Offence
+fn check_contents(page: &[u8], request: Request, count: u32, o: Order) -> Offence
     requires { 32 + 32 * count ≤ length page.now }
-    ensures { result ≡ contents_of o reading page.now request count }
+    ensures { result ≡ contents_of o page.now request count }
 {
-    let first = offences::check_list(page, request, reading, count, o);
+    let first = offences::check_list(page, request, count, o);
     if let Offence::At(place) = first {
         return Offence::At(place);
     }
@@ -70,9 +70,9 @@ fn answer(found: Offence, h: Header) -> Judgement
     }
 }
 
-// A page as the answer to a request, in the reading that the reader is told.
-pub fn read(page: &[u8], request: Request, reading: Reading) -> Judgement
-    ensures { paper.heard result ≡ paper.read_of Little reading page.now request }
+// A page as the answer to a request.
+pub fn read(page: &[u8], request: Request) -> Judgement
+    ensures { paper.heard result ≡ paper.read_of Little page.now request }
 {
     if request.is_refused() {
         return Judgement::Refused(0);
@@ -84,8 +84,7 @@ pub fn read(page: &[u8], request: Request, reading: Reading) -> Judgement
     if h.returned as usize != returned_of(h.number, request.count) {
         return Judgement::Refused(4);
     }
-    let found = check_contents(page, request, reading, h.returned, Order::Little);
-    answer(found, h)
+    answer(check_contents(page, request, h.returned, Order::Little), h)
 }
 
 // Descriptor k of a page; outside at or above returned. A byte past the end counts as 0.

@@ -6,15 +6,14 @@ use mathlib.Core.Path.{◌≡◌, sym, ap, ◌∙◌}
 use lib.ListN.{length}
 use borrow.Author.Tests.{ne_eqb}
 use Rattle.calls.proofs.Lists.{made_alike}
-use Rattle.calls.specs.Offered.{array_of}
+use Rattle.calls.specs.Offered.{offer_of}
 use Rattle.device.specs.Machine.{command, told}
 use Rattle.device.specs.declared.Device.{Device}
 use Rattle.image.proofs.Every.{reads_on}
-use Rattle.image.specs.Calls.{told_of, made_as, made_by, made_numbered}
+use Rattle.image.specs.Calls.{told_of, made_as, made_by}
 use Rattle.image.specs.Reading.{device_of}
 use Rattle.image.specs.declared.Image.{Image}
 use Rattle.offer.specs.declared.Element.{Element}
-use Rattle.paper.specs.Readings.{reading_named, by_reading}
 use Rattle.paper.specs.Registers.{Registers}
 use Rattle.paper.specs.Told.{Told, tells}
 use Rattle.paper.specs.declared.Security.{Security}
@@ -42,6 +41,6 @@ module _ (i e : Image) (s : Security) (r : Registers) (buf : List ℕ) (n : ℕ)
     front_status q is_q b out page =
         (is, ap (λ (t : Told (List ℕ)). t.state) page ∙ rw (unchanged, is_q) (sym (shown-alike (device_of i) s r buf is_status).1))
 
-pub made_in_lem : (i : Image) (es : List Element) (limit n : ℕ) → made_numbered i (array_of es) (length es) limit n ≡ made_in i es limit n
+pub made_in_lem : (i : Image) (es : List Element) (limit : ℕ) → made_by i (offer_of es limit) ≡ made_in i es limit
 unfolding made_by
-made_in_lem i es limit n = ap (by_reading (reading_named n) (tells 8 i)) (λ k v. made_as i (sym (made_alike (device_of i) es limit v) k))
+made_in_lem i es limit = ap (made_as i) (sym (made_alike (device_of i) es limit))

@@ -62,13 +62,12 @@ pub part_named : (p : parts.Part)
     → part.val p ≡ vstruct (of_list (single w32 p.id.0 ∷ vint w8 p.kind ∷ vint w8 p.unreported ∷ vint w16 p.spare ∷ vint w64 p.blocks ∷ []))
 part_named p = refl
 
-pub image_laid : Laid (ty image) 2232 (0 ∷ 2048 ∷ 2056 ∷ 2064 ∷ 2072 ∷ 2080 ∷ 2084 ∷ 2088 ∷ 2090 ∷ 2091 ∷ 2092 ∷ 2096 ∷ 2224 ∷ 2228 ∷ [])
+pub image_laid : Laid (ty image) 2224 (0 ∷ 2048 ∷ 2056 ∷ 2064 ∷ 2072 ∷ 2080 ∷ 2084 ∷ 2088 ∷ 2090 ∷ 2091 ∷ 2092 ∷ 2096 ∷ [])
 image_laid = (refl, refl, refl)
 
--- its two arrays are told apart by their sizes
+-- its arrays, the first and the last, are told apart by their sizes
 pub image_named : (i : Image) → i.parts ≡ [] → i.healths ≡ []
     → image.val i ≡ vstruct (of_list (array_val []
     ∷ single w64 i.native.0 ∷ single w64 i.accessible.0 ∷ single w64 i.old.0 ∷ single w64 i.new.0 ∷ single w32 i.element.0
-    ∷ vint w32 i.count ∷ vint w16 i.limit ∷ vint w8 i.full ∷ vint w8 i.failed ∷ vint w32 i.position ∷ array_val []
-    ∷ single w32 i.named.0 ∷ vint w32 i.reading ∷ []))
+    ∷ vint w32 i.count ∷ vint w16 i.limit ∷ vint w8 i.full ∷ vint w8 i.failed ∷ vint w32 i.position ∷ array_val [] ∷ []))
 image_named i p h = rw (p, h) refl

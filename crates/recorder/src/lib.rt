@@ -4,16 +4,16 @@
 ghost use Rattle.std.specs.Prelude.{◌≡◌, length};
 ghost use Rattle.compare.specs.Walk as comparing;
 ghost use Rattle.conduct.specs.Fits.{Fits};
-ghost use Rattle.convert.specs.Convert.{buffer_of};
+ghost use Rattle.convert.specs.Convert.{buffer_of, to_scsi, to_ata};
 ghost use Rattle.device.specs.Machine as machine;
 ghost use Rattle.docklist.specs.Docklist as docklist;
 ghost use Rattle.image.specs.Calls.{told_of};
 ghost use Rattle.image.specs.Reading.{security_of, device_of};
 ghost use Rattle.listing.specs.Listing as listing;
-ghost use Rattle.numbered.specs.Numbered.{read_by, scsi_read_by, to_scsi_by, to_ata_by, next_by, open_by};
 ghost use Rattle.paper.specs.Answers as paper;
 ghost use Rattle.paper.specs.Output.{output};
 ghost use Rattle.paper.specs.Told.{tells};
+ghost use Rattle.reach.specs.Opening.{open_of};
 ghost use Rattle.reader.specs.Judgement as pages;
 ghost use Rattle.scsi.specs.Judgement as dock;
 ghost use Rattle.sender.specs.Sent as sender;
@@ -38,10 +38,10 @@ use spelt::{Count, Difference, Onward, Opened, Reading, Sense, Span, Stand, Turn
 
 // What every record of the code has, that its numbers fit their types, is promised here, where each run begins.
 #[unsafe(no_mangle)]
-pub extern "C" fn recorder_make(d: &mut Image, list: &[Element], limit: u16, reading: u8) -> u8
-    ensures { (tells result d.new ≡ made_in d.old list.now limit reading) × Fits (device_of d.new) }
+pub extern "C" fn recorder_make(d: &mut Image, list: &[Element], limit: u16) -> u8
+    ensures { (tells result d.new ≡ made_in d.old list.now limit) × Fits (device_of d.new) }
 {
-    let r = (*d).make(copied(list), list.len(), limit, reading);
+    let r = (*d).make(copied(list), list.len(), limit);
     *d = r.image;
     r.answer
 }
@@ -160,10 +160,10 @@ pub extern "C" fn recorder_sense(number: u8) -> Sense
 // ---- The host
 
 #[unsafe(no_mangle)]
-pub extern "C" fn recorder_read(page: &[u8], request: Request, reading: u8) -> Reading
-    ensures { result ≡ spelt.pageReading (read_by reading page.now request) }
+pub extern "C" fn recorder_read(page: &[u8], request: Request) -> Reading
+    ensures { result ≡ spelt.pageReading (pages.read_of Little page.now request) }
 {
-    spelt::page_reading(numbered::read(page, request, reading))
+    spelt::page_reading(reader::read(page, request))
 }
 
 #[unsafe(no_mangle)]
@@ -174,10 +174,10 @@ pub extern "C" fn recorder_descriptor(page: &[u8], k: u32) -> Stand
 }
 
 #[unsafe(no_mangle)]
-pub extern "C" fn recorder_scsi_read(bytes: &[u8], query: Query, reading: u8) -> Reading
-    ensures { result ≡ spelt.dataReading (scsi_read_by reading bytes.now query) }
+pub extern "C" fn recorder_scsi_read(bytes: &[u8], query: Query) -> Reading
+    ensures { result ≡ spelt.dataReading (dock.read_of Big bytes.now query) }
 {
-    spelt::data_reading(numbered::scsi_read(bytes, query, reading))
+    spelt::data_reading(scsi::read(bytes, query))
 }
 
 #[unsafe(no_mangle)]
@@ -202,37 +202,31 @@ pub extern "C" fn recorder_scsi_list(bytes: &[u8], out: &mut [u8]) -> Count
 }
 
 #[unsafe(no_mangle)]
-pub extern "C" fn recorder_to_scsi(
-    page: &[u8],
-    request: Request,
-    reading: u8,
-    out: &mut [u8],
-) -> Turned
-    ensures { (result ≡ spelt.turnedOf (to_scsi_by reading page.now request out.old))
-        × (out.new ≡ buffer_of (to_scsi_by reading page.now request out.old).state) }
+pub extern "C" fn recorder_to_scsi(page: &[u8], request: Request, out: &mut [u8]) -> Turned
+    ensures { (result ≡ spelt.turnedOf (to_scsi page.now request out.old))
+        × (out.new ≡ buffer_of (to_scsi page.now request out.old).state) }
 {
-    spelt::turned_of(numbered::to_scsi(page, request, reading, out))
+    spelt::turned_of(convert::to_scsi(page, request, out))
 }
 
 #[unsafe(no_mangle)]
 pub extern "C" fn recorder_to_ata(
     bytes: &[u8],
     query: Query,
-    reading: u8,
     pages: PageCount,
     out: &mut [u8],
 ) -> Turned
-    ensures { (result ≡ spelt.turnedOf (to_ata_by reading bytes.now query pages.0 out.old))
-        × (out.new ≡ buffer_of (to_ata_by reading bytes.now query pages.0 out.old).state) }
+    ensures { (result ≡ spelt.turnedOf (to_ata bytes.now query pages.0 out.old))
+        × (out.new ≡ buffer_of (to_ata bytes.now query pages.0 out.old).state) }
 {
-    spelt::turned_of(numbered::to_ata(bytes, query, reading, pages, out))
+    spelt::turned_of(convert::to_ata(bytes, query, pages, out))
 }
 
 #[unsafe(no_mangle)]
-pub extern "C" fn recorder_next(page: &[u8], request: Request, reading: u8) -> Onward
-    ensures { result ≡ spelt.onwardOf (next_by reading page.now request) }
+pub extern "C" fn recorder_next(page: &[u8], request: Request) -> Onward
+    ensures { result ≡ spelt.onwardOf (walk.next_of page.now request) }
 {
-    spelt::onward_of(numbered::next(page, request, reading))
+    spelt::onward_of(walk::next(page, request))
 }
 
 #[unsafe(no_mangle)]
@@ -249,10 +243,10 @@ pub extern "C" fn recorder_next_request(
 // ---- Two pages compared
 
 #[unsafe(no_mangle)]
-pub extern "C" fn recorder_open(older: &[u8], newer: &[u8], request: Request, reading: u8) -> Opened
-    ensures { result ≡ spelt.openedOf (open_by reading older.now newer.now request) }
+pub extern "C" fn recorder_open(older: &[u8], newer: &[u8], request: Request) -> Opened
+    ensures { result ≡ spelt.openedOf (open_of older.now newer.now request) }
 {
-    spelt::opened_of(numbered::open(older, newer, request, reading))
+    spelt::opened_of(reach::open(older, newer, request))
 }
 
 #[unsafe(no_mangle)]

@@ -9,10 +9,11 @@ use Rattle.cells.specs.Cells.{is_full, removed_in}
 use Rattle.cells.specs.Rulings.{Ruled, quiet, goes}
 use Rattle.cells.specs.Sights.{see_in}
 use Rattle.cells.specs.declared.Cells.{Cells}
+use Rattle.cells.specs.declared.Mark.TheVariants.{Clear}
 use Rattle.cells.specs.declared.Position.TheVariants.{Work1}
 use Rattle.cells.specs.declared.Position.{Position}
 use Rattle.cells.specs.declared.Seen.{Seen}
-use Rattle.cells.specs.declared.Store.TheVariants.{FailedCleared, Noted}
+use Rattle.cells.specs.declared.Store.TheVariants.{FailedTo, Noted}
 use Rattle.paper.specs.Registers.{Registers, low48}
 use Rattle.paper.specs.Table12.{aborts}
 use Rattle.paper.specs.declared.Command.TheVariants.{Remove}
@@ -65,7 +66,7 @@ module _ (t : Table) (c : Cells) (p : Position) (id : ElementId) (lba : Lba) (s 
     found-other k z = rw (hit, ne_eqb _ _ k) z
 
     module _ (storage : s.part.kind ≡ 1) where
-      pub found-gone : s.health ≡ 0xFF → g ≡ goes FailedCleared p → g ≡ judge_found t c p id lba s
+      pub found-gone : s.health ≡ 0xFF → g ≡ goes (FailedTo Clear) p → g ≡ judge_found t c p id lba s
       unfolding judge_found
       found-gone h z = rw (hit, eq-eqb _ _ storage, eq-eqb _ _ h) z
 

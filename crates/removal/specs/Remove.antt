@@ -14,11 +14,12 @@ use Rattle.cells.specs.Rulings.{Ruled, quiet, goes}
 use Rattle.cells.specs.Sights.{see_in}
 use Rattle.paper.specs.declared.Command.TheVariants.{Remove}
 use Rattle.cells.specs.declared.Cells.{Cells}
+use Rattle.cells.specs.declared.Mark.TheVariants.{Clear}
 use Rattle.cells.specs.declared.Position.TheVariants.{Work1}
 use Rattle.cells.specs.declared.Position.{Position}
 use Rattle.cells.specs.declared.Removal.{Removal}
 use Rattle.cells.specs.declared.Seen.{Seen}
-use Rattle.cells.specs.declared.Store.TheVariants.{FailedCleared, Noted}
+use Rattle.cells.specs.declared.Store.TheVariants.{FailedTo, Noted}
 
 -- "Identifier = FEATURE x 65,536 + COUNT"
 abbrev pub identifier_of : Registers → ElementId
@@ -56,7 +57,7 @@ judge_room p native id lba blocks =
 unfoldable pub judge_found : Table → Cells → Position → ElementId → Lba → Seen → Ruled
 judge_found t c p id lba s =
     cond (not (s.hit && is_storage s.part)) (quiet 4 p)
-    (cond (removed_health s.health) (goes FailedCleared p)
+    (cond (removed_health s.health) (goes (FailedTo Clear) p)
     (cond (limit_met t.limit (removed_in t c)) (quiet 4 p)
     (judge_room p c.native id lba s.part.blocks)))
 

@@ -3,7 +3,7 @@ ghost use Rattle.std.specs.Prelude.{◌≡◌, ◌+◌, ◌*◌};
 ghost use Rattle.cells.specs.Rulings.{ruled};
 ghost use Rattle.removal.specs.Remove as remove;
 
-use cells::{Cells, Position, Removal, Ruling, Seen, Store, goes, quiet};
+use cells::{Cells, Mark, Position, Removal, Ruling, Seen, Store, goes, quiet};
 use paper::{Answer, Command, ElementId, Lba, Security};
 use table::Table;
 
@@ -64,7 +64,7 @@ fn judge_found(t: Table, c: Cells, at: Position, id: ElementId, lba: Lba, s: See
         return quiet(Answer::InvalidField, at);
     }
     if s.health == 0xFF {
-        return goes(Store::FailedCleared, at);
+        return goes(Store::FailedTo(Mark::Clear), at);
     }
     let healths = c.healths;
     if limit_met(t.limit, table::removed(healths, t.count)) {

@@ -53,9 +53,9 @@ enough (long_now n) d page lent = simp length-append (omega (arith, length_decim
 enough (answered n) d page lent = omega (arith, length_answer n)
 enough (commanded n room count) d page lent = length-lent n room count lent
 enough cells d page lent = omega (arith, length_cells d)
-enough (reads p) d page lent = omega (arith, length_reading p.reading page p.request)
-enough (walks p) d page lent = omega (arith, length_next p.reading page p.request)
-enough (reads_scsi p) d page lent = omega (arith, enough_for_data p.reading page p.query)
+enough (reads q) d page lent = omega (arith, length_reading page q)
+enough (walks q) d page lent = omega (arith, length_next page q)
+enough (reads_scsi q) d page lent = omega (arith, enough_for_data page q)
 enough (docked a) d page lent = length_docked a lent
 
 module _ (s : Saying) (v : Device) (page lent d : List ℕ) where

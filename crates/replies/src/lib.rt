@@ -133,21 +133,9 @@ fn put_text(out: &mut [u8], reply: Reply, d: Device, page: &[u8], lent: &[u8]) -
         Reply::Answer(answer) => put_answer(out, 0, answer),
         Reply::Command(said) => put_lent(out, said, lent),
         Reply::Cells => inventory::put_cells(out, 0, d),
-        Reply::Read(p) => {
-            let request = p.request;
-            let reading = p.reading;
-            contents::put_reading(out, 0, page, request, reading)
-        }
-        Reply::Next(p) => {
-            let request = p.request;
-            let reading = p.reading;
-            moves::put(out, 0, page, request, reading)
-        }
-        Reply::ReadScsi(p) => {
-            let query = p.query;
-            let reading = p.reading;
-            contents::put_scsi_reading(out, 0, page, query, reading)
-        }
+        Reply::Read(request) => contents::put_reading(out, 0, page, request),
+        Reply::Next(request) => moves::put(out, 0, page, request),
+        Reply::ReadScsi(query) => contents::put_scsi_reading(out, 0, page, query),
         Reply::Dock(docked) => put_docked(out, docked, lent),
     }
 }

@@ -1,11 +1,9 @@
--- The definitions of a request, tried: the requests of G1 to G4 and their neighbours, each reserved bit, and the filter's edges in both readings.
+-- The definitions of a request, tried: the requests of G1 to G4 and their neighbours, each reserved bit, and the filter's edges.
 use Prim.Native.Nat.{ℕ, ◌+◌, ◌-◌, ◌^◌}
 use mathlib.Core.Bool.{Bool, true, not, ◌&&◌}
 use mathlib.Core.List.{[], ◌∷◌}
 use mathlib.Core.Path.{◌≡◌, refl}
 use lib.Dec.{eqb}
-use Rattle.paper.specs.declared.Reading.TheVariants.{First, Second}
-use Rattle.paper.specs.declared.Reading.{Reading}
 use Rattle.slices.specs.Lists.{all, up_to}
 use Rattle.request.specs.Requests.{filter_of, report_type_of, start_of, refused, takes_id, takes_type, takes_health}
 use Rattle.request.specs.declared.Request.{Request}
@@ -43,11 +41,9 @@ tests_tried : all (λ (b : Bool). b)
     ∷ not (takes_type 1 0)
     ∷ not (takes_type 1 2)
     ∷ takes_type 0 2
-    ∷ all (λ (v : Reading). all (takes_health v 0) (0x00 ∷ 0x64 ∷ 0xD0 ∷ 0xFA ∷ 0xFB ∷ 0xFE ∷ 0xFF ∷ [])) (First ∷ Second ∷ [])
-    ∷ all (takes_health First 1) (0x65 ∷ 0xCF ∷ 0xFF ∷ [])
-    ∷ all (λ (h : ℕ). not (takes_health First 1 h)) (0x00 ∷ 0x64 ∷ 0xD0 ∷ 0xFA ∷ 0xFB ∷ 0xFE ∷ [])
-    ∷ all (takes_health Second 1) (0x65 ∷ 0xCF ∷ 0xFB ∷ 0xFC ∷ 0xFD ∷ 0xFE ∷ 0xFF ∷ [])
-    ∷ all (λ (h : ℕ). not (takes_health Second 1 h)) (0x00 ∷ 0x64 ∷ 0xD0 ∷ 0xFA ∷ [])
+    ∷ all (takes_health 0) (0x00 ∷ 0x64 ∷ 0xD0 ∷ 0xFE ∷ 0xFF ∷ [])
+    ∷ all (takes_health 1) (0x65 ∷ 0xCF ∷ 0xFF ∷ [])
+    ∷ all (λ (h : ℕ). not (takes_health 1 h)) (0x00 ∷ 0x64 ∷ 0xD0 ∷ 0xFE ∷ [])
     ∷ []) ≡ true
 unfolding takes_health
 tests_tried = refl

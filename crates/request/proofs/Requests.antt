@@ -1,13 +1,10 @@
 -- Laws of a request: what the code's tests say of it, a law for each way out, and what callers use of the shut definitions.
-use Prim.Native.Nat.{ℕ, ◌^◌, ◌≤◌, ◌<◌}
+use Prim.Native.Nat.{ℕ, ◌≤◌, ◌<◌}
 use mathlib.Core.Bool.{Bool, true, false, true≢false, ◌||◌, and-true, or-true, or-false}
-use mathlib.Core.Path.{◌≡◌, refl, sym, ap, ◌∙◌}
+use mathlib.Core.Path.{◌≡◌, refl, sym, ◌∙◌}
 use native.Mathlib.Omega.{arith}
 use lib.Dec.{leb, ltb, eqb}
 use borrow.Author.Tests.{le-leb, lt-leb, lt-ltb, le-ltb, eq-eqb, ne_eqb, leb-false, ltb-false, eqb-false}
-use Rattle.paper.specs.Elements.{lowest_code}
-use Rattle.paper.specs.declared.Reading.TheVariants.{First, Second}
-use Rattle.paper.specs.declared.Reading.{Reading}
 use Rattle.request.specs.Requests.{SameFields, filter_of, report_type_of, pages_of, sets_reserved, refused, takes_type, takes_health}
 use Rattle.request.specs.declared.Request.{Request}
 
@@ -42,24 +39,19 @@ type_storage kind t r e h = sym (rw (eq-eqb r 1 (omega arith)))
 pub type_any : (kind t r : ℕ) → t ≡ r → (t ≡ 1 → ⊥) → true ≡ takes_type r kind
 type_any kind t r e h = sym (rw (ne_eqb r 1 (λ g. h (omega arith))))
 
--- no grade tells of depopulation
-above : (v : Reading) → 0xCF < lowest_code v
-above First = omega arith
-above Second = omega arith
-
-module _ (v : Reading) (h f r : ℕ) (is_f : f ≡ r) where
-  pub filter_any : (f ≡ 1 → ⊥) → true ≡ takes_health v r h
+module _ (h f r : ℕ) (is_f : f ≡ r) where
+  pub filter_any : (f ≡ 1 → ⊥) → true ≡ takes_health r h
   unfolding takes_health
   filter_any n = sym (rw (ne_eqb r 1 (λ g. n (omega arith))))
 
   module _ (only : f ≡ 1) where
-    pub filter_low : h ≤ 0xCF → leb 0x65 h ≡ takes_health v r h
+    pub filter_low : h ≤ 0xCF → leb 0x65 h ≡ takes_health r h
     unfolding takes_health
-    filter_low l = sym (rw (eq-eqb r 1 (omega arith), le-leb h 0xCF l, lt-leb (lowest_code v) h (omega (arith, above v)), and-true, or-false))
+    filter_low l = sym (rw (eq-eqb r 1 (omega arith), le-leb h 0xCF l, ne_eqb h 0xFF (λ g. omega arith), and-true, or-false))
 
-    pub filter_high : 0xCF < h → h < 2 ^ 8 → (n : ℕ) → n ≡ lowest_code v → leb n h ≡ takes_health v r h
+    pub filter_high : 0xCF < h → eqb h 0xFF ≡ takes_health r h
     unfolding takes_health
-    filter_high l b n is = ap (λ n. leb n h) is ∙ sym (rw (eq-eqb r 1 (omega arith), lt-leb h 0xCF l, le-leb 0x65 h (omega arith), le-leb h 0xFF (omega arith), and-true))
+    filter_high l = sym (rw (eq-eqb r 1 (omega arith), lt-leb h 0xCF l, le-leb 0x65 h (omega arith)))
 
 -- ## For callers
 

@@ -1,11 +1,9 @@
--- Document 01, "GET PHYSICAL ELEMENT STATUS (12h)", with requests 2026-05 and 2026-07: a request's fields, what it is answered, and the tests of an
--- element.
+-- Document 01, "GET PHYSICAL ELEMENT STATUS (12h)", with request 2026-05: a request's fields, what it is answered, and the tests of an element.
 use Rattle.std.specs.Prelude.{ℕ, ◌+◌, ◌*◌, ◌/◌, ◌%◌, ◌^◌, Bool, cond, not, ◌||◌, List, ◌≡◌, leb, ltb, eqb, length}
-use Rattle.paper.specs.Elements.{storage_type, slow, tells_depopulation}
+use Rattle.paper.specs.Elements.{storage_type, removed_health, slow}
 use Rattle.paper.specs.Registers.{Registers, low48}
 use Rattle.paper.specs.Table12.{aborts}
 use Rattle.paper.specs.declared.Command.TheVariants.{Status}
-use Rattle.paper.specs.declared.Reading.{Reading}
 use Rattle.paper.specs.declared.Security.{Security}
 use Rattle.request.specs.declared.Request.{Request}
 
@@ -60,12 +58,12 @@ takes_id q id = leb (start_of q) id
 abbrev pub takes_type : ℕ → ℕ → Bool
 takes_type report kind = not (eqb report 1) || storage_type kind
 
--- what filter 01b lets through: "only health 65h to CFh, or FFh (000, table 14)"; in the second reading what tells of depopulation is FBh to FFh
-abbrev pub in_filter : Reading → ℕ → Bool
-in_filter reading health = slow health || tells_depopulation reading health
+-- what filter 01b lets through: "only health 65h to CFh, or FFh (000, table 14)"
+abbrev pub in_filter : ℕ → Bool
+in_filter health = slow health || removed_health health
 
-unfoldable pub takes_health : Reading → ℕ → ℕ → Bool
-takes_health reading filter health = not (eqb filter 1) || in_filter reading health
+unfoldable pub takes_health : ℕ → ℕ → Bool
+takes_health filter health = not (eqb filter 1) || in_filter health
 
 -- ## Of an input: document 01, "The reader", last paragraph
 

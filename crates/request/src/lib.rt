@@ -3,7 +3,7 @@ ghost use Rattle.std.specs.Prelude.{◌≡◌};
 ghost use Rattle.paper.specs.Answers.{number_of};
 ghost use Rattle.request.specs.Requests.{filter_of, report_type_of, start_of, sets_reserved, refused, status_number, takes_id, takes_type, takes_health, request_for};
 
-use paper::{Answer, Command, ElementId, Lba, PageCount, Reading, Security};
+use paper::{Answer, Command, ElementId, Lba, PageCount, Security};
 
 // A request for status pages (12h), as the registers have it.
 #[repr(C)]
@@ -80,9 +80,9 @@ impl Request {
         }
     }
 
-    // Filter 01b takes 65h to CFh, and what tells of depopulation: two comparisons for any health.
-    pub fn takes_health(self, reading: Reading, health: u8) -> bool
-        ensures { result ≡ takes_health reading (filter_of self) health }
+    // Filter 01b takes 65h to CFh, and FFh: two comparisons for any health.
+    pub fn takes_health(self, health: u8) -> bool
+        ensures { result ≡ takes_health (filter_of self) health }
     {
         if self.filter() != 1 {
             return true;
@@ -90,7 +90,7 @@ impl Request {
         if health <= 0xCF {
             return 0x65 <= health;
         }
-        paper::lowest_code(reading) <= health
+        health == 0xFF
     }
 }
 

@@ -5,7 +5,6 @@ use mathlib.Core.Path.{◌≡◌, refl}
 use lib.ListN.{replicate}
 use Rattle.arguments.specs.Calls.{element_of, make_of, command_of, grade_of, length_of, next_of}
 use Rattle.arguments.specs.DockCalls.{queried_in, scsi_of, scsiread_of, toscsi_of, toata_of}
-use Rattle.arguments.specs.Readings.{named_at}
 use Rattle.arguments.specs.declared.Bare.TheVariants.{Step}
 use Rattle.arguments.specs.declared.DockCall.TheVariants.{Send, ToScsi, ToAta}
 use Rattle.arguments.specs.declared.Line.TheVariants.{Passed, NotACall, Element, Make, Command, Bare, Grade, Page, Dock}
@@ -13,7 +12,6 @@ use Rattle.arguments.specs.declared.Line.{Line}
 use Rattle.arguments.specs.declared.PageCall.TheVariants.{Length, Next, ReadScsi}
 use Rattle.lines.specs.Numbers.{field_of, field_at}
 use Rattle.lines.specs.Parts.{word_at, same, named}
-use Rattle.paper.specs.declared.Reading.TheVariants.{First, Second}
 use Rattle.paper.specs.declared.Security.TheVariants.{Unlocked}
 use Rattle.registers.specs.Registers.{state_of, asked_at}
 use Rattle.text.specs.Text.{ascii}
@@ -26,29 +24,17 @@ abbrev Examples : Type 0
 Examples =
     (Says "element 10003 1 70 1f4 0" (Element (record { id = record { 0 = 0x1_0003 }; kind = 1; health = 0x70; unreported = 0; spare = 0; blocks = 500 })))
     × (Says "command unlocked 12 4100 1 0 200" (Command (record { security = Unlocked; code = 0x12; feature = 0x4100; count = 1; lba = record { 0 = 0 }; length = 512 })))
-    × (Says "   make    2  " (Make (record { limit = 2; reading = First })))
-    × (Says "make 0 02" (Make (record { limit = 0; reading = Second })))
-    × (Says "make 2 3" NotACall)
-    × (Says "make 2 x" NotACall)
-    × (Says "make 2 1 1" NotACall)
-    × (Says "make" NotACall)
+    × (Says "   make    2  " (Make 2))
     × (Says "grade a_bc_d CF" (Grade (record { id = record { 0 = 0xABCD }; health = 0xCF })))
     × (Says "length 0000000000010000" (Page (Length 0x1_0000)))
     × (Says "length 10001" NotACall)
-    × (Says "next 100 1 10010" (Page (Next (record { request = record { feature = 0x100; count = record { 0 = 1 }; lba = record { 0 = 0x1_0010 } }; reading = First }))))
+    × (Says "next 100 1 10010" (Page (Next (record { feature = 0x100; count = record { 0 = 1 }; lba = record { 0 = 0x1_0010 } }))))
     × (Says "scsi 1 2 30004 ffffffff 10000"
     (Dock (record { call = Send (record { query = record { filter = 1; report = 2; start = record { 0 = 0x3_0004 } }; allocation = 0xFFFF_FFFF }); length = 0x1_0000 })))
-    × (Says "scsiread ff 0 ffffffff 2"
-    (Page (ReadScsi (record { query = record { filter = 0xFF; report = 0; start = record { 0 = 0xFFFF_FFFF } }; reading = Second }))))
-    × (Says "toscsi 4100 2 3 80 2"
-    (Dock (record { call = ToScsi (record { request = record { feature = 0x4100; count = record { 0 = 2 }; lba = record { 0 = 3 } }; reading = Second }); length = 128 })))
-    × (Says "toscsi 4100 2 3" NotACall)
+    × (Says "scsiread ff 0 ffffffff" (Page (ReadScsi (record { filter = 0xFF; report = 0; start = record { 0 = 0xFFFF_FFFF } }))))
+    × (Says "toscsi 4100 2 3 80" (Dock (record { call = ToScsi (record { feature = 0x4100; count = record { 0 = 2 }; lba = record { 0 = 3 } }); length = 128 })))
     × (Says "toata 1 0 5 ffff 200"
-    (Dock
-    (record {
-      call = ToAta (record { query = record { filter = 1; report = 0; start = record { 0 = 5 } }; pages = record { 0 = 0xFFFF }; reading = First });
-      length = 512;
-    })))
+    (Dock (record { call = ToAta (record { query = record { filter = 1; report = 0; start = record { 0 = 5 } }; pages = record { 0 = 0xFFFF } }); length = 512 })))
     × (Says "scsiread 100 0 0" NotACall)
     × (Says "scsi 0 0 0 20" NotACall)
     × (Says "length 00000000000010000" NotACall)
@@ -60,6 +46,5 @@ Examples =
     × (line_of (ascii "step" ++ replicate 197 32) ≡ NotACall)
 
 pub examples_lem : Examples
-unfolding state_of asked_at named_at element_of make_of command_of grade_of length_of next_of queried_in scsi_of scsiread_of toscsi_of toata_of dock_call page_call reset_call event_call device_call line_of field_of field_at word_at same named
-examples_lem =
-    (refl, refl, refl, refl, refl, refl, refl, refl, refl, refl, refl, refl, refl, refl, refl, refl, refl, refl, refl, refl, refl, refl, refl, refl, refl, refl)
+unfolding state_of asked_at element_of make_of command_of grade_of length_of next_of queried_in scsi_of scsiread_of toscsi_of toata_of dock_call page_call reset_call event_call device_call line_of field_of field_at word_at same named
+examples_lem = (refl, refl, refl, refl, refl, refl, refl, refl, refl, refl, refl, refl, refl, refl, refl, refl, refl, refl, refl, refl)

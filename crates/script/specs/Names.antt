@@ -1,4 +1,4 @@
--- What a line says: the call of its name, "with exactly its words", of which READING may be missing, or that there is none (docs/BENCH.md).
+-- What a line says: the call of its name, "with exactly its words", or that there is none (docs/BENCH.md).
 use Rattle.std.specs.Prelude.{ℕ, cond, List, ltb, take}
 use Rattle.arguments.specs.Calls.{element_of, make_of, command_of, grade_of, length_of, poke_of, read_of, next_of}
 use Rattle.arguments.specs.DockCalls.{scsi_of, scsiread_of, toscsi_of, toata_of}
@@ -13,17 +13,17 @@ use Rattle.text.specs.Text.{ascii}
 unfoldable pub dock_call : List ℕ → Line
 dock_call l =
     cond (named (ascii "scsi") 6 l) (scsi_of l)
-    (cond (named (ascii "scsiread") 5 l) (scsiread_of l)
-    (cond (named (ascii "toscsi") 6 l) (toscsi_of l)
-    (cond (named (ascii "toata") 7 l) (toata_of l)
+    (cond (named (ascii "scsiread") 4 l) (scsiread_of l)
+    (cond (named (ascii "toscsi") 5 l) (toscsi_of l)
+    (cond (named (ascii "toata") 6 l) (toata_of l)
     NotACall)))
 
 unfoldable pub page_call : List ℕ → Line
 page_call l =
     cond (named (ascii "length") 2 l) (length_of l)
     (cond (named (ascii "poke") 3 l) (poke_of l)
-    (cond (named (ascii "read") 5 l) (read_of l)
-    (cond (named (ascii "next") 5 l) (next_of l)
+    (cond (named (ascii "read") 4 l) (read_of l)
+    (cond (named (ascii "next") 4 l) (next_of l)
     (dock_call l))))
 
 unfoldable pub reset_call : List ℕ → Line
@@ -44,7 +44,7 @@ event_call l =
 unfoldable pub device_call : List ℕ → Line
 device_call l =
     cond (named (ascii "element") 6 l) (element_of l)
-    (cond (named (ascii "make") 3 l) (make_of l)
+    (cond (named (ascii "make") 2 l) (make_of l)
     (cond (named (ascii "command") 7 l) (command_of l)
     (cond (named (ascii "cells") 1 l) Cells
     (event_call l))))

@@ -15,13 +15,13 @@ fn dock_call(line: &[u8]) -> Line
     if is_named(line, b"scsi", 6) {
         return scsi_call(line);
     }
-    if is_named(line, b"scsiread", 5) {
+    if is_named(line, b"scsiread", 4) {
         return scsiread_call(line);
     }
-    if is_named(line, b"toscsi", 6) {
+    if is_named(line, b"toscsi", 5) {
         return toscsi_call(line);
     }
-    if is_named(line, b"toata", 7) {
+    if is_named(line, b"toata", 6) {
         return toata_call(line);
     }
     Line::NotACall
@@ -36,10 +36,10 @@ fn page_call(line: &[u8]) -> Line
     if is_named(line, b"poke", 3) {
         return poke_call(line);
     }
-    if is_named(line, b"read", 5) {
+    if is_named(line, b"read", 4) {
         return read_call(line);
     }
-    if is_named(line, b"next", 5) {
+    if is_named(line, b"next", 4) {
         return next_call(line);
     }
     dock_call(line)
@@ -84,7 +84,7 @@ fn device_call(line: &[u8]) -> Line
     if is_named(line, b"element", 6) {
         return element_call(line);
     }
-    if is_named(line, b"make", 3) {
+    if is_named(line, b"make", 2) {
         return make_call(line);
     }
     if is_named(line, b"command", 7) {

@@ -14,14 +14,13 @@ use Rattle.offences.specs.First.{first_below}
 use Rattle.offences.specs.declared.Offence.TheVariants.{Clean, At}
 use Rattle.offences.specs.declared.Offence.{Offence}
 use Rattle.paper.specs.Told.{Told, tells}
-use Rattle.paper.specs.declared.Reading.{Reading}
 use Rattle.query.specs.Queries.{due_four, asked}
 use Rattle.query.specs.declared.Query.{Query}
 use Rattle.reader.specs.declared.Slot.TheVariants.{Outside, Holds}
 use Rattle.request.specs.declared.Request.{Request}
 use Rattle.words.specs.declared.Order.{Order}
 use Rattle.scsi.specs.Data.{whole_of, torn_of, contents_of}
-use Rattle.scsi.specs.Judgement.{Values, received, place, answer_of, read_of, slot_of}
+use Rattle.scsi.specs.Judgement.{Values, reading, place, answer_of, read_of, slot_of}
 
 -- ## What is there
 
@@ -34,46 +33,46 @@ module _ (n size : ℕ) where
 
 -- ## The descriptors, and what follows them
 
-module _ (o : Order) (v : Reading) (s : List ℕ) (q : Query) (n whole : ℕ) (r : Request) (is_r : r ≡ asked q) (f : Offence) (is_f : f ≡ first_below whole (offence_at o v s r)) where
-  checked : f ≡ first_below whole (offence_at o v s (asked q))
-  checked = is_f ∙ ap (λ (x : Request). first_below whole (offence_at o v s x)) is_r
+module _ (o : Order) (s : List ℕ) (q : Query) (n whole : ℕ) (r : Request) (is_r : r ≡ asked q) (f : Offence) (is_f : f ≡ first_below whole (offence_at o s r)) where
+  checked : f ≡ first_below whole (offence_at o s (asked q))
+  checked = is_f ∙ ap (λ (x : Request). first_below whole (offence_at o s x)) is_r
 
-  pub contents_list : (p : ℕ) → f ≡ At p → At p ≡ contents_of o v s q n whole
+  pub contents_list : (p : ℕ) → f ≡ At p → At p ≡ contents_of o s q n whole
   contents_list p e = sym (rw (sym checked ∙ e))
 
-  pub contents_past : f ≡ Clean → base_of n < length s → At (base_of n) ≡ contents_of o v s q n whole
+  pub contents_past : f ≡ Clean → base_of n < length s → At (base_of n) ≡ contents_of o s q n whole
   contents_past e h = sym (rw (sym checked ∙ e, lt-leb _ _ h))
 
-  pub contents_clean : f ≡ Clean → length s ≤ base_of n → Clean ≡ contents_of o v s q n whole
+  pub contents_clean : f ≡ Clean → length s ≤ base_of n → Clean ≡ contents_of o s q n whole
   contents_clean e h = sym (rw (sym checked ∙ e, le-leb _ _ h))
 
 -- ## The answer
 
 module _ (f : Offence) (h : Header) (whole : ℕ) (torn : Bool) where
-  pub answer_clean : f ≡ Clean → tells 0 (received h whole torn) ≡ answer_of f h whole torn
+  pub answer_clean : f ≡ Clean → tells 0 (reading h whole torn) ≡ answer_of f h whole torn
   answer_clean e = sym (rw e)
 
   pub answer_at : (p : ℕ) → f ≡ At p → tells 9 (place p) ≡ answer_of f h whole torn
   answer_at p e = sym (rw e)
 
-module _ (o : Order) (v : Reading) (s : List ℕ) (q : Query) where
-  pub read_short : length s < 32 → tells 9 (place 0) ≡ read_of o v s q
+module _ (o : Order) (s : List ℕ) (q : Query) where
+  pub read_short : length s < 32 → tells 9 (place 0) ≡ read_of o s q
   read_short l = sym (rw (lt-leb 32 (length s) l))
 
   module _ (long : 32 ≤ length s) (b : Bool) (is_b : b ≡ due_four q) where
-    pub read_due : b ≡ true → tells 9 (place 0) ≡ read_of o v s q
+    pub read_due : b ≡ true → tells 9 (place 0) ≡ read_of o s q
     read_due y = sym (rw (le-leb 32 (length s) long, sym is_b ∙ y))
 
     module _ (no : b ≡ false) (h : Header) (is_h : h ≡ header_in o s) where
-      pub read_returned : (h.returned ≡ h.number → ⊥) → tells 9 (place 4) ≡ read_of o v s q
+      pub read_returned : (h.returned ≡ h.number → ⊥) → tells 9 (place 4) ≡ read_of o s q
       read_returned ne =
           let wrong : (header_in o s).returned ≡ (header_in o s).number → ⊥ =
           λ e. ne (ap (λ (x : Header). x.returned) is_h ∙ e ∙ sym (ap (λ (x : Header). x.number) is_h)) in
           sym (rw (le-leb 32 (length s) long, sym is_b ∙ no, ne_eqb _ _ wrong))
 
       module _ (so : h.returned ≡ h.number) (whole : ℕ) (is_whole : whole ≡ whole_of h.number (length s)) where
-        pub read_contents : (f : Offence) → f ≡ contents_of o v s q h.number whole → (torn : Bool) → torn ≡ torn_of h.number (length s)
-            → (t : Told Values) → t ≡ answer_of f h whole torn → t ≡ read_of o v s q
+        pub read_contents : (f : Offence) → f ≡ contents_of o s q h.number whole → (torn : Bool) → torn ≡ torn_of h.number (length s)
+            → (t : Told Values) → t ≡ answer_of f h whole torn → t ≡ read_of o s q
         read_contents f is_f torn is_torn t is_t =
             let right : (header_in o s).returned ≡ (header_in o s).number =
             ap (λ (x : Header). x.returned) (sym is_h) ∙ so ∙ ap (λ (x : Header). x.number) is_h in

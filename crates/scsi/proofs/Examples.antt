@@ -7,15 +7,13 @@ use lib.Dec.{eqb}
 use lib.ListN.{set, take}
 use Rattle.layout.specs.Examples.{zeros, header_g1, element_g1}
 use Rattle.paper.specs.Told.{tells}
-use Rattle.paper.specs.declared.Reading.TheVariants.{First, Second}
-use Rattle.paper.specs.declared.Reading.{Reading}
 use Rattle.query.specs.Queries.{due_four}
 use Rattle.query.specs.declared.Query.{Query}
 use Rattle.reader.specs.declared.Slot.TheVariants.{Outside, Holds}
 use Rattle.request.specs.Requests.{takes_health}
 use Rattle.slices.specs.Lists.{all}
 use Rattle.words.specs.declared.Order.TheVariants.{Little, Big}
-use Rattle.scsi.specs.Judgement.{Values, received, place, read_of, slot_of}
+use Rattle.scsi.specs.Judgement.{Values, reading, place, read_of, slot_of}
 
 abbrev request : ℕ → ℕ → ℕ → Query
 request filter report start = record { filter = filter; report = report; start = record { 0 = start } }
@@ -26,26 +24,22 @@ whole =
     (0 ∷ 0 ∷ 0 ∷ 1 ∷ 0 ∷ 0 ∷ 0 ∷ 1 ∷ zeros 4) ++ (0 ∷ 2 ∷ zeros 18)
     ++ (zeros 4 ++ (0x00 ∷ 0x01 ∷ 0x00 ∷ 0x03 ∷ zeros 6)) ++ (0x01 ∷ 0x70 ∷ zeros 6) ++ (0x01 ∷ 0xF4 ∷ zeros 8)
 
-read : (read_of Big First whole (request 1 1 3) ≡ tells 0 (received header_g1 1 false)) × (slot_of Big whole 0 ≡ Holds element_g1) × (slot_of Big whole 1 ≡ Outside)
+read : (read_of Big whole (request 1 1 3) ≡ tells 0 (reading header_g1 1 false)) × (slot_of Big whole 0 ≡ Holds element_g1) × (slot_of Big whole 1 ≡ Outside)
 unfolding due_four takes_health
 read = (refl, refl, refl)
 
 -- cut after the header, and through the descriptor
-cut : (read_of Big First (take 32 whole) (request 0 0 0) ≡ tells 0 (received header_g1 0 false))
-    × (read_of Big First (take 63 whole) (request 0 0 0) ≡ tells 0 (received header_g1 0 true))
+cut : (read_of Big (take 32 whole) (request 0 0 0) ≡ tells 0 (reading header_g1 0 false)) × (read_of Big (take 63 whole) (request 0 0 0) ≡ tells 0 (reading header_g1 0 true))
     × (slot_of Big (take 63 whole) 0 ≡ Outside)
 unfolding due_four takes_health
 cut = (refl, refl, refl)
 
 abbrev is_at : ℕ → Values → Bool
-is_at p (received h n torn) = false
+is_at p (reading h n torn) = false
 is_at p (place r) = eqb p r
 
-abbrev refused_in : Reading → Query → ℕ → List ℕ → Bool
-refused_in v q p s = is_at p (read_of Big v s q).state
-
 abbrev refused_for : Query → ℕ → List ℕ → Bool
-refused_for q p s = refused_in First q p s
+refused_for q p s = is_at p (read_of Big s q).state
 
 abbrev refused_at : ℕ → List ℕ → Bool
 refused_at p s = refused_for (request 1 1 0) p s
@@ -69,28 +63,7 @@ tried : all (λ (b : Bool). b)
     ∷ refused_at 64 (whole ++ (0 ∷ []))
     ∷ refused_at 47 (set whole 47 0 ++ (0 ∷ []))
     -- in the other order N is 0100_0000h
-    ∷ is_at 36 (read_of Little First (set (set whole 37 0) 39 0) (request 1 1 0)).state
+    ∷ is_at 36 (read_of Little (set (set whole 37 0) 39 0) (request 1 1 0)).state
     ∷ []) ≡ true
 unfolding due_four takes_health
 tried = refl
-
--- ## In the second reading
-
--- with another health it is taken, for a filter
-abbrev taken : Reading → ℕ → ℕ → Bool
-taken v filter health = eqb (read_of Big v (set whole 47 health) (request filter 1 0)).number 0
-
--- it is refused at byte 15 of its descriptor, for filter 01b
-abbrev outside : Reading → ℕ → Bool
-outside v health = refused_in v (request 1 1 0) 47 (set whole 47 health)
-
--- FBh to FEh pass its filter and not the first's, D0h and FAh pass neither; without the filter each is taken
-readings_tried : all (λ (b : Bool). b)
-    (all (taken First 1) (0x65 ∷ 0xCF ∷ 0xFF ∷ [])
-    ∷ all (outside First) (0x64 ∷ 0xD0 ∷ 0xFA ∷ 0xFB ∷ 0xFE ∷ [])
-    ∷ all (taken Second 1) (0x65 ∷ 0xCF ∷ 0xFB ∷ 0xFE ∷ 0xFF ∷ [])
-    ∷ all (outside Second) (0x64 ∷ 0xD0 ∷ 0xFA ∷ [])
-    ∷ all (λ (v : Reading). all (taken v 0) (0x64 ∷ 0xD0 ∷ 0xFA ∷ 0xFE ∷ [])) (First ∷ Second ∷ [])
-    ∷ []) ≡ true
-unfolding due_four takes_health
-readings_tried = refl

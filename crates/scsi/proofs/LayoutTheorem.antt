@@ -14,7 +14,6 @@ use Rattle.offences.specs.First.{unless, first_below}
 use Rattle.offences.specs.declared.Offence.TheVariants.{Clean, At}
 use Rattle.offences.specs.declared.Offence.{Offence}
 use Rattle.paper.specs.Told.{Told, tells}
-use Rattle.paper.specs.declared.Reading.{Reading}
 use Rattle.query.proofs.Queries.{not_due, due_not}
 use Rattle.query.specs.Queries.{due_four, asked}
 use Rattle.query.specs.declared.Query.{Query}
@@ -23,7 +22,7 @@ use Rattle.reader.proofs.Rules.{Decides, one_lem, join, next, clean_0, at_9, tak
 use Rattle.reader.specs.Layout.{rule}
 use Rattle.words.specs.declared.Order.{Order}
 use Rattle.scsi.specs.Data.{whole_of, torn_of, data_offence}
-use Rattle.scsi.specs.Judgement.{Values, received, place, answer_of, read_of}
+use Rattle.scsi.specs.Judgement.{Values, reading, place, answer_of, read_of}
 use Rattle.scsi.specs.Layout.{data_rules}
 use Rattle.scsi.specs.Promises.{TakesExactly, RefusesExactly}
 
@@ -33,57 +32,57 @@ asked_to q e = not_due q (not-true _ e)
 asked_from : (q : Query) → (q.filter ≤ 1) × (q.report ≤ 1) → not (due_four q) ≡ true
 asked_from q (f, r) = rw (due_not q f r)
 
-module _ (o : Order) (v : Reading) (s : List ℕ) (q : Query) where
+module _ (o : Order) (s : List ℕ) (q : Query) where
   abbrev n : ℕ
   n = (header_in o s).number
 
   abbrev whole : ℕ
   whole = whole_of n (length s)
 
-  data_decides : Decides (data_offence o v s q) (data_rules o v s q)
+  data_decides : Decides (data_offence o s q) (data_rules o s q)
   data_decides =
-      let list : Offence = first_below whole (offence_at o v s (asked q)) in
+      let list : Offence = first_below whole (offence_at o s (asked q)) in
       let past : Offence = unless (leb (length s) (base_of n)) (base_of n) in
       next (leb 32 (length s)) (rule 0 (32 ≤ length s)) (leb-true _ _) (le-leb _ _) _ _
       (next (not (due_four q)) (rule 0 _) (asked_to q) (asked_from q) _ _
       (next_same (header_in o s).returned n 4 _ _
-      (join list past _ _ (list_decides o v s (asked q) whole)
+      (join list past _ _ (list_decides o s (asked q) whole)
       (one_lem (leb (length s) (base_of n)) (rule (base_of n) (length s ≤ base_of n)) (leb-true _ _) (le-leb _ _)))))
 
   abbrev answered : Offence → Told Values
   answered a = answer_of a (header_in o s) whole (torn_of n (length s))
 
 placed : Values → ℕ
-placed (received h whole torn) = 0
+placed (reading h whole torn) = 0
 placed (place p) = p
 
 pub takes_exactly : TakesExactly
-takes_exactly o v s q = takes (answered o v s q) place refl (λ p. refl) (data_offence o v s q) (data_rules o v s q) (data_decides o v s q)
+takes_exactly o s q = takes (answered o s q) place refl (λ p. refl) (data_offence o s q) (data_rules o s q) (data_decides o s q)
 
 pub refuses_exactly : RefusesExactly
 unfolding placed
-refuses_exactly o v s q = refuses (answered o v s q) place refl (λ p. refl) (data_offence o v s q) (data_rules o v s q) (data_decides o v s q) placed (λ p. refl)
+refuses_exactly o s q = refuses (answered o s q) place refl (λ p. refl) (data_offence o s q) (data_rules o s q) (data_decides o s q) placed (λ p. refl)
 
 -- ## What was heard tells the offence
 
-given : Header → Values → Header
-given g (received h whole torn) = h
-given g (place p) = g
+reading_in : Header → Values → Header
+reading_in g (reading h whole torn) = h
+reading_in g (place p) = g
 
 whole_in : ℕ → Values → ℕ
-whole_in n (received h whole torn) = whole
+whole_in n (reading h whole torn) = whole
 whole_in n (place p) = n
 
-module _ (o : Order) (v : Reading) (s : List ℕ) (q : Query) where
-  -- what was received goes with 0, and is the data's
-  pub heard_clean : (h : Header) (w : ℕ) (t : Bool) → tells 0 (received h w t) ≡ read_of o v s q
-      → (data_offence o v s q ≡ Clean) × (h ≡ header_in o s) × (w ≡ whole_of (header_in o s).number (length s))
-  unfolding given whole_in
+module _ (o : Order) (s : List ℕ) (q : Query) where
+  -- a reading goes with 0, and is the data's
+  pub heard_clean : (h : Header) (w : ℕ) (t : Bool) → tells 0 (reading h w t) ≡ read_of o s q
+      → (data_offence o s q ≡ Clean) × (h ≡ header_in o s) × (w ≡ whole_of (header_in o s).number (length s))
+  unfolding reading_in whole_in
   heard_clean h w t e =
-      let clean : data_offence o v s q ≡ Clean = clean_0 (answered o v s q) place refl (λ p. refl) (data_offence o v s q) (ap (λ (u : Told Values). u.number) (sym e)) in
-      let same : tells 0 (received h w t) ≡ answered o v s q Clean = e ∙ ap (answered o v s q) clean in
-      (clean, ap (λ (u : Told Values). given h u.state) same, ap (λ (u : Told Values). whole_in w u.state) same)
+      let clean : data_offence o s q ≡ Clean = clean_0 (answered o s q) place refl (λ p. refl) (data_offence o s q) (ap (λ (u : Told Values). u.number) (sym e)) in
+      let same : tells 0 (reading h w t) ≡ answered o s q Clean = e ∙ ap (answered o s q) clean in
+      (clean, ap (λ (u : Told Values). reading_in h u.state) same, ap (λ (u : Told Values). whole_in w u.state) same)
 
-  pub heard_at : (p : ℕ) → tells 9 (place p) ≡ read_of o v s q → data_offence o v s q ≡ At p
+  pub heard_at : (p : ℕ) → tells 9 (place p) ≡ read_of o s q → data_offence o s q ≡ At p
   unfolding placed
-  heard_at p e = at_9 (answered o v s q) place refl (λ r. refl) placed (λ r. refl) (data_offence o v s q) p (sym e)
+  heard_at p e = at_9 (answered o s q) place refl (λ r. refl) placed (λ r. refl) (data_offence o s q) p (sym e)

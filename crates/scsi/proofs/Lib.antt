@@ -6,4 +6,3 @@ pub mod Once
 pub mod Reserved
 pub mod Taken
 pub mod There
-pub mod Unfiltered

@@ -11,7 +11,6 @@ use Rattle.layout.specs.Bytes.{header_in}
 use Rattle.offences.proofs.Checks.{list_same}
 use Rattle.offences.specs.Checks.{base_of, descriptor_at}
 use Rattle.offences.specs.First.{unless, ◌orElse◌}
-use Rattle.paper.specs.declared.Reading.{Reading}
 use Rattle.query.specs.Queries.{due_four, asked}
 use Rattle.query.specs.declared.Query.{Query}
 use Rattle.words.specs.declared.Order.{Order}
@@ -37,20 +36,20 @@ module _ (o : Order) (s t : List ℕ) (alike : LooksAlike o s t) where
   descriptor_same : (k : ℕ) → k < whole → descriptor_at o s k ≡ descriptor_at o t k
   descriptor_same k less = descriptor_reserved o (drop (base_of k) s) (drop (base_of k) t) (alike.list k less)
 
-  module _ (v : Reading) (q : Query) where
-    contents_same : contents_of o v s q n whole ≡ contents_of o v t q (header_in o t).number (whole_of (header_in o t).number (length t))
+  module _ (q : Query) where
+    contents_same : contents_of o s q n whole ≡ contents_of o t q (header_in o t).number (whole_of (header_in o t).number (length t))
     contents_same =
-        (λ i. list_same o o s t whole descriptor_same v (asked q) i or_else unless (leb (alike.long i) (base_of n)) (base_of n))
-        ∙ (λ i. contents_of o v t q (header_same i).number (whole_same i))
+        (λ i. list_same o o s t whole descriptor_same (asked q) i or_else unless (leb (alike.long i) (base_of n)) (base_of n))
+        ∙ (λ i. contents_of o t q (header_same i).number (whole_same i))
 
-    offences_same : data_offence o v s q ≡ data_offence o v t q
+    offences_same : data_offence o s q ≡ data_offence o t q
     offences_same = λ i.
         unless (leb 32 (alike.long i)) 0 or_else
         (unless (not (due_four q)) 0 or_else
         (unless (eqb (header_same i).returned (header_same i).number) 4 or_else
         contents_same i))
 
-    read_same : read_of o v s q ≡ read_of o v t q
+    read_same : read_of o s q ≡ read_of o t q
     read_same = λ i. answer_of (offences_same i) (header_same i) (whole_same i) (torn_of (header_same i).number (alike.long i))
 
   slot_same : (k : ℕ) → slot_of o s k ≡ slot_of o t k

@@ -4,7 +4,6 @@ use Rattle.layout.specs.Bytes.{header_in}
 use Rattle.offences.specs.Checks.{base_of, offence_at}
 use Rattle.offences.specs.First.{unless, ◌orElse◌, first_below}
 use Rattle.offences.specs.declared.Offence.{Offence}
-use Rattle.paper.specs.declared.Reading.{Reading}
 use Rattle.query.specs.Queries.{due_four, asked}
 use Rattle.query.specs.declared.Query.{Query}
 use Rattle.words.specs.declared.Order.{Order}
@@ -18,14 +17,14 @@ abbrev pub torn_of : ℕ → ℕ → Bool
 torn_of n size = ltb size (base_of n) && not (eqb (size % 32) 0)
 
 -- "the ATA reader's descriptor offences in its order", of those there whole; "then the first byte past the list"
-abbrev pub contents_of : Order → Reading → List ℕ → Query → ℕ → ℕ → Offence
-contents_of o v s q n whole = first_below whole (offence_at o v s (asked q)) or_else unless (leb (length s) (base_of n)) (base_of n)
+abbrev pub contents_of : Order → List ℕ → Query → ℕ → ℕ → Offence
+contents_of o s q n whole = first_below whole (offence_at o s (asked q)) or_else unless (leb (length s) (base_of n)) (base_of n)
 
 -- "length below 32 or a request with a filter or report type due 4 (0), returned not N (4)"
-abbrev pub data_offence : Order → Reading → List ℕ → Query → Offence
-data_offence o v s q =
+abbrev pub data_offence : Order → List ℕ → Query → Offence
+data_offence o s q =
     let n = (header_in o s).number in
     unless (leb 32 (length s)) 0 or_else
     (unless (not (due_four q)) 0 or_else
     (unless (eqb (header_in o s).returned n) 4 or_else
-    contents_of o v s q n (whole_of n (length s))))
+    contents_of o s q n (whole_of n (length s))))

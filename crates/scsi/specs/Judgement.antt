@@ -6,7 +6,6 @@ use Rattle.offences.specs.Checks.{descriptor_at}
 use Rattle.offences.specs.declared.Offence.TheVariants.{Clean, At}
 use Rattle.offences.specs.declared.Offence.{Offence}
 use Rattle.paper.specs.Told.{Told, tells}
-use Rattle.paper.specs.declared.Reading.{Reading}
 use Rattle.query.specs.declared.Query.{Query}
 use Rattle.reader.specs.declared.Slot.TheVariants.{Outside, Holds}
 use Rattle.reader.specs.declared.Slot.{Slot}
@@ -17,23 +16,23 @@ use Rattle.scsi.specs.declared.Judgement.{Judgement}
 
 -- what goes with the number: the header's numbers, how many whole descriptors are there and whether one was cut through; or a place
 pub data Values : Type 0 where
-  received : Header → ℕ → Bool → Values
+  reading : Header → ℕ → Bool → Values
   place : ℕ → Values
 
 -- "9 with the byte place"
 abbrev pub heard : Judgement → Told Values
-heard (Accepted r) = tells 0 (received r.header r.whole r.torn)
+heard (Accepted r) = tells 0 (reading r.header r.whole r.torn)
 heard (Refused p) = tells 9 (place p)
 
 abbrev pub answer_of : Offence → Header → ℕ → Bool → Told Values
-answer_of Clean h whole torn = tells 0 (received h whole torn)
+answer_of Clean h whole torn = tells 0 (reading h whole torn)
 answer_of (At p) h whole torn = tells 9 (place p)
 
--- data whose numbers are in an order; SCSI's are big-endian. "The reader is told which reading applies" (request 2026-07)
-abbrev pub read_of : Order → Reading → List ℕ → Query → Told Values
-read_of o v s q =
+-- data whose numbers are in an order; SCSI's are big-endian
+abbrev pub read_of : Order → List ℕ → Query → Told Values
+read_of o s q =
     let n = (header_in o s).number in
-    answer_of (data_offence o v s q) (header_in o s) (whole_of n (length s)) (torn_of n (length s))
+    answer_of (data_offence o s q) (header_in o s) (whole_of n (length s)) (torn_of n (length s))
 
 abbrev pub slot_of : Order → List ℕ → ℕ → Slot
 slot_of o s k = cond (ltb k (whole_of (header_in o s).number (length s))) (Holds (descriptor_at o s k)) Outside

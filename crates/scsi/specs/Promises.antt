@@ -2,20 +2,19 @@
 use Rattle.std.specs.Prelude.{ℕ, ◌+◌, ◌≤◌, ◌<◌, true, List, ◌≡◌, length}
 use Rattle.layout.specs.Bytes.{header_in}
 use Rattle.offences.specs.Checks.{base_of}
-use Rattle.paper.specs.Told.{Told, tells}
-use Rattle.paper.specs.declared.Reading.{Reading}
+use Rattle.paper.specs.Told.{tells}
 use Rattle.query.specs.declared.Query.{Query}
 use Rattle.reader.specs.Layout.{Each, FirstBroken}
 use Rattle.words.specs.declared.Order.{Order}
 use Rattle.scsi.specs.Data.{whole_of, torn_of}
-use Rattle.scsi.specs.Judgement.{Values, received, place, heard, read_of, slot_of}
+use Rattle.scsi.specs.Judgement.{reading, place, heard, read_of, slot_of}
 use Rattle.scsi.specs.Layout.{data_rules}
 use Rattle.scsi.specs.Reserved.{LooksAlike}
 use Rattle.scsi.specs.declared.Judgement.{Judgement}
 
--- no second answer fits, whatever is promised of it
+-- no second answer fits
 abbrev pub OneJudgement : Type 0
-OneJudgement = (t : Told Values) (a b : Judgement) → heard a ≡ t → heard b ≡ t → a ≡ b
+OneJudgement = (o : Order) (s : List ℕ) (q : Query) (a b : Judgement) → heard a ≡ read_of o s q → heard b ≡ read_of o s q → a ≡ b
 
 -- ## What of a list is there
 
@@ -31,32 +30,26 @@ TornExactly =
     → (torn_of n size ≡ true → (whole_of n size < n) × (base_of (whole_of n size) < size))
     × ((whole_of n size < n) × (base_of (whole_of n size) < size) → torn_of n size ≡ true)
 
--- ## The layout theorem, in either byte order and either reading
+-- ## The layout theorem, in either byte order
 
 -- data is taken, with its header's numbers and what of the list is there, exactly if it keeps each rule
 abbrev pub TakesExactly : Type 0
 TakesExactly =
-    (o : Order) (v : Reading) (s : List ℕ) (q : Query)
-    → ((read_of o v s q).number ≡ 0 → Each (data_rules o v s q))
-    × (Each (data_rules o v s q)
-    → read_of o v s q ≡ tells 0 (received (header_in o s) (whole_of (header_in o s).number (length s)) (torn_of (header_in o s).number (length s))))
+    (o : Order) (s : List ℕ) (q : Query)
+    → ((read_of o s q).number ≡ 0 → Each (data_rules o s q))
+    × (Each (data_rules o s q)
+    → read_of o s q ≡ tells 0 (reading (header_in o s) (whole_of (header_in o s).number (length s)) (torn_of (header_in o s).number (length s))))
 
 -- it is refused at a place exactly if the first rule that it breaks has that place
 abbrev pub RefusesExactly : Type 0
 RefusesExactly =
-    (o : Order) (v : Reading) (s : List ℕ) (q : Query) (p : ℕ)
-    → (read_of o v s q ≡ tells 9 (place p) → FirstBroken (data_rules o v s q) p) × (FirstBroken (data_rules o v s q) p → read_of o v s q ≡ tells 9 (place p))
-
--- ## The reading
-
--- without filter 01b none matters: data is read alike in both
-abbrev pub UnfilteredAlike : Type 0
-UnfilteredAlike = (o : Order) (u v : Reading) (s : List ℕ) (q : Query) → (q.filter ≡ 1 → ⊥) → read_of o u s q ≡ read_of o v s q
+    (o : Order) (s : List ℕ) (q : Query) (p : ℕ)
+    → (read_of o s q ≡ tells 9 (place p) → FirstBroken (data_rules o s q) p) × (FirstBroken (data_rules o s q) p → read_of o s q ≡ tells 9 (place p))
 
 -- ## "Reserved bytes are not looked at", and what is there of a descriptor that was cut through is not either
 
--- of data that looks alike the reader says the same, in either reading and for every request, and holds the same descriptor at every number
+-- of data that looks alike the reader says the same, for every request, and holds the same descriptor at every number
 abbrev pub ReservedUnseen : Type 0
 ReservedUnseen =
     (o : Order) (s t : List ℕ) → LooksAlike o s t
-    → ((v : Reading) (q : Query) → read_of o v s q ≡ read_of o v t q) × ((k : ℕ) → slot_of o s k ≡ slot_of o t k)
+    → ((q : Query) → read_of o s q ≡ read_of o t q) × ((k : ℕ) → slot_of o s k ≡ slot_of o t k)

@@ -7,14 +7,14 @@ ghost use Rattle.scsi.specs.Judgement as paper;
 
 use layout::Header;
 use offences::Offence;
-use paper::{PageCount, Reading};
+use paper::PageCount;
 use query::Query;
 use reader::Slot;
 use words::Order;
 
 // The header's numbers, how many whole descriptors are there, and whether one was cut through.
 #[derive(Drop)]
-pub struct Received {
+pub struct Reading {
     pub header: Header,
     pub whole: u32,
     pub torn: bool,
@@ -23,7 +23,7 @@ pub struct Received {
 // What was read, or the place of the first offence.
 #[derive(Drop)]
 pub enum Judgement {
-    Accepted(Received),
+    Accepted(Reading),
     Refused(usize),
 }
 
@@ -48,18 +48,11 @@ fn is_torn(number: u32, size: usize) -> bool
 }
 
 // The first offence of the whole descriptors, and of what follows the list.
-fn check_contents(
-    bytes: &[u8],
-    query: Query,
-    reading: Reading,
-    number: u32,
-    whole: u32,
-    o: Order,
-) -> Offence
-    ensures { result ≡ contents_of o reading bytes.now query number whole }
+fn check_contents(bytes: &[u8], query: Query, number: u32, whole: u32, o: Order) -> Offence
+    ensures { result ≡ contents_of o bytes.now query number whole }
 {
     let request = query.for_pages(PageCount(0));
-    let first = offences::check_list(bytes, request, reading, whole, o);
+    let first = offences::check_list(bytes, request, whole, o);
     if let Offence::At(place) = first {
         return Offence::At(place);
     }
@@ -75,20 +68,20 @@ fn answer(found: Offence, header: Header, whole: u32, torn: bool) -> Judgement
 {
     match found {
         Offence::Clean => {
-            let received = Received {
+            let reading = Reading {
                 header,
                 whole,
                 torn,
             };
-            Judgement::Accepted(received)
+            Judgement::Accepted(reading)
         }
         Offence::At(place) => Judgement::Refused(place),
     }
 }
 
-// Data as the answer to a request, in the reading that the reader is told.
-pub fn read(bytes: &[u8], query: Query, reading: Reading) -> Judgement
-    ensures { paper.heard result ≡ paper.read_of Big reading bytes.now query }
+// Data as the answer to a request.
+pub fn read(bytes: &[u8], query: Query) -> Judgement
+    ensures { paper.heard result ≡ paper.read_of Big bytes.now query }
 {
     if bytes.len() < 32 {
         return Judgement::Refused(0);
@@ -101,7 +94,7 @@ pub fn read(bytes: &[u8], query: Query, reading: Reading) -> Judgement
         return Judgement::Refused(4);
     }
     let whole = whole_of(h.number, bytes.len());
-    let found = check_contents(bytes, query, reading, h.number, whole, Order::Big);
+    let found = check_contents(bytes, query, h.number, whole, Order::Big);
     answer(found, h, whole, is_torn(h.number, bytes.len()))
 }
 

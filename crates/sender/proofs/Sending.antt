@@ -18,7 +18,6 @@ use Rattle.paper.proofs.Output.{written_small, written_done, refusal_writes_noth
 use Rattle.paper.specs.Output.{output, written}
 use Rattle.paper.specs.Told.{tells, said}
 use Rattle.paper.specs.declared.Answer.TheVariants.{Done, InvalidField, SmallBuffer}
-use Rattle.paper.specs.declared.Reading.{Reading}
 use Rattle.query.specs.Queries.{due_four, asked}
 use Rattle.query.specs.declared.Query.{Query}
 use Rattle.request.specs.declared.Request.{Request}
@@ -30,7 +29,7 @@ use Rattle.table.specs.Elements.{blank_part}
 use Rattle.table.specs.declared.Part.{Part}
 use Rattle.view.specs.Shown.{shown_of, asks}
 use Rattle.words.specs.declared.Order.TheVariants.{Big}
-use Rattle.status.specs.Page.{healths_of, list_of, headed}
+use Rattle.status.specs.Page.{list_of, headed}
 use Rattle.status.specs.Private.{shown_in}
 use Rattle.sender.specs.Private.{data_for}
 use Rattle.sender.specs.Promises.{UnsentLeavesBytes, SendsTheSmaller}
@@ -42,63 +41,63 @@ some_put : (d out : List ℕ) (r : Row) (at : ℕ) → out ≡ stored d at (take
 some_put d out r at is_out c is_r = is_out ∙ ap (λ (l : List ℕ). stored d at (take (length d - at) l)) is_r
 
 -- how many are asked for, of n elements
-abbrev pub Counted : List Part → List ℕ → Reading → Request → ℕ → ℕ → ℕ → Type 0
-Counted ps hs v q n number i = (i ≤ n) × (n ≤ 128) × (length ps ≡ 128) × (length hs ≡ 128) × (number ≡ count ps hs v q i)
+abbrev pub Counted : List Part → List ℕ → Request → ℕ → ℕ → ℕ → Type 0
+Counted ps hs q n number i = (i ≤ n) × (n ≤ 128) × (length ps ≡ 128) × (length hs ≡ 128) × (number ≡ count ps hs q i)
 
-pub counted_none : (ps : List Part) (hs : List ℕ) (v : Reading) (q : Request) (n : ℕ) → n ≤ 128 → length ps ≡ 128 → length hs ≡ 128 → Counted ps hs v q n 0 0
+pub counted_none : (ps : List Part) (hs : List ℕ) (q : Request) (n : ℕ) → n ≤ 128 → length ps ≡ 128 → length hs ≡ 128 → Counted ps hs q n 0 0
 unfolding wanted
-counted_none ps hs v q n few long long_too = (omega arith, few, long, long_too, refl)
+counted_none ps hs q n few long long_too = (omega arith, few, long, long_too, refl)
 
-module _ (ps : List Part) (hs : List ℕ) (v : Reading) (q : Request) (n number i : ℕ) (counted : Counted ps hs v q n number i) where
+module _ (ps : List Part) (hs : List ℕ) (q : Request) (n number i : ℕ) (counted : Counted ps hs q n number i) where
   pub counted_low : number ≤ 128
-  counted_low = omega (arith, counted, count_low ps hs v q i)
+  counted_low = omega (arith, counted, count_low ps hs q i)
 
   pub counted_less : i < n → number < 128
-  counted_less low = omega (arith, counted, count_low ps hs v q i)
+  counted_less low = omega (arith, counted, count_low ps hs q i)
 
-  pub counted_next : i < n → (b : Bool) → b ≡ asks v q (shown_of (get_or ps i blank_part) (get_or hs i 0)) → Counted ps hs v q n (number + bool_byte b) (i + 1)
+  pub counted_next : i < n → (b : Bool) → b ≡ asks q (shown_of (get_or ps i blank_part) (get_or hs i 0)) → Counted ps hs q n (number + bool_byte b) (i + 1)
   counted_next low b is_b =
-      (omega arith, counted.1, counted.2, counted.3, ap (λ (m : ℕ). m + bool_byte b) counted.4 ∙ sym (count_turn ps hs v q i b is_b))
+      (omega arith, counted.1, counted.2, counted.3, ap (λ (m : ℕ). m + bool_byte b) counted.4 ∙ sym (count_turn ps hs q i b is_b))
 
-pub counted_all : (d : Device) (hs : List ℕ) (q : Request) (n number i : ℕ) → hs ≡ healths_of d → n ≡ min d.table.count 128 → Counted d.table.parts hs d.table.reading q n number i → n ≤ i
+pub counted_all : (d : Device) (q : Request) (n number i : ℕ) → n ≡ min d.table.count 128 → Counted d.table.parts d.cells.healths q n number i → n ≤ i
     → number ≡ length (list_of d q)
-counted_all d hs q n number i is_hs is_n counted high =
+counted_all d q n number i is_n counted high =
     let end : i ≡ n = omega (arith, counted) in
-    counted.4 ∙ ap (count d.table.parts hs d.table.reading q) end ∙ ap length (all_listed d hs q n is_hs counted.2 is_n)
+    counted.4 ∙ ap (count d.table.parts d.cells.healths q) end ∙ ap length (all_listed d q n counted.2 is_n)
 
 -- the descriptors of what is asked for, one after another behind the header
-module _ (ps : List Part) (hs : List ℕ) (v : Reading) (q : Request) (n : ℕ) (b : List ℕ) where
+module _ (ps : List Part) (hs : List ℕ) (q : Request) (n : ℕ) (b : List ℕ) where
   abbrev f : Descriptor → List ℕ
   f = descriptor_bytes Big
 
   abbrev all : List Descriptor
-  all = wanted ps hs v q n
+  all = wanted ps hs q n
 
   -- the loop after i turns
   abbrev pub Walked : ℕ → ℕ → List ℕ → Type 0
   Walked at i x =
-      (i ≤ n) × (n ≤ 128) × (length ps ≡ 128) × (length hs ≡ 128) × (at ≡ 32 + 32 * count ps hs v q i) × (32 * count ps hs v q i ≤ length b - 32) × (length x ≡ length b)
-      × (x ≡ stored b 32 (flat f (take (count ps hs v q i) all)))
+      (i ≤ n) × (n ≤ 128) × (length ps ≡ 128) × (length hs ≡ 128) × (at ≡ 32 + 32 * count ps hs q i) × (32 * count ps hs q i ≤ length b - 32) × (length x ≡ length b)
+      × (x ≡ stored b 32 (flat f (take (count ps hs q i) all)))
 
   pub walk_none : n ≤ 128 → length ps ≡ 128 → length hs ≡ 128 → Walked 32 0 b
   unfolding wanted
   walk_none few long long_too = (omega arith, few, long, long_too, refl, omega arith, refl, sym (stored_none b 32))
 
-  module _ (at i : ℕ) (x : List ℕ) (walked : Walked at i x) (low : i < n) (t : Bool) (is_t : t ≡ asks v q (shown_of (get_or ps i blank_part) (get_or hs i 0))) where
+  module _ (at i : ℕ) (x : List ℕ) (walked : Walked at i x) (low : i < n) (t : Bool) (is_t : t ≡ asks q (shown_of (get_or ps i blank_part) (get_or hs i 0))) where
     pub walk-past : t ≡ false → Walked at (i + 1) x
     walk-past skipped =
-        let same : count ps hs v q (i + 1) ≡ count ps hs v q i = count_turn ps hs v q i t is_t ∙ rw skipped (add-zero (count ps hs v q i)) in
+        let same : count ps hs q (i + 1) ≡ count ps hs q i = count_turn ps hs q i t is_t ∙ rw skipped (add-zero (count ps hs q i)) in
         (omega arith, walked.1, walked.2, walked.3, walked.4 ∙ rw same, omega (arith, walked), walked.6, walked.7 ∙ rw same)
 
     module _ (yes : t ≡ true) where
       pub walk_next : at + 32 ≤ length x → (y : List ℕ) → length y ≡ length x → y ≡ stored x at (f (shown_of (get_or ps i blank_part) (get_or hs i 0))) → Walked (at + 32) (i + 1) y
       unfolding shown_in
       walk_next room y same is_y =
-          let k : ℕ = count ps hs v q i in
-          let more : count ps hs v q (i + 1) ≡ k + 1 = count_turn ps hs v q i t is_t ∙ rw yes in
-          let less : k < length all = next_less ps hs v q i t is_t yes n low in
+          let k : ℕ = count ps hs q i in
+          let more : count ps hs q (i + 1) ≡ k + 1 = count_turn ps hs q i t is_t ∙ rw yes in
+          let less : k < length all = next_less ps hs q i t is_t yes n low in
           let there : y ≡ stored x (32 + 32 * k) (f (get_or all k (shown_in ps hs 0))) =
-          is_y ∙ (λ j. stored x (walked.4 j) (f (next_here ps hs v q i t is_t yes n low (shown_in ps hs 0) j))) in
+          is_y ∙ (λ j. stored x (walked.4 j) (f (next_here ps hs q i t is_t yes n low (shown_in ps hs 0) j))) in
           let put : y ≡ stored b 32 (flat f (take (k + 1) all)) =
           stored_each f 32 (wide Big) all b x y 32 k (shown_in ps hs 0) (omega (arith, walked)) less walked.7 there in
           (omega arith, walked.1, walked.2, walked.3, omega (arith, walked, more), omega (arith, walked, more), same ∙ walked.6, put ∙ rw more)
@@ -107,16 +106,16 @@ module _ (ps : List Part) (hs : List ℕ) (v : Reading) (q : Request) (n : ℕ) 
           → y ≡ stored b 32 (take (length b - 32) (flat f all))
       unfolding shown_in
       walk_cut short y is_y =
-          let k : ℕ = count ps hs v q i in
+          let k : ℕ = count ps hs q i in
           let F : List ℕ = flat f all in
           let A : List ℕ = flat f (take k all) in
           let x' : List ℕ = f (get_or all k (shown_in ps hs 0)) in
-          let less : k < length all = next_less ps hs v q i t is_t yes n low in
+          let less : k < length all = next_less ps hs q i t is_t yes n low in
           let long : length A ≡ 32 * k = length-flat f 32 (wide Big) (take k all) ∙ rw (length-take-le k all (omega arith)) in
           let place : at ≡ 32 + length A = omega (arith, walked, long) in
           let whole : x ≡ stored b 32 (take (length b - 32) A) = walked.7 ∙ ap (stored b 32) (sym (take_all (length b - 32) A (omega (arith, walked, long)))) in
           let rest : y ≡ stored x (32 + length A) (take (length x - (32 + length A)) x') =
-          is_y ∙ (λ j. stored x (place j) (take (length x - place j) (f (next_here ps hs v q i t is_t yes n low (shown_in ps hs 0) j)))) in
+          is_y ∙ (λ j. stored x (place j) (take (length x - place j) (f (next_here ps hs q i t is_t yes n low (shown_in ps hs 0) j)))) in
           let joined : take (32 * k + 32) F ≡ A ++ x' =
           flat_cut f 32 (wide Big) all k 32 (shown_in ps hs 0) less (omega arith) ∙ ap (λ (l : List ℕ). A ++ l) (take_all 32 x' (omega (arith, wide Big (get_or all k (shown_in ps hs 0))))) in
           cut_more b 32 A x' x y whole rest
@@ -126,28 +125,28 @@ module _ (ps : List Part) (hs : List ℕ) (v : Reading) (q : Request) (n : ℕ) 
   walk-all : (at i : ℕ) (x : List ℕ) → Walked at i x → n ≤ i → length b ≤ 32 + 32 * length all → x ≡ stored b 32 (take (length b - 32) (flat f all))
   walk-all at i x walked high most =
       let end : i ≡ n = omega (arith, walked) in
-      let last : count ps hs v q i ≡ length all = ap (count ps hs v q) end in
+      let last : count ps hs q i ≡ length all = ap (count ps hs q) end in
       let enough : take (length b - 32) (flat f all) ≡ flat f all =
       take_all (length b - 32) (flat f all) (omega (arith, walked, last, length-flat f 32 (wide Big) all)) in
       walked.7 ∙ ap (λ (m : ℕ). stored b 32 (flat f (take m all))) last ∙ ap (λ (l : List Descriptor). stored b 32 (flat f l)) (take-length all) ∙ ap (stored b 32) (sym enough)
 
 -- and at its end what is asked for is the list
-module _ (d : Device) (hs : List ℕ) (is_hs : hs ≡ healths_of d) (q : Request) (n : ℕ) (is_n : n ≡ min d.table.count 128) (b : List ℕ) (at i : ℕ) (x : List ℕ)
-    (walked : Walked d.table.parts hs d.table.reading q n b at i x) where
-  listed_lem : wanted d.table.parts hs d.table.reading q n ≡ list_of d q
-  listed_lem = all_listed d hs q n is_hs walked.2 is_n
+module _ (d : Device) (q : Request) (n : ℕ) (is_n : n ≡ min d.table.count 128) (b : List ℕ) (at i : ℕ) (x : List ℕ)
+    (walked : Walked d.table.parts d.cells.healths q n b at i x) where
+  listed_lem : wanted d.table.parts d.cells.healths q n ≡ list_of d q
+  listed_lem = all_listed d q n walked.2 is_n
 
-  pub asked_cut : i < n → (t : Bool) → t ≡ asks d.table.reading q (shown_of (get_or d.table.parts i blank_part) (get_or hs i 0)) → t ≡ true → length x < at + 32
-      → (s : Descriptor) → s ≡ shown_of (get_or d.table.parts i blank_part) (get_or hs i 0) → (r : Row) → row_bytes r ≡ descriptor_bytes Big s
+  pub asked_cut : i < n → (t : Bool) → t ≡ asks q (shown_of (get_or d.table.parts i blank_part) (get_or d.cells.healths i 0)) → t ≡ true → length x < at + 32
+      → (s : Descriptor) → s ≡ shown_of (get_or d.table.parts i blank_part) (get_or d.cells.healths i 0) → (r : Row) → row_bytes r ≡ descriptor_bytes Big s
       → (y : List ℕ) → y ≡ stored x at (take (length x - at) (row_bytes r)) → y ≡ stored b 32 (take (length b - 32) (flat (descriptor_bytes Big) (list_of d q)))
   asked_cut low t is_t taken short s is_s r is_r y is_y =
-      walk_cut d.table.parts hs d.table.reading q n b at i x walked low t is_t taken short y
+      walk_cut d.table.parts d.cells.healths q n b at i x walked low t is_t taken short y
       (some_put x y r at is_y _ (is_r ∙ ap (descriptor_bytes Big) is_s))
       ∙ ap (λ (l : List Descriptor). stored b 32 (take (length b - 32) (flat (descriptor_bytes Big) l))) listed_lem
 
   pub asked-all : n ≤ i → length b ≤ 32 + 32 * length (list_of d q) → x ≡ stored b 32 (take (length b - 32) (flat (descriptor_bytes Big) (list_of d q)))
   asked-all high most =
-      walk-all d.table.parts hs d.table.reading q n b at i x walked high (rw listed_lem most)
+      walk-all d.table.parts d.cells.healths q n b at i x walked high (rw listed_lem most)
       ∙ ap (λ (l : List Descriptor). stored b 32 (take (length b - 32) (flat (descriptor_bytes Big) l))) listed_lem
 
 -- behind the header, which may itself be cut

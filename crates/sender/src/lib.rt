@@ -4,7 +4,7 @@ ghost use Rattle.layout.specs.Bytes.{descriptor_bytes};
 ghost use Rattle.paper.specs.Output.{output};
 ghost use Rattle.paper.specs.Told.{said};
 ghost use Rattle.slices.specs.Lists.{flat, stored};
-ghost use Rattle.status.specs.Page.{healths_of, list_of};
+ghost use Rattle.status.specs.Page.{list_of};
 ghost use Rattle.sender.specs.Private as private;
 ghost use Rattle.sender.specs.Sent.{sent};
 
@@ -15,34 +15,31 @@ use request::Request;
 use words::Order;
 
 // How many elements are asked for.
-fn number_asked(d: Device, hs: [u8; 128], request: Request) -> usize
-    requires { hs ≡ healths_of d }
+fn number_asked(d: Device, request: Request) -> usize
     ensures { (result ≡ length (list_of d request)) × (result ≤ 128) }
 {
-    let table = d.table;
-    let ps = table.parts;
-    let reading = table.reading;
-    let n = table::bounded(table.count);
+    let ps = d.table.parts;
+    let hs = d.cells.healths;
+    let n = table::bounded(d.table.count);
     let mut number: usize = 0;
     for i in 0..n {
-        number += view::does_ask(request, reading, ps[i], hs[i]) as usize;
+        number += view::does_ask(request, ps[i], hs[i]) as usize;
     }
     number
 }
 
 // Stores behind the header the descriptors of the elements asked for, and of the first that does not fit what there is room for.
-fn put_asked(d: Device, hs: [u8; 128], request: Request, part: &mut [u8])
-    requires { (hs ≡ healths_of d) × (length part.old ≤ 32 + 32 * length (list_of d request)) }
+fn put_asked(d: Device, request: Request, part: &mut [u8])
+    requires { length part.old ≤ 32 + 32 * length (list_of d request) }
     ensures { part.new ≡ stored part.old 32
         (take (length part.old - 32) (flat (descriptor_bytes Order.Big) (list_of d request))) }
 {
-    let table = d.table;
-    let ps = table.parts;
-    let reading = table.reading;
-    let n = table::bounded(table.count);
+    let ps = d.table.parts;
+    let hs = d.cells.healths;
+    let n = table::bounded(d.table.count);
     let mut at: usize = 32;
     for i in 0..n {
-        if !view::does_ask(request, reading, ps[i], hs[i]) {
+        if !view::does_ask(request, ps[i], hs[i]) {
             continue;
         }
         if part.len() < at + 32 {
@@ -56,15 +53,15 @@ fn put_asked(d: Device, hs: [u8; 128], request: Request, part: &mut [u8])
 }
 
 // Fills a part with the front of the data, of which it has no more than all.
-fn fill_part(d: Device, hs: [u8; 128], request: Request, number: usize, part: &mut [u8])
-    requires { (hs ≡ healths_of d) × (number ≡ length (list_of d request)) × (number ≤ 128) × (length part.old ≤ 32 + 32 * number) }
+fn fill_part(d: Device, request: Request, number: usize, part: &mut [u8])
+    requires { (number ≡ length (list_of d request)) × (number ≤ 128) × (length part.old ≤ 32 + 32 * number) }
     ensures { part.new ≡ take (length part.old) (private.dataFor d request) }
 {
     let count = number as u32;
     let header = status::header_of(d, count, count);
     let row = header.row(Order::Big);
     row.put_some(part, 0);
-    put_asked(d, hs, request, part);
+    put_asked(d, request, part);
 }
 
 // The answer, and after 0 how many bytes were written: "the smaller of the allocation length and 32 + 32N".
@@ -78,8 +75,7 @@ pub fn send(d: Device, query: Query, allocation: u32, buf: &mut [u8]) -> Written
         };
     }
     let request = query.for_pages(PageCount(0));
-    let hs = status::shown_healths(d);
-    let number = number_asked(d, hs, request);
+    let number = number_asked(d, request);
     let size = slices::smaller(allocation as usize, 32 + 32 * number);
     if buf.len() < size {
         return Written {
@@ -87,7 +83,7 @@ pub fn send(d: Device, query: Query, allocation: u32, buf: &mut [u8]) -> Written
             count: 0,
         };
     }
-    fill_part(d, hs, request, number, &mut buf[0..size]);
+    fill_part(d, request, number, &mut buf[0..size]);
     Written {
         answer: Answer::Done,
         count: size,

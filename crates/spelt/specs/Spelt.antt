@@ -63,7 +63,7 @@ abbrev pub page_reading : Told pages.Values → Reading
 page_reading t = page_reading_for t.number t.state
 
 abbrev pub data_reading_for : ℕ → dock.Values → Reading
-data_reading_for n (dock.received h whole torn) = accepted h whole torn n
+data_reading_for n (dock.reading h whole torn) = accepted h whole torn n
 data_reading_for n (dock.place p) = refused p n
 
 abbrev pub data_reading : Told dock.Values → Reading

@@ -40,7 +40,7 @@ module _ (p q : Request) (same : SameFields p q) where
     list_same : list_of d p ≡ list_of d q
     unfolding list_of asks
     list_same =
-        λ i. keep (λ (x : Descriptor). leb (same.start i) x.id.0 && (takes_type (same.report i) x.kind && takes_health d.table.reading (same.filter i) x.health))
+        λ i. keep (λ (x : Descriptor). leb (same.start i) x.id.0 && (takes_type (same.report i) x.kind && takes_health (same.filter i) x.health))
         (shown_all d)
 
     pub page_same : page_of d p ≡ page_of d q

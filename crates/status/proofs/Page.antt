@@ -18,7 +18,6 @@ use Rattle.paper.specs.Answers.{number_of}
 use Rattle.paper.specs.Told.{said}
 use Rattle.paper.specs.declared.Answer.{Answer}
 use Rattle.paper.specs.declared.ElementId.{ElementId}
-use Rattle.paper.specs.declared.Reading.{Reading}
 use Rattle.paper.specs.declared.Security.{Security}
 use Rattle.request.specs.Requests.{pages_of, status_number}
 use Rattle.request.specs.declared.Request.{Request}
@@ -30,7 +29,7 @@ use Rattle.table.specs.Elements.{live, blank_part, identifiers, size, identifier
 use Rattle.table.specs.declared.Part.{Part}
 use Rattle.view.specs.Shown.{shown_of, asks, busy_of}
 use Rattle.words.specs.declared.Order.TheVariants.{Little}
-use Rattle.status.specs.Page.{healths_of, shown_at, shown_all, list_of, headed, header_of, page_of, shown}
+use Rattle.status.specs.Page.{shown_at, shown_all, list_of, headed, header_of, page_of, shown}
 use Rattle.status.specs.Private.{Slots, shown_in, shown_there}
 use Rattle.status.specs.Promises.{KeepsIdentifier}
 use Rattle.status.proofs.Places.{length_there, at_place, take_there, Listed, list_turn, all_listed}
@@ -92,39 +91,39 @@ zeros_put number r pages b out few some is_out =
     is_out ∙ ap (stored b (32 + 32 * r)) (ap (times (8 * (16 * pages - 1 - r))) none ∙ times_zero (8 * (16 * pages - 1 - r)) ∙ ap (λ (n : ℕ). replicate {A = ℕ} n 0) rows)
 
 -- the loop after i turns of n
-abbrev pub Listing : List Part → List ℕ → Reading → Request → ℕ → List ℕ → ℕ → ℕ → Type 0
-Listing ps hs v q n places number i = (i ≤ n) × (n ≤ 128) × (length ps ≡ 128) × (length hs ≡ 128) × Listed ps hs v q places number i
+abbrev pub Listing : List Part → List ℕ → Request → ℕ → List ℕ → ℕ → ℕ → Type 0
+Listing ps hs q n places number i = (i ≤ n) × (n ≤ 128) × (length ps ≡ 128) × (length hs ≡ 128) × Listed ps hs q places number i
 
-pub listing_next : (ps : List Part) (hs : List ℕ) (v : Reading) (q : Request) (n : ℕ) (places : List ℕ) (number i : ℕ) → Listing ps hs v q n places number i
-    → i < n → (b : Bool) → b ≡ asks v q (shown_of (get_or ps i blank_part) (get_or hs i 0)) → Listing ps hs v q n (set places number i) (number + bool_byte b) (i + 1)
-listing_next ps hs v q n places number i listing low b is_b =
-    (omega arith, listing.1, listing.2, listing.3, list_turn ps hs v q places number i listing.4 (omega (arith, listing)) b is_b)
+pub listing_next : (ps : List Part) (hs : List ℕ) (q : Request) (n : ℕ) (places : List ℕ) (number i : ℕ) → Listing ps hs q n places number i
+    → i < n → (b : Bool) → b ≡ asks q (shown_of (get_or ps i blank_part) (get_or hs i 0)) → Listing ps hs q n (set places number i) (number + bool_byte b) (i + 1)
+listing_next ps hs q n places number i listing low b is_b =
+    (omega arith, listing.1, listing.2, listing.3, list_turn ps hs q places number i listing.4 (omega (arith, listing)) b is_b)
 
 -- places put down, and how many count: what they show is the list
-abbrev Lists : Device → List ℕ → Request → List ℕ → ℕ → Type 0
-Lists d hs q places number =
-    (shown_there d.table.parts hs places number ≡ list_of d q) × (number ≤ 128) × (length places ≡ 128) × Slots places
+abbrev Lists : Device → Request → List ℕ → ℕ → Type 0
+Lists d q places number =
+    (shown_there d.table.parts d.cells.healths places number ≡ list_of d q) × (number ≤ 128) × (length places ≡ 128) × Slots places
 
-pub listing_all : (d : Device) (hs : List ℕ) (q : Request) (n : ℕ) (places : List ℕ) (number i : ℕ) → hs ≡ healths_of d → n ≡ min d.table.count 128
-    → Listing d.table.parts hs d.table.reading q n places number i → n ≤ i → Lists d hs q places number
-listing_all d hs q n places number i is_hs is_n listing high =
+pub listing_all : (d : Device) (q : Request) (n : ℕ) (places : List ℕ) (number i : ℕ) → n ≡ min d.table.count 128
+    → Listing d.table.parts d.cells.healths q n places number i → n ≤ i → Lists d q places number
+listing_all d q n places number i is_n listing high =
     let all : i ≡ min d.table.count 128 = omega (arith, listing) in
-    (listing.4.0 ∙ all_listed d hs q i is_hs listing.2 all, omega (arith, listing), listing.4.2, listing.4.3)
+    (listing.4.0 ∙ all_listed d q i listing.2 all, omega (arith, listing), listing.4.2, listing.4.3)
 
-module _ (d : Device) (hs : List ℕ) (q : Request) (places : List ℕ) (number : ℕ) (lists : Lists d hs q places number) where
+module _ (d : Device) (q : Request) (places : List ℕ) (number : ℕ) (lists : Lists d q places number) where
   number-listed : number ≡ length (list_of d q)
-  number-listed = sym (length_there d.table.parts hs places number (omega (arith, lists))) ∙ ap length lists.0
+  number-listed = sym (length_there d.table.parts d.cells.healths places number (omega (arith, lists))) ∙ ap length lists.0
 
   pub filled_lem : 1 ≤ pages_of q → (r : ℕ) → r ≡ returned_of number (pages_of q) → (h : Header) → h ≡ headed number r d.cells.note d.table.limit (removed_number d)
       → (b b₁ b₂ b₃ : List ℕ) → 512 * pages_of q ≤ length b → b₁ ≡ stored b 0 (header_bytes Little h)
-      → b₂ ≡ stored b₁ 32 (flat (descriptor_bytes Little) (shown_there d.table.parts hs places r))
+      → b₂ ≡ stored b₁ 32 (flat (descriptor_bytes Little) (shown_there d.table.parts d.cells.healths places r))
       → b₃ ≡ stored b₂ (32 + 32 * r) (replicate (512 * pages_of q - (32 + 32 * r)) 0) → b₃ ≡ page_of d q ++ drop (512 * pages_of q) b
   filled_lem some r is_r h is_h =
       let right : r ≡ returned_of (length (list_of d q)) (pages_of q) = is_r ∙ ap (λ (m : ℕ). returned_of m (pages_of q)) number-listed in
       let headed_so : h ≡ header_of d q = is_h ∙ (λ j. headed (number-listed j) (right j) d.cells.note d.table.limit (removed_number d)) in
-      let first : shown_there d.table.parts hs places r ≡ take r (list_of d q) =
-      sym (take_there d.table.parts hs places number r (omega (arith, is_r))) ∙ ap (take r) lists.0 in
-      together d q h (shown_there d.table.parts hs places r) r right headed_so first some
+      let first : shown_there d.table.parts d.cells.healths places r ≡ take r (list_of d q) =
+      sym (take_there d.table.parts d.cells.healths places number r (omega (arith, is_r))) ∙ ap (take r) lists.0 in
+      together d q h (shown_there d.table.parts d.cells.healths places r) r right headed_so first some
 
 module _ (ps : List Part) (hs places : List ℕ) (r : ℕ) (b : List ℕ) (long : length places ≡ 128) (few : r ≤ 128) (room : 32 + 32 * r ≤ length b) where
   pub put_next : (k : ℕ) (x y : List ℕ) → k < r → x ≡ stored b 32 (flat (descriptor_bytes Little) (take k (shown_there ps hs places r)))

@@ -12,16 +12,14 @@ use mir.Val.{bool_byte}
 use Rattle.device.specs.Record.{health_at}
 use Rattle.device.specs.declared.Device.{Device}
 use Rattle.layout.specs.declared.Descriptor.{Descriptor}
-use Rattle.paper.specs.declared.Reading.{Reading}
 use Rattle.request.specs.declared.Request.{Request}
 use Rattle.slices.proofs.Lists.{keep_append, map-append, map-up_to, every_same, every_set}
 use Rattle.slices.specs.Lists.{keep, up_to}
 use Rattle.table.proofs.Arrays.{length_taken}
 use Rattle.table.specs.Elements.{live, blank_part, size}
 use Rattle.table.specs.declared.Part.{Part}
-use Rattle.view.proofs.Healths.{health_there}
-use Rattle.view.specs.Shown.{shown_health, health_in, shown_of, asks}
-use Rattle.status.specs.Page.{healths_of, shown_at, list_of}
+use Rattle.view.specs.Shown.{shown_of, asks}
+use Rattle.status.specs.Page.{shown_at, list_of}
 use Rattle.status.specs.Private.{Slots, shown_in, shown_there}
 
 take-map : {A B : Type 0} (f : A → B) (n : ℕ) (l : List A) → take n (map f l) ≡ map f (take n l)
@@ -42,15 +40,15 @@ module _ (ps : List Part) (hs : List ℕ) where
   unfolding shown_there
   take_there places n r h = take-map (shown_in ps hs) r (take n places) ∙ ap (map (shown_in ps hs)) (take-take r n places h)
 
-  module _ (v : Reading) (q : Request) where
+  module _ (q : Request) where
     -- what is asked for of the first i
     unfoldable pub wanted : ℕ → List Descriptor
-    wanted i = keep (asks v q) (map (shown_in ps hs) (up_to i))
+    wanted i = keep (asks q) (map (shown_in ps hs) (up_to i))
 
-    pub wanted_more : (i : ℕ) → wanted (i + 1) ≡ wanted i ++ cond (asks v q (shown_in ps hs i)) (shown_in ps hs i ∷ []) []
+    pub wanted_more : (i : ℕ) → wanted (i + 1) ≡ wanted i ++ cond (asks q (shown_in ps hs i)) (shown_in ps hs i ∷ []) []
     unfolding wanted
     wanted_more i =
-        rw (add-one i, map-append (shown_in ps hs) (up_to i) (i ∷ [])) (keep_append (asks v q) (map (shown_in ps hs) (up_to i)) (shown_in ps hs i ∷ []))
+        rw (add-one i, map-append (shown_in ps hs) (up_to i) (i ∷ [])) (keep_append (asks q) (map (shown_in ps hs) (up_to i)) (shown_in ps hs i ∷ []))
 
     -- the places put down are those of what is asked for of the first i
     abbrev pub Listed : List ℕ → ℕ → ℕ → Type 0
@@ -62,13 +60,13 @@ module _ (ps : List Part) (hs : List ℕ) where
 
     -- a turn of the loop: the place is put down, and counts if its element is asked for
     module _ (places : List ℕ) (n i : ℕ) (listed : Listed places n i) (low : i < 128) where
-      counts : (b : Bool) → asks v q (shown_in ps hs i) ≡ b → shown_there ps hs (set places n i) (n + bool_byte b) ≡ wanted (i + 1)
+      counts : (b : Bool) → asks q (shown_in ps hs i) ≡ b → shown_there ps hs (set places n i) (n + bool_byte b) ≡ wanted (i + 1)
       unfolding shown_there
       counts true y =
           rw (add-one n, take-suc-set places n i (omega (arith, listed)), map-append (shown_in ps hs) (take n places) (i ∷ []), wanted_more i, y, listed.0)
       counts false z = rw (add-zero n, take-set-le n places n i (omega arith), wanted_more i, z, append-nil) listed.0
 
-      pub list_turn : (b : Bool) → b ≡ asks v q (shown_of (get_or ps i blank_part) (get_or hs i 0)) → Listed (set places n i) (n + bool_byte b) (i + 1)
+      pub list_turn : (b : Bool) → b ≡ asks q (shown_of (get_or ps i blank_part) (get_or hs i 0)) → Listed (set places n i) (n + bool_byte b) (i + 1)
       unfolding shown_in
       list_turn b is_b =
           (counts b (sym is_b), less b, length-set places n i ∙ listed.2, every_set (λ (j : ℕ). j < 128) places n i listed.3 low)
@@ -97,16 +95,10 @@ count_fits n true low = omega arith
 count_fits n false low = omega arith
 
 -- all of them put down
-pub all_listed : (d : Device) (hs : List ℕ) (q : Request) (n : ℕ) → hs ≡ healths_of d → length d.table.parts ≡ 128 → n ≡ min d.table.count 128
-    → wanted d.table.parts hs d.table.reading q n ≡ list_of d q
+pub all_listed : (d : Device) (q : Request) (n : ℕ) → length d.table.parts ≡ 128 → n ≡ min d.table.count 128 → wanted d.table.parts d.cells.healths q n ≡ list_of d q
 unfolding shown_in wanted list_of
-all_listed d hs q n is_hs full is_n =
+all_listed d q n full is_n =
     let long : size d.table ≡ n = length-map (live d.table) (λ (p : Part). p.id.0) ∙ length_taken d.table.parts d.table.count n full is_n in
-    let part : (i : ℕ) → i < n → get_or d.table.parts i blank_part ≡ get_or (live d.table) i blank_part =
-    λ i h. sym (get_or-take d.table.count d.table.parts i blank_part (omega arith)) in
-    let there : (i : ℕ) → i < n → get_or hs i 0 ≡ health_in d.table.reading d.cells.note d.cells.failed d.table.parts d.cells.healths i =
-    λ i h. ap (λ (l : List ℕ). get_or l i 0) is_hs ∙ health_there _ _ _ d.table.parts d.cells.healths (min d.table.count 128) i (omega arith) in
-    let same : (i : ℕ) → i < n → shown_in d.table.parts hs i ≡ shown_at d i =
-    λ i h. ap (shown_of (get_or d.table.parts i blank_part)) (there i h)
-    ∙ ap (λ (p : Part). shown_of p (shown_health d.table.reading d.cells.note d.cells.failed p.id (health_at d i))) (part i h) in
-    ap (keep (asks d.table.reading q)) (map-up_to (shown_in d.table.parts hs) (shown_at d) n same ∙ ap (λ (m : ℕ). map (shown_at d) (up_to m)) (sym long))
+    let same : (i : ℕ) → i < n → shown_in d.table.parts d.cells.healths i ≡ shown_at d i =
+    λ i h. ap (λ (p : Part). shown_of p (health_at d i)) (sym (get_or-take d.table.count d.table.parts i blank_part (omega arith))) in
+    ap (keep (asks q)) (map-up_to (shown_in d.table.parts d.cells.healths) (shown_at d) n same ∙ ap (λ (m : ℕ). map (shown_at d) (up_to m)) (sym long))

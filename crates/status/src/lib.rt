@@ -5,7 +5,7 @@ ghost use Rattle.layout.specs.Bytes.{descriptor_bytes};
 ghost use Rattle.paper.specs.Told.{said};
 ghost use Rattle.request.specs.Requests.{pages_of};
 ghost use Rattle.slices.specs.Lists.{flat, stored};
-ghost use Rattle.status.specs.Page.{healths_of, headed, page_of, shown};
+ghost use Rattle.status.specs.Page.{headed, page_of, shown};
 ghost use Rattle.status.specs.Private as private;
 
 use device::Device;
@@ -14,20 +14,6 @@ use paper::{Answer, Security};
 use request::Request;
 use table::Part;
 use words::Order;
-
-// The healths that a page shows, by place.
-pub fn shown_healths(d: Device) -> [u8; 128]
-    ensures { result ≡ healths_of d }
-{
-    let table = d.table;
-    let cells = d.cells;
-    let reading = table.reading;
-    let note = cells.note;
-    let failed = cells.failed;
-    let ps = table.parts;
-    let hs = cells.healths;
-    view::shown_healths(reading, note, failed, ps, hs, table.count)
-}
 
 // The header of a list of this number, of which so many are returned. The number at FFh is of the whole table.
 pub fn header_of(d: Device, number: u32, returned: u32) -> Header
@@ -69,22 +55,21 @@ fn put_zeros(number: usize, returned: usize, pages: usize, buf: &mut [u8])
     strokes::put_times(buf, 32 + 32 * returned, zero, 8 * rows);
 }
 
-// Fills the page, by the healths that it shows, in ascending order, each byte once: the header, the descriptors, the zeros.
+// Fills the page, in ascending order, each byte once: the header, the descriptors, the zeros.
 // The places of what is asked for are put down first, so that each element is judged once.
-fn fill(d: Device, hs: [u8; 128], request: Request, buf: &mut [u8])
-    requires { (hs ≡ healths_of d) × (1 ≤ pages_of request) × (512 * pages_of request ≤ length buf.old) }
+fn fill(d: Device, request: Request, buf: &mut [u8])
+    requires { (1 ≤ pages_of request) × (512 * pages_of request ≤ length buf.old) }
     ensures { buf.new ≡ page_of d request ++ drop (512 * pages_of request) buf.old }
 {
-    let table = d.table;
-    let ps = table.parts;
-    let reading = table.reading;
-    let n = table::bounded(table.count);
+    let ps = d.table.parts;
+    let hs = d.cells.healths;
+    let n = table::bounded(d.table.count);
     let mut places: [u8; 128] = [0; 128];
     let mut number: usize = 0;
     let mut i: usize = 0;
     while i < n {
         places[number] = i as u8;
-        number += view::does_ask(request, reading, ps[i], hs[i]) as usize;
+        number += view::does_ask(request, ps[i], hs[i]) as usize;
         i += 1;
     }
     let returned = slices::smaller(number, 16 * (request.count.0 as usize) - 1);
@@ -100,8 +85,7 @@ pub fn show(d: Device, security: Security, request: Request, buf: &mut [u8]) -> 
 {
     let answer = request::judge(security, request, buf.len());
     if paper::number_of(answer) == 0 {
-        let hs = shown_healths(d);
-        fill(d, hs, request, buf);
+        fill(d, request, buf);
     }
     answer
 }

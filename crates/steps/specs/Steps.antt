@@ -7,13 +7,14 @@ use Rattle.table.specs.declared.Table.{Table}
 use Rattle.cells.specs.Rulings.{Ruled, quiet, goes}
 use Rattle.cells.specs.Sights.{see_in, gone}
 use Rattle.cells.specs.declared.Cells.{Cells}
+use Rattle.cells.specs.declared.Mark.TheVariants.{Clear, Set}
 use Rattle.cells.specs.declared.Note.TheVariants.{Empty, Full}
 use Rattle.cells.specs.declared.Note.{Note}
 use Rattle.cells.specs.declared.Position.TheVariants.{Work1, Work2, Work3, Work4, Work5, Wind1, Wind2, Wind3, Wind4}
 use Rattle.cells.specs.declared.Position.{Position}
 use Rattle.cells.specs.declared.Removal.{Removal}
 use Rattle.cells.specs.declared.Seen.{Seen}
-use Rattle.cells.specs.declared.Store.TheVariants.{Nothing, NativeTo, AccessibleTo, Marked, Graded, FailedAt, FailedCleared, NoteEmptied}
+use Rattle.cells.specs.declared.Store.TheVariants.{Nothing, NativeTo, AccessibleTo, Marked, Graded, FailedTo, NoteEmptied}
 use Rattle.cells.specs.declared.Store.{Store}
 
 -- "both to the new value if the noted element is FFh, else the old"; one that is not there is not
@@ -25,16 +26,16 @@ abbrev pub marking : Seen → Store
 marking s = cond s.hit (Marked s.place) Nothing
 
 -- "(1) native max := new; (2) accessible max := new; (3) health := FFh, the marking store; (4) failed mark cleared; (5) note emptied"
--- "(1) native, (2) accessible ..; (3) failed mark set; (4) note emptied": set, it "names the element whose removal wound up last" (request 2026-07)
+-- "(1) native, (2) accessible ..; (3) failed mark set; (4) note emptied"
 abbrev pub store_from : Seen → Removal → Position → Store
 store_from s w Work1 = NativeTo w.new
 store_from s w Work2 = AccessibleTo w.new
 store_from s w Work3 = marking s
-store_from s w Work4 = FailedCleared
+store_from s w Work4 = FailedTo Clear
 store_from s w Work5 = NoteEmptied
 store_from s w Wind1 = NativeTo (wound_to s w)
 store_from s w Wind2 = AccessibleTo (wound_to s w)
-store_from s w Wind3 = FailedAt w.element
+store_from s w Wind3 = FailedTo Set
 store_from s w Wind4 = NoteEmptied
 
 -- the step after; the last ones lead to the first work step, where the position rests while the note is empty

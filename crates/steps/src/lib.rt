@@ -6,7 +6,7 @@ ghost use Rattle.paper.specs.Answers.{number_of};
 ghost use Rattle.steps.specs.Private as private;
 ghost use Rattle.steps.specs.Steps as steps;
 
-use cells::{Cells, Note, Position, Removal, Ruling, Seen, Store, goes, quiet};
+use cells::{Cells, Mark, Note, Position, Removal, Ruling, Seen, Store, goes, quiet};
 use paper::{Answer, ElementId, Lba};
 use table::Table;
 
@@ -72,16 +72,15 @@ fn store_from(s: Seen, w: Removal, at: Position) -> Store
     ensures { result ≡ steps.storeFrom s w at }
 {
     let new = w.new;
-    let id = w.element;
     match at {
         Position::Work1 => Store::NativeTo(new),
         Position::Work2 => Store::AccessibleTo(new),
         Position::Work3 => marking(s),
-        Position::Work4 => Store::FailedCleared,
+        Position::Work4 => Store::FailedTo(Mark::Clear),
         Position::Work5 => Store::NoteEmptied,
         Position::Wind1 => Store::NativeTo(wound_to(s, w)),
         Position::Wind2 => Store::AccessibleTo(wound_to(s, w)),
-        Position::Wind3 => Store::FailedAt(id),
+        Position::Wind3 => Store::FailedTo(Mark::Set),
         Position::Wind4 => Store::NoteEmptied,
     }
 }

@@ -5,7 +5,7 @@ ghost use Rattle.slices.specs.Lists.{one};
 ghost use Rattle.table.specs.Elements.{blank_part, removed_count};
 ghost use Rattle.table.specs.Search as search;
 
-use paper::{ElementId, Reading};
+use paper::ElementId;
 
 // What of an element is no cell; `kind` is its type, a word that the language keeps. C lends it in a record of its own: each of its 16 bytes is
 // a field's, the spare ones too, which nothing looks at.
@@ -19,13 +19,12 @@ pub struct Part {
     pub blocks: u64,
 }
 
-// The table as built, for one of the two readings.
+// The table as built.
 #[derive(Drop)]
 pub struct Table {
     pub parts: [Part; 128],
     pub count: usize,
     pub limit: u16,
-    pub reading: Reading,
 }
 
 // Where the search stopped, the part there, and whether it is the one sought; past the end a blank one.

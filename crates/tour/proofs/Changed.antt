@@ -8,7 +8,6 @@ use lib.Dec.{leb}
 use lib.ListN.{length}
 use Rattle.device.specs.declared.Device.{Device}
 use Rattle.layout.specs.declared.Descriptor.{Descriptor}
-use Rattle.paper.specs.declared.Reading.{Reading}
 use Rattle.reach.specs.Opening.{accepted}
 use Rattle.request.specs.Requests.{start_of}
 use Rattle.request.specs.declared.Request.{Request}
@@ -43,30 +42,27 @@ module _ (built : Table) where
     unfolding ahead_lem
     ahead-shown start = kept_keys id_of start (shown_all x) ∙ ap (λ (ids : List ℕ). length (keep (leb start) ids)) (shown_ids x ∙ ap identifiers same)
 
-  ahead_falls : ascending 0 (identifiers built) ≡ true → (r : Round) → ShowsThen built r → Falls built.reading ahead_lem r
+  ahead_falls : ascending 0 (identifiers built) ≡ true → (r : Round) → ShowsThen built r → Falls ahead_lem r
   ahead_falls asc r then id l =
       let q : Request = r.request in
       let x : Device = then.device in
-      let led : Leads x.table.reading (page_of x q) q id =
-      subst⁻¹ (λ (t : Table). Leads t.reading (page_of x q) q id) then.same (subst (λ (s : List ℕ). Leads built.reading s q id) then.shows.page l) in
+      let led : Leads (page_of x q) q id = subst (λ (s : List ℕ). Leads s q id) then.shows.page l in
       let fewer = fewer_ahead x then.fits (rw then.same asc) q then.shows.asked id led in
       let later = ahead-shown x then.same id.0 in
       (omega (arith, fewer.0, later), omega (arith, fewer.1, later, ahead-shown x then.same (start_of q)))
 
-  reads_then : ascending 0 (identifiers built) ≡ true → (r : Round) → ShowsThen built r → Reads built.reading r
+  reads_then : ascending 0 (identifiers built) ≡ true → (r : Round) → ShowsThen built r → Reads r
   reads_then asc r then =
-      subst (λ (t : Table). accepted t.reading r.page r.request ≡ true) then.same
-      (subst⁻¹ (λ (s : List ℕ). accepted then.device.table.reading s r.request ≡ true) then.shows.page
-      (is_taken then.device then.fits (rw then.same asc) r.request then.shows.asked))
+      subst⁻¹ (λ (s : List ℕ). accepted s r.request ≡ true) then.shows.page
+      (is_taken then.device then.fits (rw then.same asc) r.request then.shows.asked)
 
 pub ends_anyway : EndsAnyway
 ends_anyway built asc q cs shows enough =
     let n : ℕ = size built in
-    let v : Reading = built.reading in
-    let rs : List Round = (walk v q cs).rounds in
-    let falls = every_so (ShowsThen built) (Falls v (ahead_lem built)) (ahead_falls built asc) rs shows in
-    let reads = every_so (ShowsThen built) (Reads v) (reads_then built asc) rs shows in
+    let rs : List Round = (walk q cs).rounds in
+    let falls = every_so (ShowsThen built) (Falls (ahead_lem built)) (ahead_falls built asc) rs shows in
+    let reads = every_so (ShowsThen built) Reads (reads_then built asc) rs shows in
     let all : ahead_lem built (start_of q) ≤ most n = ahead-all built (start_of q) in (
-      ends v (ahead_lem built) q cs (most n) (most_some n).0 all (most_within n (length cs) enough) falls reads,
-      within_most n (length rs) (bounded v (ahead_lem built) q cs (most n) (most_some n).0 all falls),
+      ends (ahead_lem built) q cs (most n) (most_some n).0 all (most_within n (length cs) enough) falls reads,
+      within_most n (length rs) (bounded (ahead_lem built) q cs (most n) (most_some n).0 all falls),
     )

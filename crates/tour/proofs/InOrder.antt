@@ -9,7 +9,6 @@ use Rattle.layout.specs.Bytes.{header_in}
 use Rattle.layout.specs.declared.Descriptor.{Descriptor}
 use Rattle.offences.specs.Checks.{descriptor_at, last_before}
 use Rattle.paper.specs.Told.{tells}
-use Rattle.paper.specs.declared.Reading.{Reading}
 use Rattle.reach.specs.Opening.{accepted}
 use Rattle.reader.proofs.Taken.{Taken}
 use Rattle.reader.specs.Judgement as reader
@@ -29,7 +28,7 @@ ids l = map (λ (x : Descriptor). x.id.0) l
 
 -- ## A page, and what follows it
 
-module _ (v : Reading) (s : List ℕ) (q : Request) (page : Taken Little v s q) (low : ℕ) (under : (id : ℕ) → 1 ≤ id → start_of q ≤ id → low < id) where
+module _ (s : List ℕ) (q : Request) (page : Taken Little s q) (low : ℕ) (under : (id : ℕ) → 1 ≤ id → start_of q ≤ id → low < id) where
   -- the identifier before a place; before the first, what all of them are above
   below_lem : ℕ → ℕ
   below_lem zero = low
@@ -60,37 +59,37 @@ module _ (v : Reading) (s : List ℕ) (q : Request) (page : Taken Little v s q) 
 
 -- ## The whole walk
 
-taken_held : (v : Reading) (q : Request) (s : List ℕ) → accepted v s q ≡ true → elements_in v (round q s) ≡ held_below s (header_in Little s).returned
+taken_held : (q : Request) (s : List ℕ) → accepted s q ≡ true → elements_in (round q s) ≡ held_below s (header_in Little s).returned
 unfolding elements_in
-taken_held v q s ok = rw ok
+taken_held q s ok = rw ok
 
-refused_none : (v : Reading) (q : Request) (s : List ℕ) (p : ℕ) → reader.read_of Little v s q ≡ tells 9 (reader.place p) → elements_in v (round q s) ≡ []
+refused_none : (q : Request) (s : List ℕ) (p : ℕ) → reader.read_of Little s q ≡ tells 9 (reader.place p) → elements_in (round q s) ≡ []
 unfolding elements_in accepted
-refused_none v q s p is_9 = rw is_9
+refused_none q s p is_9 = rw is_9
 
-rises : (v : Reading) (q : Request) (cs : List Came) (low : ℕ) → ((id : ℕ) → 1 ≤ id → start_of q ≤ id → low < id) → ascending low (ids (listed v (walk v q cs))) ≡ true
+rises : (q : Request) (cs : List Came) (low : ℕ) → ((id : ℕ) → 1 ≤ id → start_of q ≤ id → low < id) → ascending low (ids (listed (walk q cs))) ≡ true
 unfolding walk
-rises v q [] low under = refl
-rises v q (c ∷ cs) low under =
-    by_way v (λ w. ascending low (ids (listed v w)) ≡ true) q c cs
-    (λ p is_9. rw (refused_none v q c.page p is_9) refl)
+rises q [] low under = refl
+rises q (c ∷ cs) low under =
+    by_way (λ w. ascending low (ids (listed w)) ≡ true) q c cs
+    (λ p is_9. rw (refused_none q c.page p is_9) refl)
     (λ ok end. after_lem ok [] refl)
     (λ id l.
     let next : Request = next_request q id c.next in
-    let page = page_taken v c.page q l.taken in
-    let last : below_lem v c.page q page low under n ≡ last_before Little c.page n = below_last v c.page q page low under n (omega (arith, l.some)) in
-    after_lem l.taken (listed v (walk v next cs))
-    (rises v next cs (below_lem v c.page q page low under n)
-    (λ k some start. omega (arith, last, led_last v c.page q id l, start, start_next v q c.page id c.next l))))
+    let page = page_taken c.page q l.taken in
+    let last : below_lem c.page q page low under n ≡ last_before Little c.page n = below_last c.page q page low under n (omega (arith, l.some)) in
+    after_lem l.taken (listed (walk next cs))
+    (rises next cs (below_lem c.page q page low under n)
+    (λ k some start. omega (arith, last, led_last c.page q id l, start, start_next q c.page id c.next l))))
   where
     n : ℕ
     n = (header_in Little c.page).returned
 
-    after_lem : (ok : accepted v c.page q ≡ true) (rest : List Descriptor)
-        → ascending (below_lem v c.page q (page_taken v c.page q ok) low under n) (ids rest) ≡ true → ascending low (ids (elements_in v (round q c.page) ++ rest)) ≡ true
+    after_lem : (ok : accepted c.page q ≡ true) (rest : List Descriptor)
+        → ascending (below_lem c.page q (page_taken c.page q ok) low under n) (ids rest) ≡ true → ascending low (ids (elements_in (round q c.page) ++ rest)) ≡ true
     after_lem ok rest asc =
-        rw (taken_held v q c.page ok, map-append (λ (x : Descriptor). x.id.0) (held_below c.page n) rest)
-        (ascends v c.page q (page_taken v c.page q ok) low under n (ids rest) (omega arith) asc)
+        rw (taken_held q c.page ok, map-append (λ (x : Descriptor). x.id.0) (held_below c.page n) rest)
+        (ascends c.page q (page_taken c.page q ok) low under n (ids rest) (omega arith) asc)
 
 pub lists_in_order : ListsInOrder
-lists_in_order v q cs = rises v q cs 0 (λ id some start. some)
+lists_in_order q cs = rises q cs 0 (λ id some start. some)

@@ -4,7 +4,6 @@ use mathlib.Core.List.{List, [], ◌∷◌, map}
 use mathlib.Core.Path.{◌≡◌, refl, ap}
 use Rattle.paper.specs.Told.{Told}
 use Rattle.paper.specs.declared.PageCount.{PageCount}
-use Rattle.paper.specs.declared.Reading.{Reading}
 use Rattle.request.specs.Requests.{refused}
 use Rattle.request.specs.declared.Request.{Request}
 use Rattle.slices.specs.Lists.{Every}
@@ -27,31 +26,28 @@ counted (p ∷ ps) = ap (λ (l : List PageCount). p ∷ l) (counted ps)
 pub any_mix : AnyMix
 unfolding walk
 any_mix d q [] ok ones = record { came = []; mix = refl; shown_lem = tt }
-any_mix d q (p ∷ ps) ok (one, ones) = go (way v (page_of d q) q) (λ next asked. any_mix d next ps asked ones)
+any_mix d q (p ∷ ps) ok (one, ones) = go (way (page_of d q) q) (λ next asked. any_mix d next ps asked ones)
   where
-    v : Reading
-    v = d.table.reading
-
     first_lem : Came
     first_lem = record { page = page_of d q; next = p }
 
     show : Shows d (round q (page_of d q))
     show = record { asked = ok; page = refl }
 
-    shown_lem : (cs : List Came) (x : Values) → (next_of v (page_of d q) q).state ≡ x
-        → Every (Shows d) (followed (round q (page_of d q)) x (λ id. walk v (next_request q id p) cs)).rounds → Every (Shows d) (walk v q (first_lem ∷ cs)).rounds
-    shown_lem cs = by_value v (λ w. Every (Shows d) w.rounds) q first_lem cs
+    shown_lem : (cs : List Came) (v : Values) → (next_of (page_of d q) q).state ≡ v
+        → Every (Shows d) (followed (round q (page_of d q)) v (λ id. walk (next_request q id p) cs)).rounds → Every (Shows d) (walk q (first_lem ∷ cs)).rounds
+    shown_lem cs = by_value (λ w. Every (Shows d) w.rounds) q first_lem cs
 
-    stops_lem : (x : Values) → (next_of v (page_of d q) q).state ≡ x → Every (Shows d) (followed (round q (page_of d q)) x (λ id. walk v (next_request q id p) (after_lem ps))).rounds
+    stops_lem : (v : Values) → (next_of (page_of d q) q).state ≡ v → Every (Shows d) (followed (round q (page_of d q)) v (λ id. walk (next_request q id p) (after_lem ps))).rounds
         → Comes d q (p ∷ ps)
-    stops_lem x e last = record { came = first_lem ∷ after_lem ps; mix = ap (λ (l : List PageCount). p ∷ l) (counted ps); shown_lem = shown_lem (after_lem ps) x e last }
+    stops_lem v e last = record { came = first_lem ∷ after_lem ps; mix = ap (λ (l : List PageCount). p ∷ l) (counted ps); shown_lem = shown_lem (after_lem ps) v e last }
 
-    go : Way v (page_of d q) q → ((next : Request) → refused next ≡ false → Comes d next ps) → Comes d q (p ∷ ps)
+    go : Way (page_of d q) q → ((next : Request) → refused next ≡ false → Comes d next ps) → Comes d q (p ∷ ps)
     go (refuses k _ is_next) rest = stops_lem (place k) (ap (λ (u : Told Values). u.state) is_next) (show, tt)
     go (whole _ _ is_next) rest = stops_lem end (ap (λ (u : Told Values). u.state) is_next) (show, tt)
     go (highest _ _ is_next) rest = stops_lem end (ap (λ (u : Told Values). u.state) is_next) (show, tt)
     go (leads id l is_next) rest =
-        let on = rest (next_request q id p) (next_asked v (page_of d q) q id p l one) in
+        let on = rest (next_request q id p) (next_asked (page_of d q) q id p l one) in
         record {
           came = first_lem ∷ on.came;
           mix = ap (λ (l : List PageCount). p ∷ l) on.mix;

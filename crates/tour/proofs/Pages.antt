@@ -21,7 +21,6 @@ use Rattle.offences.specs.Checks.{last_before}
 use Rattle.paper.specs.Told.{Told}
 use Rattle.paper.specs.declared.ElementId.{ElementId}
 use Rattle.paper.specs.declared.PageCount.{PageCount}
-use Rattle.paper.specs.declared.Reading.{Reading}
 use Rattle.reach.specs.Opening.{accepted}
 use Rattle.reader.specs.Judgement as reader
 use Rattle.request.proofs.Requests as requests
@@ -48,9 +47,6 @@ id_of x = x.id.0
 -- ## A page
 
 module _ (d : Device) (fits : Fits d) (asc : ascending 0 (identifiers d.table) ≡ true) (q : Request) (ok : refused q ≡ false) where
-  abbrev v : Reading
-  v = d.table.reading
-
   abbrev L : List Descriptor
   L = list_of d q
 
@@ -79,11 +75,11 @@ module _ (d : Device) (fits : Fits d) (asc : ascending 0 (identifiers d.table) �
       let there : k < n = omega (arith, less) in
       rw (held_here k (omega (arith, less)), (agrees d q fits asc ok).1 k there) (sym (take-suc L k none (omega (arith, there, min-le_left (length L) R))))
 
-  pub is_taken : accepted v page q ≡ true
+  pub is_taken : accepted page q ≡ true
   unfolding accepted
-  is_taken = eq-eqb (reader.read_of Little v page q).number 0 (ap (λ (t : Told reader.Values). t.number) (agrees d q fits asc ok).0)
+  is_taken = eq-eqb (reader.read_of Little page q).number 0 (ap (λ (t : Told reader.Values). t.number) (agrees d q fits asc ok).0)
 
-  pub elements_here : elements_in v (round q page) ≡ take R L
+  pub elements_here : elements_in (round q page) ≡ take R L
   unfolding elements_in
   elements_here =
       rw is_taken
@@ -132,52 +128,52 @@ module _ (d : Device) (fits : Fits d) (asc : ascending 0 (identifiers d.table) �
           absurd (omega (arith, high, last_here cut, last_low cut))
 
   -- where it leads on, the rest of the list is the next request's
-  module _ (id : ElementId) (l : Leads v page q id) where
+  module _ (id : ElementId) (l : Leads page q id) where
     pub leads_cut : R < length L
     leads_cut = omega (arith, l.cut, number_here, returned_here, min-le_left (length L) R)
 
     pub rest_kept : keep (from id_of id.0) L ≡ drop R L
     rest_kept =
         let back : suc (R - 1) ≡ R = omega (arith, some_room) in
-        let is_id : id.0 ≡ id_of (get_or L (R - 1) none) + 1 = led_last v page q id l ∙ ap (λ (n : ℕ). n + 1) (last_here leads_cut) in
+        let is_id : id.0 ≡ id_of (get_or L (R - 1) none) + 1 = led_last page q id l ∙ ap (λ (n : ℕ). n + 1) (last_here leads_cut) in
         ap (λ (b : ℕ). keep (from id_of b) L) is_id
         ∙ keeps_rest id_of 0 L (R - 1) none (omega (arith, leads_cut)) list_up
         ∙ ap (λ (k : ℕ). drop k L) back
 
     module _ (pages : PageCount) where
-      narrower : (x : Descriptor) → asks v (next_request q id pages) x ≡ (from id_of id.0 x && asks v q x)
+      narrower : (x : Descriptor) → asks (next_request q id pages) x ≡ (from id_of id.0 x && asks q x)
       unfolding asks
-      narrower x = rw (start_next v q page id pages l) (by_test (leb id.0 (id_of x)) refl)
+      narrower x = rw (start_next q page id pages l) (by_test (leb id.0 (id_of x)) refl)
         where
           test : Bool
-          test = takes_type (report_type_of q) x.kind && takes_health v (filter_of q) x.health
+          test = takes_type (report_type_of q) x.kind && takes_health (filter_of q) x.health
 
           by_test : (b : Bool) → leb id.0 (id_of x) ≡ b → (b && test) ≡ (b && (leb (start_of q) (id_of x) && test))
-          by_test true e = rw (le-leb (start_of q) (id_of x) (omega (arith, leb-true id.0 (id_of x) e, (start_climbs v page q id l).1)))
+          by_test true e = rw (le-leb (start_of q) (id_of x) (omega (arith, leb-true id.0 (id_of x) e, (start_climbs page q id l).1)))
           by_test false e = refl
 
       pub rest_listed : list_of d (next_request q id pages) ≡ drop R L
       unfolding list_of
-      rest_listed = sym (keeps_both id_of (from id_of id.0) (asks v q) (asks v (next_request q id pages)) narrower (shown_all d)) ∙ rest_kept
+      rest_listed = sym (keeps_both id_of (from id_of id.0) (asks q) (asks (next_request q id pages)) narrower (shown_all d)) ∙ rest_kept
 
     -- 15 at least of the device's elements from the start on are behind, and one at least is ahead
-    asks_from : (x : Descriptor) → asks v q x ≡ true → from id_of (start_of q) x ≡ true
+    asks_from : (x : Descriptor) → asks q x ≡ true → from id_of (start_of q) x ≡ true
     unfolding asks
-    asks_from x e = (both (from id_of (start_of q) x) (takes_type (report_type_of q) x.kind && takes_health v (filter_of q) x.health) e).0
+    asks_from x e = (both (from id_of (start_of q) x) (takes_type (report_type_of q) x.kind && takes_health (filter_of q) x.health) e).0
 
     later_from : (x : Descriptor) → from id_of id.0 x ≡ true → from id_of (start_of q) x ≡ true
-    later_from x e = le-leb (start_of q) (id_of x) (omega (arith, leb-true id.0 (id_of x) e, (start_climbs v page q id l).1))
+    later_from x e = le-leb (start_of q) (id_of x) (omega (arith, leb-true id.0 (id_of x) e, (start_climbs page q id l).1))
 
-    kept_long : length (keep (from id_of id.0) (keep (asks v q) (shown_all d))) ≡ length L - R
+    kept_long : length (keep (from id_of id.0) (keep (asks q) (shown_all d))) ≡ length L - R
     unfolding list_of
     kept_long = ap length rest_kept ∙ length-drop R L
 
-    list_long : length (keep (asks v q) (shown_all d)) ≡ length L
+    list_long : length (keep (asks q) (shown_all d)) ≡ length L
     unfolding list_of
     list_long = refl
 
     pub fewer_ahead : (1 ≤ length (keep (from id_of id.0) (shown_all d)))
         × (15 + length (keep (from id_of id.0) (shown_all d)) ≤ length (keep (from id_of (start_of q)) (shown_all d)))
     fewer_ahead =
-        let two = narrows id_of (from id_of (start_of q)) (from id_of id.0) (asks v q) later_from asks_from (shown_all d) in
+        let two = narrows id_of (from id_of (start_of q)) (from id_of id.0) (asks q) later_from asks_from (shown_all d) in
         (omega (arith, two.1, kept_long, leads_cut), omega (arith, two.0, kept_long, list_long, leads_cut, some_room))

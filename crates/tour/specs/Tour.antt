@@ -1,13 +1,11 @@
 -- Document 02, 2026-04: "Show that, if nothing changes the device between, such a walk with any mix of page counts from 1 lists each matching
--- element exactly once, in order." A walk is that of walk/specs/Walk; here the pages that come are a device's, and it goes by the device's own
--- reading.
+-- element exactly once, in order." A walk is that of walk/specs/Walk; here the pages that come are a device's.
 use Rattle.std.specs.Prelude.{ℕ, ◌+◌, ◌/◌, ◌≤◌, true, false, cond, List, map, ◌≡◌, eqb, length}
 use Rattle.conduct.specs.Fits.{Fits}
 use Rattle.device.specs.declared.Device.{Device}
 use Rattle.layout.specs.Bytes.{header_in}
 use Rattle.layout.specs.declared.Descriptor.{Descriptor}
 use Rattle.paper.specs.declared.PageCount.{PageCount}
-use Rattle.paper.specs.declared.Reading.{Reading}
 use Rattle.request.specs.Requests.{pages_of, refused}
 use Rattle.request.specs.declared.Request.{Request}
 use Rattle.slices.specs.Lists.{Every}
@@ -37,7 +35,7 @@ requests_for n = cond (eqb n 0) 1 ((n + 14) / 15)
 pub record Comes (d : Device) (q : Request) (counts : List PageCount) : Type 0 where
   pub came : List Came
   pub mix : map (λ (c : Came). c.next) came ≡ counts
-  pub shown : Every (Shows d) (walk d.table.reading q came).rounds
+  pub shown : Every (Shows d) (walk q came).rounds
 
 abbrev pub AnyMix : Type 0
 AnyMix =
@@ -47,7 +45,7 @@ AnyMix =
 pub record ListsWhole (d : Device) (q : Request) (w : Walked) : Type 0 where
   pub ends : w.stand ≡ ended
   -- "each matching element": what the device lists for the first request; "exactly once, in order" (`ListsInOrder`)
-  pub whole : listed d.table.reading w ≡ list_of d q
+  pub whole : listed w ≡ list_of d q
   -- "It ends where N equals returned."
   pub last : Last (λ (r : Round). (header_in Little r.page).number ≡ (header_in Little r.page).returned) w.rounds
   -- as many requests at most, and exactly as many where each is for one page
@@ -58,16 +56,16 @@ pub record ListsWhole (d : Device) (q : Request) (w : Walked) : Type 0 where
 abbrev pub WalksWhole : Type 0
 WalksWhole =
     (d : Device) → Fits d → ascending 0 (identifiers d.table) ≡ true
-    → (q : Request) (cs : List Came) → Every (Shows d) (walk d.table.reading q cs).rounds → requests_for (length (list_of d q)) ≤ length cs
-    → ListsWhole d q (walk d.table.reading q cs)
+    → (q : Request) (cs : List Came) → Every (Shows d) (walk q cs).rounds → requests_for (length (list_of d q)) ≤ length cs
+    → ListsWhole d q (walk q cs)
 
 -- ## Whatever comes
 
 -- no identifier is listed twice, and they ascend
 abbrev pub ListsInOrder : Type 0
-ListsInOrder = (v : Reading) (q : Request) (cs : List Came) → ascending 0 (map (λ (x : Descriptor). x.id.0) (listed v (walk v q cs))) ≡ true
+ListsInOrder = (q : Request) (cs : List Came) → ascending 0 (map (λ (x : Descriptor). x.id.0) (listed (walk q cs))) ≡ true
 
--- a round with a device of which all but the table may have changed; the table, and so the reading, is as built
+-- a round with a device of which all but the table may have changed; the table is as built
 pub record ShowsThen (built : Table) (r : Round) : Type 0 where
   pub device : Device
   pub fits : Fits device
@@ -78,5 +76,5 @@ pub record ShowsThen (built : Table) (r : Round) : Type 0 where
 abbrev pub EndsAnyway : Type 0
 EndsAnyway =
     (built : Table) → ascending 0 (identifiers built) ≡ true
-    → (q : Request) (cs : List Came) → Every (ShowsThen built) (walk built.reading q cs).rounds → requests_for (size built) ≤ length cs
-    → ((walk built.reading q cs).stand ≡ ended) × (length (walk built.reading q cs).rounds ≤ requests_for (size built))
+    → (q : Request) (cs : List Came) → Every (ShowsThen built) (walk q cs).rounds → requests_for (size built) ≤ length cs
+    → ((walk q cs).stand ≡ ended) × (length (walk q cs).rounds ≤ requests_for (size built))

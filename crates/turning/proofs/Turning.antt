@@ -14,7 +14,6 @@ use Rattle.convert.specs.declared.Converted.{Converted}
 use Rattle.offences.specs.First.{◌orElse◌}
 use Rattle.offences.specs.declared.Offence.TheVariants.{Clean, At}
 use Rattle.offences.specs.declared.Offence.{Offence}
-use Rattle.paper.specs.declared.Reading.TheVariants.{First}
 use Rattle.query.specs.Queries.{plain}
 use Rattle.query.specs.declared.Query.{Query}
 use Rattle.request.specs.Requests.{request_of}
@@ -36,10 +35,10 @@ module _ (s buf : List ℕ) (long : Bool) (is_long_lem : long ≡ ltb 65536 (len
   pages_fit n = omega (arith, short n)
 
   module _ (n : long ≡ false) (c : Converted) (out : List ℕ) where
-    pub page_turned : (q : Request) → q ≡ request_of s → heard c out ≡ to_scsi First s q buf → heard c out ≡ scsi_of s buf
+    pub page_turned : (q : Request) → q ≡ request_of s → heard c out ≡ to_scsi s q buf → heard c out ≡ scsi_of s buf
     page_turned q is_q e = e ∙ rw is_q (sym (rw (le-leb (length s) 65536 (short n))))
 
-    pub data_turned : (p : ℕ) (q : Query) → q ≡ plain → heard c out ≡ to_ata First s q p buf → heard c out ≡ ata_of s p buf
+    pub data_turned : (p : ℕ) (q : Query) → q ≡ plain → heard c out ≡ to_ata s q p buf → heard c out ≡ ata_of s p buf
     data_turned p q is_q e = e ∙ rw is_q (sym (rw (le-leb (length s) 65536 (short n))))
 
 -- ## 65,536 bytes are enough
@@ -51,11 +50,11 @@ not_7 Clean bytes buf room e = let no : ◌≡◌ {A = ℕ} 0 7 = sym (rw (le-lt
 
 pub enough : Enough
 enough s buf wide = (
-  not_7 (within s or_else scsi_offence First s (request_of s)) (turned Little Big s) buf (λ clean.
-      let (short, own) = or_clean (within s) (scsi_offence First s (request_of s)) clean in
+  not_7 (within s or_else scsi_offence s (request_of s)) (turned Little Big s) buf (λ clean.
+      let (short, own) = or_clean (within s) (scsi_offence s (request_of s)) clean in
       let bound = leb-true (length s) 65536 (unless_clean _ 65536 short) in
-      omega (arith, length-turned Little Big s, page_whole First s (request_of s) own, bound)),
+      omega (arith, length-turned Little Big s, page_whole s (request_of s) own, bound)),
   λ p few.
-      not_7 (within s or_else ata_offence First s plain p) (paged p s) buf (λ clean.
-      omega (arith, page_bytes First s plain p (or_clean (within s) (ata_offence First s plain p) clean).1)),
+      not_7 (within s or_else ata_offence s plain p) (paged p s) buf (λ clean.
+      omega (arith, page_bytes s plain p (or_clean (within s) (ata_offence s plain p) clean).1)),
 )

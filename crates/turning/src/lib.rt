@@ -4,7 +4,7 @@ ghost use Rattle.convert.specs.Convert.{heard};
 ghost use Rattle.turning.specs.Turning.{scsi_of, ata_of};
 
 use convert::Converted;
-use paper::{PageCount, Reading};
+use paper::PageCount;
 
 // Whether an input is longer than may be converted; such a one does not reach the reader.
 fn is_long(input: &[u8]) -> bool
@@ -21,7 +21,7 @@ pub fn to_scsi(input: &[u8], buf: &mut [u8]) -> Converted
         return Converted::Refused(65536);
     }
     let pages = PageCount((input.len() / 512) as u16);
-    convert::to_scsi(input, request::request_for(pages), Reading::First, buf)
+    convert::to_scsi(input, request::request_for(pages), buf)
 }
 
 // The data that the input is, as so many pages.
@@ -31,5 +31,5 @@ pub fn to_ata(input: &[u8], pages: PageCount, buf: &mut [u8]) -> Converted
     if is_long(input) {
         return Converted::Refused(65536);
     }
-    convert::to_ata(input, query::plain(), Reading::First, pages, buf)
+    convert::to_ata(input, query::plain(), pages, buf)
 }

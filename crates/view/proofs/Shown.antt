@@ -10,7 +10,6 @@ use Rattle.layout.specs.Bytes.{all_ones, descriptor_bytes}
 use Rattle.layout.specs.declared.Descriptor.{Descriptor}
 use Rattle.paper.specs.Flags.{is_on}
 use Rattle.paper.specs.declared.ElementId.{ElementId}
-use Rattle.paper.specs.declared.Reading.{Reading}
 use Rattle.request.specs.Requests.{filter_of, report_type_of, takes_id, takes_type, takes_health}
 use Rattle.request.specs.declared.Request.{Request}
 use Rattle.slices.specs.Lists.{stored}
@@ -33,19 +32,19 @@ pub shown_made : (p : Part) (h c : ℕ) → c ≡ capacity_of p → record { id 
 unfolding shown_of
 shown_made p h c is_c = λ i. record { id = p.id; restorable = false; kind = p.kind; health = h; capacity = is_c i }
 
-module _ (v : Reading) (q : Request) (p : Part) (h : ℕ) (x : Descriptor) (is_x : x ≡ shown_of p h) (a : Bool) (is_a : a ≡ takes_id q x.id.0) where
-  pub asks_id : a ≡ false → false ≡ asks v q (shown_of p h)
+module _ (q : Request) (p : Part) (h : ℕ) (x : Descriptor) (is_x : x ≡ shown_of p h) (a : Bool) (is_a : a ≡ takes_id q x.id.0) where
+  pub asks_id : a ≡ false → false ≡ asks q (shown_of p h)
   unfolding asks
-  asks_id n = sym (rw (sym is_a ∙ n)) ∙ ap (asks v q) is_x
+  asks_id n = sym (rw (sym is_a ∙ n)) ∙ ap (asks q) is_x
 
   module _ (yes_id : a ≡ true) (b : Bool) (is_b : b ≡ takes_type (report_type_of q) x.kind) where
-    pub asks_type : b ≡ false → false ≡ asks v q (shown_of p h)
+    pub asks_type : b ≡ false → false ≡ asks q (shown_of p h)
     unfolding asks
-    asks_type n = sym (rw (sym is_a ∙ yes_id, sym is_b ∙ n)) ∙ ap (asks v q) is_x
+    asks_type n = sym (rw (sym is_a ∙ yes_id, sym is_b ∙ n)) ∙ ap (asks q) is_x
 
-    pub asks_health : b ≡ true → (r : Bool) → r ≡ takes_health v (filter_of q) x.health → r ≡ asks v q (shown_of p h)
+    pub asks_health : b ≡ true → (r : Bool) → r ≡ takes_health (filter_of q) x.health → r ≡ asks q (shown_of p h)
     unfolding asks
-    asks_health y r is_r = is_r ∙ sym (rw (sym is_a ∙ yes_id, sym is_b ∙ y)) ∙ ap (asks v q) is_x
+    asks_health y r is_r = is_r ∙ sym (rw (sym is_a ∙ yes_id, sym is_b ∙ y)) ∙ ap (asks q) is_x
 
 -- ## The noted element
 

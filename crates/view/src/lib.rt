@@ -1,84 +1,15 @@
 // What a status page shows of an element, whether a request asks for it, the noted element; and the bytes of the header and of an element.
-ghost use Rattle.std.specs.Prelude.{◌≡◌, ◌≤◌, min};
+ghost use Rattle.std.specs.Prelude.{◌≡◌};
 ghost use Rattle.layout.specs.Bytes.{header_bytes, descriptor_bytes};
 ghost use Rattle.slices.specs.Lists.{stored};
-ghost use Rattle.view.specs.Shown.{notes, names, later_health, healths_in, capacity_of, shown_of, asks, busy_of};
+ghost use Rattle.view.specs.Shown.{capacity_of, shown_of, asks, busy_of};
 
-use cells::{Mark, Note};
+use cells::Note;
 use layout::{Descriptor, Header};
-use paper::{ElementId, Reading};
+use paper::ElementId;
 use request::Request;
 use table::Part;
 use words::Order;
-
-// ---- The shown health
-
-fn is_noted(note: Note, id: ElementId) -> bool
-    ensures { result ≡ notes note id }
-{
-    match note {
-        Note::Empty => false,
-        Note::Full(w) => w.element.0 == id.0,
-    }
-}
-
-fn is_named(failed: Mark, id: ElementId) -> bool
-    ensures { result ≡ names failed id }
-{
-    match failed {
-        Mark::Clear => false,
-        Mark::Names(x) => x.0 == id.0,
-    }
-}
-
-// The second reading's: FEh while it is noted, FDh while the failed mark names it, unless it is removed.
-fn later_health(note: Note, failed: Mark, id: ElementId, stored: u8) -> u8
-    ensures { result ≡ later_health note failed id stored }
-{
-    if stored == 0xFF {
-        return stored;
-    }
-    if is_noted(note, id) {
-        return 0xFE;
-    }
-    if is_named(failed, id) {
-        return 0xFD;
-    }
-    stored
-}
-
-// Of the first n elements of a table, by place.
-fn later_healths(note: Note, failed: Mark, ps: [Part; 128], hs: [u8; 128], n: usize) -> [u8; 128]
-    requires { n ≤ 128 }
-    ensures { result ≡ healths_in Reading.Second note failed ps hs n }
-{
-    let mut shown = hs;
-    for i in 0..n {
-        let part = ps[i];
-        shown[i] = later_health(note, failed, part.id, hs[i]);
-    }
-    shown
-}
-
-// The healths that are shown of the first `count` elements, by place; in the first reading they are the stored ones.
-pub fn shown_healths(
-    reading: Reading,
-    note: Note,
-    failed: Mark,
-    ps: [Part; 128],
-    hs: [u8; 128],
-    count: usize,
-) -> [u8; 128]
-    ensures { result ≡ healths_in reading note failed ps hs (min count 128) }
-{
-    let n = table::bounded(count);
-    match reading {
-        Reading::First => hs,
-        Reading::Second => later_healths(note, failed, ps, hs, n),
-    }
-}
-
-// ---- The descriptor
 
 fn capacity(p: Part) -> u64
     ensures { result ≡ capacity_of p }
@@ -90,7 +21,7 @@ fn capacity(p: Part) -> u64
     }
 }
 
-// What a page shows of an element: its part, and the health that is shown of it.
+// What a page shows of an element: its part, and the health of its place.
 pub fn shown_of(p: Part, health: u8) -> Descriptor
     ensures { result ≡ shown_of p health }
 {
@@ -104,9 +35,9 @@ pub fn shown_of(p: Part, health: u8) -> Descriptor
     }
 }
 
-// Whether a request asks for the element of this part and shown health.
-pub fn does_ask(request: Request, reading: Reading, p: Part, health: u8) -> bool
-    ensures { result ≡ asks reading request (shown_of p health) }
+// Whether a request asks for the element of this part and health.
+pub fn does_ask(request: Request, p: Part, health: u8) -> bool
+    ensures { result ≡ asks request (shown_of p health) }
 {
     let x = shown_of(p, health);
     if !request.takes_id(x.id) {
@@ -115,7 +46,7 @@ pub fn does_ask(request: Request, reading: Reading, p: Part, health: u8) -> bool
     if !request.takes_type(x.kind) {
         return false;
     }
-    request.takes_health(reading, x.health)
+    request.takes_health(x.health)
 }
 
 pub fn busy(note: Note) -> ElementId

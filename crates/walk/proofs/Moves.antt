@@ -7,7 +7,6 @@ use borrow.Author.Tests.{lt-ltb, le-ltb}
 use Rattle.layout.specs.declared.Header.{Header}
 use Rattle.paper.specs.Told.{Told, tells}
 use Rattle.paper.specs.declared.ElementId.{ElementId}
-use Rattle.paper.specs.declared.Reading.{Reading}
 use Rattle.reach.specs.Pages.{reach_of}
 use Rattle.reach.specs.declared.Bound.TheVariants.{Whole, UpTo}
 use Rattle.reach.specs.declared.Bound.{Bound}
@@ -32,17 +31,17 @@ module _ (last : ElementId) where
 
 -- ## After a page
 
-module _ (v : Reading) (s : List ℕ) (q : Request) (r : Judgement) (is_r : reader.heard r ≡ reader.read_of Little v s q) where
-  pub next_refused : (p : ℕ) → r ≡ says.Refused p → tells 9 (place p) ≡ next_of v s q
+module _ (s : List ℕ) (q : Request) (r : Judgement) (is_r : reader.heard r ≡ reader.read_of Little s q) where
+  pub next_refused : (p : ℕ) → r ≡ says.Refused p → tells 9 (place p) ≡ next_of s q
   unfolding next_of
   next_refused p e = sym (rw (← is_r, e))
 
   module _ (h : Header) (y : r ≡ says.Accepted h) (b : Bound) (is_b : b ≡ reach_of s) where
-    pub next_whole : b ≡ Whole → tells 0 end ≡ next_of v s q
+    pub next_whole : b ≡ Whole → tells 0 end ≡ next_of s q
     unfolding next_of
     next_whole e = sym (rw (← is_r, y, ← is_b, e))
 
-    pub next_cut : (last : ElementId) → b ≡ UpTo last → (n : Move) → heard n ≡ tells 0 (after last) → heard n ≡ next_of v s q
+    pub next_cut : (last : ElementId) → b ≡ UpTo last → (n : Move) → heard n ≡ tells 0 (after last) → heard n ≡ next_of s q
     unfolding next_of
     next_cut last e n is_n = is_n ∙ sym (rw (← is_r, y, ← is_b, e))
 
@@ -62,4 +61,4 @@ back End = refl
 back (Refused p) = refl
 
 pub one_next : OneNext
-one_next t a b is_a is_b = sym (back a) ∙ ap answer (is_a ∙ sym is_b) ∙ back b
+one_next s q a b is_a is_b = sym (back a) ∙ ap answer (is_a ∙ sym is_b) ∙ back b

@@ -4,7 +4,6 @@ use Rattle.std.specs.Prelude.{ℕ, ◌+◌, cond, List, ltb}
 use Rattle.paper.specs.Told.{Told, tells}
 use Rattle.paper.specs.declared.ElementId.{ElementId}
 use Rattle.paper.specs.declared.PageCount.{PageCount}
-use Rattle.paper.specs.declared.Reading.{Reading}
 use Rattle.reach.specs.Pages.{reach_of}
 use Rattle.reach.specs.declared.Bound.TheVariants.{Whole, UpTo}
 use Rattle.reach.specs.declared.Bound.{Bound}
@@ -40,9 +39,9 @@ abbrev pub next_for : List ℕ → reader.Values → Told Values
 next_for s (reader.header h) = tells 0 (onward (reach_of s))
 next_for s (reader.place p) = tells 9 (place p)
 
--- of a page, as the answer to a request: first the reader's word, in the reading that it is told
-unfoldable pub next_of : Reading → List ℕ → Request → Told Values
-next_of v s q = next_for s (reader.read_of Little v s q).state
+-- of a page, as the answer to a request: first the reader's word
+unfoldable pub next_of : List ℕ → Request → Told Values
+next_of s q = next_for s (reader.read_of Little s q).state
 
 -- ## The next request
 

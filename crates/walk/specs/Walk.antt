@@ -4,7 +4,6 @@ use Rattle.layout.specs.Bytes.{header_in}
 use Rattle.layout.specs.declared.Descriptor.{Descriptor}
 use Rattle.paper.specs.declared.ElementId.{ElementId}
 use Rattle.paper.specs.declared.PageCount.{PageCount}
-use Rattle.paper.specs.declared.Reading.{Reading}
 use Rattle.reach.specs.Opening.{accepted}
 use Rattle.reader.specs.Judgement.{slot_of}
 use Rattle.reader.specs.declared.Slot.TheVariants.{Outside, Holds}
@@ -47,10 +46,10 @@ followed r (ask id) rest = walked (r ∷ (rest id).rounds) (rest id).stand
 followed r end rest = walked (r ∷ []) ended
 followed r (place p) rest = walked (r ∷ []) (stopped p)
 
--- in a reading, from its first request on, as far as pages come
-unfoldable pub walk : Reading → Request → List Came → Walked
-walk v q [] = walked [] waits
-walk v q (c ∷ cs) = followed (round q c.page) (next_of v c.page q).state (λ id. walk v (next_request q id c.next) cs)
+-- from its first request on, as far as pages come
+unfoldable pub walk : Request → List Came → Walked
+walk q [] = walked [] waits
+walk q (c ∷ cs) = followed (round q c.page) (next_of c.page q).state (λ id. walk (next_request q id c.next) cs)
 
 -- ## What it lists
 
@@ -64,9 +63,9 @@ held_below s zero = []
 held_below s (suc n) = held_below s n ++ held (slot_of Little s n)
 
 -- of a page that the reader takes
-unfoldable pub elements_in : Reading → Round → List Descriptor
-elements_in v r = cond (accepted v r.page r.request) (held_below r.page (header_in Little r.page).returned) []
+unfoldable pub elements_in : Round → List Descriptor
+elements_in r = cond (accepted r.page r.request) (held_below r.page (header_in Little r.page).returned) []
 
 -- of all its pages, one after the other
-abbrev pub listed : Reading → Walked → List Descriptor
-listed v w = flat (elements_in v) w.rounds
+abbrev pub listed : Walked → List Descriptor
+listed w = flat elements_in w.rounds

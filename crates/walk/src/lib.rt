@@ -3,7 +3,7 @@ ghost use Rattle.std.specs.Prelude.{◌≡◌};
 ghost use Rattle.paper.specs.Told.{tells};
 ghost use Rattle.walk.specs.Next.{heard, after, next_of, next_request};
 
-use paper::{ElementId, Lba, PageCount, Reading};
+use paper::{ElementId, Lba, PageCount};
 use reach::Bound;
 use reader::Judgement;
 use request::Request;
@@ -27,10 +27,10 @@ fn move_after(last: ElementId) -> Move
 }
 
 // What the walk does after a page, as the answer to a request.
-pub fn next(page: &[u8], request: Request, reading: Reading) -> Move
-    ensures { heard result ≡ next_of reading page.now request }
+pub fn next(page: &[u8], request: Request) -> Move
+    ensures { heard result ≡ next_of page.now request }
 {
-    if let Judgement::Refused(place) = reader::read(page, request, reading) {
+    if let Judgement::Refused(place) = reader::read(page, request) {
         return Move::Refused(place);
     }
     let Bound::UpTo(last) = reach::reach(page) else {

@@ -6,7 +6,6 @@ use Rattle.offer.specs.declared.Element.{Element}
 use Rattle.offer.specs.declared.Offer.{Offer}
 use Rattle.paper.specs.Answers.{number_of}
 use Rattle.paper.specs.declared.Answer.{Answer}
-use Rattle.paper.specs.declared.Reading.{Reading}
 use Rattle.workbench.specs.Empty.{no_offer}
 use Rattle.workbench.specs.declared.Bench.{Bench}
 
@@ -16,16 +15,15 @@ with_element elements place e = cond (leb 128 place) elements (set elements plac
 
 -- "`element ..` adds a record to the offered list .. (the list keeps its first 129)"
 abbrev pub lengthened : Offer → Element → Offer
-lengthened list e =
-    record { elements = with_element list.elements list.count e; count = min list.count 128 + 1; limit = list.limit; reading = list.reading }
+lengthened list e = record { elements = with_element list.elements list.count e; count = min list.count 128 + 1; limit = list.limit }
 
 -- the bench with a record more in its list
 abbrev pub with_record : Bench → Element → Bench
 with_record b e = record { offered = lengthened b.offered e; made = b.made; device = b.device; kept = b.kept }
 
--- "`make LIMIT` offers the list", for the first reading, "`make LIMIT READING` for READING 1 or 2"
-abbrev pub offering : Bench → ℕ → Reading → Offer
-offering b limit v = record { elements = b.offered.elements; count = b.offered.count; limit = limit; reading = v }
+-- "`make LIMIT` offers the list"
+abbrev pub offering : Bench → ℕ → Offer
+offering b limit = record { elements = b.offered.elements; count = b.offered.count; limit = limit }
 
 -- "a new device (0)", or the device that was there, if there was one
 abbrev pub is_made : Bool → Answer → Bool

@@ -7,16 +7,15 @@ use Rattle.cells.specs.declared.Note.TheVariants.{Empty}
 use Rattle.cells.specs.declared.Position.TheVariants.{Work1}
 use Rattle.offer.specs.Elements.{blank}
 use Rattle.offer.specs.declared.Offer.{Offer}
-use Rattle.paper.specs.declared.Reading.TheVariants.{First}
 use Rattle.table.specs.Elements.{blank_part}
 use Rattle.table.specs.declared.Table.{Table}
 use Rattle.workbench.specs.declared.Bench.{Bench}
 
 abbrev pub no_offer : Offer
-no_offer = record { elements = replicate 128 blank; count = 0; limit = 0; reading = First }
+no_offer = record { elements = replicate 128 blank; count = 0; limit = 0 }
 
 abbrev pub no_table : Table
-no_table = record { parts = replicate 128 blank_part; count = 0; limit = 0; reading = First }
+no_table = record { parts = replicate 128 blank_part; count = 0; limit = 0 }
 
 abbrev pub no_cells : Cells
 no_cells = record { native = record { 0 = 0 }; accessible = record { 0 = 0 }; healths = replicate 128 0; failed = Clear; note = Empty }

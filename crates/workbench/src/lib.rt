@@ -6,7 +6,7 @@ ghost use Rattle.workbench.specs.Empty as spec;
 use cells::{Cells, Mark, Note, Position};
 use device::{Device, Stepped};
 use offer::{Element, Offer};
-use paper::{Answer, Lba, Reading};
+use paper::{Answer, Lba};
 use table::Table;
 
 // The offered list, the device and whether one was made, and how many bytes the kept page has, which is lent to each call.
@@ -26,7 +26,6 @@ fn no_offer() -> Offer
         elements: [blank; 128],
         count: 0,
         limit: 0,
-        reading: Reading::First,
     }
 }
 
@@ -38,7 +37,6 @@ fn no_table() -> Table
         parts: [blank; 128],
         count: 0,
         limit: 0,
-        reading: Reading::First,
     }
 }
 
@@ -82,12 +80,10 @@ fn lengthened(list: Offer, e: Element) -> Offer
     ensures { result ≡ changes.lengthened list e }
 {
     let elements = list.elements;
-    let reading = list.reading;
     Offer {
         elements: with_element(elements, list.count, e),
         count: table::bounded(list.count) + 1,
         limit: list.limit,
-        reading,
     }
 }
 
@@ -123,18 +119,13 @@ impl Bench {
         next
     }
 
-    // The list, as it is offered with a limit for a reading.
-    pub fn offering(self, limit: u16, reading: Reading) -> Offer
-        ensures { result ≡ changes.offering self limit reading }
+    // The list, as it is offered with a limit.
+    pub fn offering(self, limit: u16) -> Offer
+        ensures { result ≡ changes.offering self limit }
     {
-        let list = self.offered;
-        let elements = list.elements;
-        Offer {
-            elements,
-            count: list.count,
-            limit,
-            reading,
-        }
+        let mut list = self.offered;
+        list.limit = limit;
+        list
     }
 
     // The list is emptied once it was offered; the device is a new one, or the one that was there.

@@ -1,15 +1,14 @@
 //! The scripts of the committed vectors.
 
 use super::draft::Case;
-use super::random_reading::random_reading_script;
 use super::random_script::random_script;
 use super::random_scsi::random_scsi_script;
 use super::random_walk::random_walk_script;
 use super::{scripts_command, scripts_convert, scripts_disturbed, scripts_example};
 use super::{scripts_grade, scripts_kept, scripts_lines, scripts_reader};
-use super::{scripts_reading, scripts_reading_shown, scripts_removal, scripts_reserved};
-use super::{scripts_scsi, scripts_scsi_read, scripts_scsi_write, scripts_status};
-use super::{scripts_table, scripts_unload, scripts_walk, scripts_words};
+use super::{scripts_removal, scripts_reserved, scripts_scsi, scripts_scsi_read};
+use super::{scripts_scsi_write, scripts_status, scripts_table, scripts_unload};
+use super::{scripts_walk, scripts_words};
 
 /// All scripts, in the order in which they are run.
 pub fn script_cases() -> Vec<Case> {
@@ -34,9 +33,6 @@ pub fn script_cases() -> Vec<Case> {
     cases.extend(scripts_walk::cases());
     cases.push(seeded_walk());
     cases.extend(scripts_reserved::cases());
-    cases.extend(scripts_reading_shown::cases());
-    cases.extend(scripts_reading::cases());
-    cases.push(seeded_reading());
     cases
 }
 
@@ -66,9 +62,4 @@ fn seeded_scsi() -> Vec<Case> {
 /// their first page.
 fn seeded_walk() -> Case {
     Case::new("walk-seed-51", random_walk_script(51, 100))
-}
-
-/// A script in both readings, from a seed whose devices show both codes.
-fn seeded_reading() -> Case {
-    Case::new("reading-seed-46", random_reading_script(46, 150))
 }

@@ -9,7 +9,6 @@ use crate::rules::bench::Bench;
 use crate::rules::convert;
 use crate::rules::device::Device;
 use crate::rules::layout::descriptor;
-use crate::rules::reading::Reading;
 use crate::rules::request::Registers;
 use crate::rules::script::{meaning, Call, Line, MOST_LENGTH};
 use crate::rules::scsi::ScsiRequest;
@@ -180,8 +179,7 @@ impl Weave {
 
     fn toscsi(&mut self) {
         let mut buffer = [0; MOST_LENGTH];
-        let page = &self.bench.page;
-        let needed = convert::to_scsi(page, &self.asked, Reading::First, &mut buffer);
+        let needed = convert::to_scsi(&self.bench.page, &self.asked, &mut buffer);
         let length = self.length_about(needed.unwrap_or(0));
         let (feature, count, mut lba) = (self.asked.feature, self.asked.count, self.asked.lba());
         let mut aside = self.rng.aside();

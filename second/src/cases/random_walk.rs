@@ -42,7 +42,7 @@ impl Weave {
             Line::Call(Call::Command(command)) if command.code == 0x12 => {
                 (true, Some(command.registers))
             }
-            Line::Call(Call::Read(registers, _)) => (false, Some(registers)),
+            Line::Call(Call::Read(registers)) => (false, Some(registers)),
             _ => (false, None),
         };
         if asks {

@@ -3,7 +3,6 @@
 use super::draft::{Case, Draft};
 use super::walks::{walk, Asked};
 use crate::rules::bench::after;
-use crate::rules::reading::Reading;
 use crate::rules::table::Element;
 
 /// The text of a script; each method adds lines.
@@ -84,28 +83,12 @@ impl Text {
         self.line(&element_line(one));
     }
 
-    pub fn offer(&mut self, elements: &[Element]) {
+    /// Offers a table; the answer shows whether it is a good one.
+    pub fn make(&mut self, elements: &[Element], limit: u16) {
         for one in elements {
             self.element(one);
         }
-    }
-
-    /// Offers a table; the answer shows whether it is a good one.
-    pub fn make(&mut self, elements: &[Element], limit: u16) {
-        self.offer(elements);
         self.line(&format!("make {:x}", limit));
-    }
-
-    /// The same for a reading, which is named.
-    pub fn make_in(&mut self, reading: Reading, elements: &[Element], limit: u16) {
-        self.offer(elements);
-        self.line(&format!("make {:x} {}", limit, reading.number()));
-    }
-
-    /// A call of the host in the first reading, then in the second.
-    pub fn in_both(&mut self, call: &str) {
-        self.line(call);
-        self.line(&format!("{} 2", call));
     }
 
     /// A command under the state unlocked.
@@ -196,25 +179,17 @@ impl Text {
     }
 
     /// A request for a page, and what follows it.
-    pub fn ask(&mut self, asked: Asked) {
-        self.ask_in(Reading::First, asked);
-    }
-
-    /// The same of a device for a reading.
-    pub fn ask_in(&mut self, reading: Reading, (feature, count, lba): Asked) {
+    pub fn ask(&mut self, (feature, count, lba): Asked) {
         let length = 512 * usize::from(count);
         self.command(0x12, feature, count, lba, length);
-        match reading {
-            Reading::First => self.next(feature, count, lba),
-            Reading::Second => self.line(&format!("next {:x} {:x} {:x} 2", feature, count, lba)),
-        }
+        self.next(feature, count, lba);
     }
 
     /// A whole walk over the device that the script has made.
     pub fn walk(&mut self, feature: u16, counts: &[u16], start: u64) {
         if let Some(device) = after(&self.bytes).device {
             for asked in walk(&device, feature, counts, start) {
-                self.ask_in(device.reading, asked);
+                self.ask(asked);
             }
         }
     }

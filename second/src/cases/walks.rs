@@ -28,7 +28,7 @@ fn start_after(device: &Device, (feature, count, lba): Asked) -> Option<u32> {
     let registers = Registers::new(feature, count, lba);
     let mut page = vec![0; 512 * usize::from(count)];
     device.status(&registers, &mut page);
-    match next(&page, &registers, device.reading) {
+    match next(&page, &registers) {
         Ok(Next::Ask(start)) => Some(start),
         _ => None,
     }

@@ -6,8 +6,7 @@ use super::answer::Answer;
 use super::device::Device;
 use super::layout::ROW;
 use super::listing::{capacity_text, header_line};
-use super::reader::{read, Contents};
-use super::reading::Reading;
+use super::reader::{read, Reading};
 use super::request::{Registers, Request};
 use super::script::{meaning, Call, Command, Line};
 use super::table::{Element, MOST_ELEMENTS};
@@ -61,12 +60,12 @@ impl Bench {
     fn call(&mut self, call: Call) {
         match call {
             Call::Element(element) => self.offer(element),
-            Call::Make { limit, reading } => self.make(limit, reading),
+            Call::Make { limit } => self.make(limit),
             Call::Length(length) => self.set_length(length),
             Call::Poke { place, byte } => self.poke(place, byte),
-            Call::Read(registers, reading) => self.read(&registers, reading),
-            Call::Next(registers, reading) => self.next(&registers, reading),
-            Call::ScsiRead(request, reading) => self.scsiread(&request, reading),
+            Call::Read(registers) => self.read(&registers),
+            Call::Next(registers) => self.next(&registers),
+            Call::ScsiRead(request) => self.scsiread(&request),
             Call::ToScsi(call) => self.toscsi(&call),
             Call::ToAta(call) => self.toata(&call),
             _ => match self.device.take() {
@@ -109,9 +108,9 @@ impl Bench {
     }
 
     /// "a new device (0), or 8 and the device that was there stays".
-    fn make(&mut self, limit: u16, reading: Reading) {
+    fn make(&mut self, limit: u16) {
         let offered = std::mem::take(&mut self.offered);
-        match Device::make(&offered, limit, reading) {
+        match Device::make(&offered, limit) {
             Ok(device) => {
                 self.device = Some(device);
                 self.answer(Answer::Done);
@@ -132,8 +131,7 @@ impl Bench {
         self.answer(answer);
         let mut written = 0;
         if command.code == 0x12 && answer == Answer::Done {
-            let request = Request::of(&command.registers, device.reading);
-            written = request.map_or(0, |request| request.bytes());
+            written = Request::of(&command.registers).map_or(0, |request| request.bytes());
             self.page = buffer[..written].to_vec();
             self.show_page();
         }
@@ -161,21 +159,16 @@ impl Bench {
     }
 
     fn cells(&mut self, device: &Device) {
-        let failed = match device.failed {
-            None => String::from("-"),
-            Some(identifier) => format!("{:08X}", identifier),
-        };
         let note = match device.note {
             None => String::from("-"),
             Some(note) => format!("{:08X} {} {}", note.identifier, note.old, note.new),
         };
         self.say(&format!(
-            "limit {} reading {} native {} accessible {} failed {} note {} position {}",
+            "limit {} native {} accessible {} failed {} note {} position {}",
             device.limit,
-            device.reading.number(),
             device.native,
             device.accessible,
-            failed,
+            u8::from(device.failed),
             note,
             device.position
         ));
@@ -206,26 +199,26 @@ impl Bench {
     }
 
     /// The reader on the kept page.
-    fn read(&mut self, registers: &Registers, reading: Reading) {
-        match read(&self.page, registers, reading) {
-            Ok(contents) => self.show_contents(&contents),
+    fn read(&mut self, registers: &Registers) {
+        match read(&self.page, registers) {
+            Ok(reading) => self.show_reading(&reading),
             Err(place) => self.answer(Answer::PageRefused { place }),
         }
     }
 
     /// The walk's call on the kept page.
-    fn next(&mut self, registers: &Registers, reading: Reading) {
-        match next(&self.page, registers, reading) {
+    fn next(&mut self, registers: &Registers) {
+        match next(&self.page, registers) {
             Ok(Next::Ask(start)) => self.say(&format!("ask {:08X}", start)),
             Ok(Next::End) => self.say("end"),
             Err(place) => self.answer(Answer::PageRefused { place }),
         }
     }
 
-    pub fn show_contents(&mut self, contents: &Contents) {
+    pub fn show_reading(&mut self, reading: &Reading) {
         self.say("0");
-        self.text.push_str(&header_line(&contents.header));
-        for one in &contents.descriptors {
+        self.text.push_str(&header_line(&reading.header));
+        for one in &reading.descriptors {
             self.say(&format!(
                 "{:08X} {} {:02X} {:02X} {}",
                 one.identifier,

@@ -4,7 +4,6 @@ use super::answer::Answer;
 use super::bench::{rows_text, Bench, FILLING};
 use super::convert;
 use super::device::Device;
-use super::reading::Reading;
 use super::script::{Scsi, ToAta, ToScsi};
 use super::scsi::{self, ScsiRequest};
 
@@ -18,10 +17,10 @@ impl Bench {
     }
 
     /// The SCSI reader on the kept bytes.
-    pub fn scsiread(&mut self, request: &ScsiRequest, reading: Reading) {
-        match scsi::read(&self.page, request, reading) {
+    pub fn scsiread(&mut self, request: &ScsiRequest) {
+        match scsi::read(&self.page, request) {
             Ok(found) => {
-                self.show_contents(&found.contents);
+                self.show_reading(&found.reading);
                 self.text.push_str(&found.end_line());
             }
             Err(place) => self.answer(Answer::PageRefused { place }),
@@ -31,7 +30,7 @@ impl Bench {
     /// The kept page as SCSI data.
     pub fn toscsi(&mut self, call: &ToScsi) {
         let mut buffer = vec![FILLING; call.length];
-        let outcome = convert::to_scsi(&self.page, &call.registers, call.reading, &mut buffer);
+        let outcome = convert::to_scsi(&self.page, &call.registers, &mut buffer);
         self.bare_answer(outcome);
         self.keep(outcome, &buffer, Bench::show_data);
     }
@@ -39,13 +38,7 @@ impl Bench {
     /// The kept SCSI data as a page.
     pub fn toata(&mut self, call: &ToAta) {
         let mut buffer = vec![FILLING; call.length];
-        let outcome = convert::to_ata(
-            &self.page,
-            &call.request,
-            call.reading,
-            call.pages,
-            &mut buffer,
-        );
+        let outcome = convert::to_ata(&self.page, &call.request, call.pages, &mut buffer);
         self.bare_answer(outcome);
         self.keep(outcome, &buffer, Bench::show_page);
     }

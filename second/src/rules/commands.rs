@@ -40,7 +40,7 @@ impl Device {
         if !media_access && !NO_MEDIA_ACCESS.contains(&code) {
             return Answer::NotNamed;
         }
-        if media_access && self.failed.is_some() {
+        if media_access && self.failed {
             return Answer::Failed;
         }
         if media_access && last_sector(registers) > self.accessible {

@@ -7,8 +7,7 @@ use std::collections::{BTreeMap, BTreeSet};
 
 use super::layout::Descriptor;
 use super::listing::{descriptor_text, values_text, MOST};
-use super::reader::{read, Contents};
-use super::reading::Reading;
+use super::reader::{read, Reading};
 use super::request::Registers;
 
 /// The text, and the program's exit status: 0 no difference, 1 a difference,
@@ -30,24 +29,22 @@ pub fn compare(older: &[u8], newer: &[u8]) -> Comparison {
 
 /// "Refusals: 9 with the page's turn, older first." The same request for both
 /// is that of the listing, with as many pages as the older has.
-fn judge(older: &[u8], newer: &[u8]) -> Result<(Contents, Contents), &'static str> {
+fn judge(older: &[u8], newer: &[u8]) -> Result<(Reading, Reading), &'static str> {
     let pages = older.len() / 512;
     let older = accept(older, pages).ok_or("older")?;
     let newer = accept(newer, pages).ok_or("newer")?;
     Ok((older, newer))
 }
 
-/// A page that the reader accepts, of at most 65,536 bytes; with filter 0 the readings
-/// are alike.
-fn accept(page: &[u8], pages: usize) -> Option<Contents> {
+/// A page that the reader accepts, of at most 65,536 bytes.
+fn accept(page: &[u8], pages: usize) -> Option<Reading> {
     if page.len() > MOST {
         return None;
     }
-    let registers = Registers::new(0, pages as u16, 0);
-    read(page, &registers, Reading::First).ok()
+    read(page, &Registers::new(0, pages as u16, 0)).ok()
 }
 
-fn comparison(older: &Contents, newer: &Contents) -> Comparison {
+fn comparison(older: &Reading, newer: &Reading) -> Comparison {
     let bound = bound_of(older, newer);
     let mut text = differences(older, newer, bound);
     let status = i32::from(!text.is_empty());
@@ -60,20 +57,20 @@ fn comparison(older: &Contents, newer: &Contents) -> Comparison {
 
 /// "If a page was cut short .., only identifiers up to the smallest last one of
 /// the cut pages are compared".
-fn bound_of(older: &Contents, newer: &Contents) -> Option<u32> {
+fn bound_of(older: &Reading, newer: &Reading) -> Option<u32> {
     [older, newer].into_iter().filter_map(last_if_cut).min()
 }
 
 /// "cut short (N above returned)".
-fn last_if_cut(contents: &Contents) -> Option<u32> {
-    if contents.header.number <= contents.header.returned {
+fn last_if_cut(reading: &Reading) -> Option<u32> {
+    if reading.header.number <= reading.header.returned {
         return None;
     }
-    contents.descriptors.last().map(|last| last.identifier)
+    reading.descriptors.last().map(|last| last.identifier)
 }
 
 /// "Each difference appears once."
-fn differences(older: &Contents, newer: &Contents, bound: Option<u32>) -> String {
+fn differences(older: &Reading, newer: &Reading, bound: Option<u32>) -> String {
     let older = by_identifier(older, bound);
     let newer = by_identifier(newer, bound);
     let identifiers: BTreeSet<u32> = older.keys().chain(newer.keys()).copied().collect();
@@ -84,8 +81,8 @@ fn differences(older: &Contents, newer: &Contents, bound: Option<u32>) -> String
 }
 
 /// The descriptors that are compared.
-fn by_identifier(contents: &Contents, bound: Option<u32>) -> BTreeMap<u32, Descriptor> {
-    contents
+fn by_identifier(reading: &Reading, bound: Option<u32>) -> BTreeMap<u32, Descriptor> {
+    reading
         .descriptors
         .iter()
         .filter(|one| bound.map_or(true, |bound| one.identifier <= bound))

@@ -5,42 +5,33 @@ use super::answer::Answer;
 use super::layout::{self, lay_out, Order};
 use super::listing::{ata_request, scsi_request};
 use super::reader;
-use super::reading::Reading;
 use super::request::Registers;
 use super::scsi::{self, lend, ScsiRequest};
 
 /// An ATA page that answers a request, as SCSI data in a lent buffer: how many
 /// bytes; "last, on writing or converting, 7".
-pub fn to_scsi(
-    page: &[u8],
-    registers: &Registers,
-    reading: Reading,
-    buffer: &mut [u8],
-) -> Result<usize, Answer> {
-    lend(&scsi_of(page, registers, reading).map_err(refused)?, buffer)
+pub fn to_scsi(page: &[u8], registers: &Registers, buffer: &mut [u8]) -> Result<usize, Answer> {
+    lend(&scsi_of(page, registers).map_err(refused)?, buffer)
 }
 
 /// SCSI data that answers a request, as an ATA page in a lent buffer.
 pub fn to_ata(
     data: &[u8],
     request: &ScsiRequest,
-    reading: Reading,
     pages: u16,
     buffer: &mut [u8],
 ) -> Result<usize, Answer> {
-    let page = ata_of(data, request, reading, pages);
-    lend(&page.map_err(refused)?, buffer)
+    lend(&ata_of(data, request, pages).map_err(refused)?, buffer)
 }
 
-/// The converter's SCSI data: the page on its input answers the listing's request,
-/// which has filter 0, so that the readings are alike.
+/// The converter's SCSI data: the page on its input answers the listing's request.
 pub fn input_to_scsi(page: &[u8]) -> Result<Vec<u8>, usize> {
-    scsi_of(page, &ata_request(page)?, Reading::First)
+    scsi_of(page, &ata_request(page)?)
 }
 
 /// The converter's ATA page.
 pub fn input_to_ata(data: &[u8], pages: u16) -> Result<Vec<u8>, usize> {
-    ata_of(data, &scsi_request(data)?, Reading::First, pages)
+    ata_of(data, &scsi_request(data)?, pages)
 }
 
 fn refused(place: usize) -> Answer {
@@ -49,31 +40,26 @@ fn refused(place: usize) -> Answer {
 
 /// The whole data, or the place of the refusal: the ATA reader's, then "9 at 4 for
 /// a cut list".
-fn scsi_of(page: &[u8], registers: &Registers, reading: Reading) -> Result<Vec<u8>, usize> {
-    let contents = reader::read(page, registers, reading)?;
-    if contents.header.returned < contents.header.number {
+fn scsi_of(page: &[u8], registers: &Registers) -> Result<Vec<u8>, usize> {
+    let reading = reader::read(page, registers)?;
+    if reading.header.returned < reading.header.number {
         return Err(layout::RETURNED);
     }
-    Ok(lay_out(Order::Big, &contents.header, &contents.descriptors))
+    Ok(lay_out(Order::Big, &reading.header, &reading.descriptors))
 }
 
 /// The page, or the place of the refusal: the SCSI reader's, then "9 at 4 for a cut
 /// list or one above 16p - 1 for the pages asked".
-fn ata_of(
-    data: &[u8],
-    request: &ScsiRequest,
-    reading: Reading,
-    pages: u16,
-) -> Result<Vec<u8>, usize> {
-    let found = scsi::read(data, request, reading)?;
+fn ata_of(data: &[u8], request: &ScsiRequest, pages: u16) -> Result<Vec<u8>, usize> {
+    let found = scsi::read(data, request)?;
     if found.is_cut() {
         return Err(layout::RETURNED);
     }
-    let header = &found.contents.header;
+    let header = &found.reading.header;
     if i64::from(header.number) > room(pages) {
         return Err(layout::RETURNED);
     }
-    let mut page = lay_out(Order::Little, header, &found.contents.descriptors);
+    let mut page = lay_out(Order::Little, header, &found.reading.descriptors);
     page.resize(512 * usize::from(pages), 0);
     Ok(page)
 }

@@ -3,7 +3,6 @@
 use std::fmt;
 
 use super::answer::Answer;
-use super::reading::Reading;
 use super::request::REMOVED;
 use super::table::{check, Element, MOST_HEALTH};
 
@@ -38,27 +37,24 @@ impl fmt::Display for Position {
 #[derive(Clone, Debug, PartialEq, Eq)]
 pub struct Device {
     pub limit: u16,
-    pub reading: Reading,
     pub elements: Vec<Element>,
     pub native: u64,
     pub accessible: u64,
-    /// The failed mark "names the element whose removal wound up last", or is clear.
-    pub failed: Option<u32>,
+    pub failed: bool,
     pub note: Option<Note>,
     pub position: Position,
 }
 
 impl Device {
     /// A new device, or 8.
-    pub fn make(elements: &[Element], limit: u16, reading: Reading) -> Result<Device, Answer> {
+    pub fn make(elements: &[Element], limit: u16) -> Result<Device, Answer> {
         let maximum = check(elements, limit).ok_or(Answer::TableRefused)?;
         Ok(Device {
             limit,
-            reading,
             elements: elements.to_vec(),
             native: maximum,
             accessible: maximum,
-            failed: None,
+            failed: false,
             note: None,
             position: REST,
         })
@@ -67,11 +63,6 @@ impl Device {
     /// "A removal is under way exactly while the note is full."
     pub fn under_way(&self) -> bool {
         self.note.is_some()
-    }
-
-    /// The noted element, if there is one.
-    pub fn noted(&self) -> Option<u32> {
-        self.note.map(|note| note.identifier)
     }
 
     /// "number at FFh", over the whole table.

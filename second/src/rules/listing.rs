@@ -4,8 +4,7 @@
 
 use super::answer::Answer;
 use super::layout::{Descriptor, Header, UNREPORTED};
-use super::reader::{read, Contents};
-use super::reading::Reading;
+use super::reader::{read, Reading};
 use super::request::Registers;
 use super::scsi::{self, ScsiRequest};
 
@@ -18,16 +17,15 @@ pub struct Listing {
     pub status: i32,
 }
 
-/// With filter 0 the readings are alike: this is the first.
 pub fn list(input: &[u8]) -> Listing {
-    let contents = ata_request(input).and_then(|request| read(input, &request, Reading::First));
-    listing(contents.map(|contents| text_of(&contents)))
+    let reading = ata_request(input).and_then(|request| read(input, &request));
+    listing(reading.map(|reading| text_of(&reading)))
 }
 
 /// The same lines, then whether the list was cut.
 pub fn list_scsi(input: &[u8]) -> Listing {
-    let found = scsi_request(input).and_then(|request| scsi::read(input, &request, Reading::First));
-    listing(found.map(|found| text_of(&found.contents) + &found.end_line()))
+    let found = scsi_request(input).and_then(|request| scsi::read(input, &request));
+    listing(found.map(|found| text_of(&found.reading) + &found.end_line()))
 }
 
 fn listing(text: Result<String, usize>) -> Listing {
@@ -66,9 +64,9 @@ fn check_most(input: &[u8]) -> Result<(), usize> {
     Ok(())
 }
 
-fn text_of(contents: &Contents) -> String {
-    let mut text = header_line(&contents.header);
-    for one in &contents.descriptors {
+fn text_of(reading: &Reading) -> String {
+    let mut text = header_line(&reading.header);
+    for one in &reading.descriptors {
         text += &format!("{}\n", descriptor_text(one));
     }
     text

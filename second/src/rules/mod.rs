@@ -1,5 +1,5 @@
-//! The rules of document 01 and of requests 2026-01 to 2026-05 and 2026-07, and the
-//! bench language over them.
+//! The rules of document 01 and of requests 2026-01 to 2026-05, and the bench
+//! language over them.
 
 pub mod answer;
 pub mod bench;
@@ -12,7 +12,6 @@ pub mod layout;
 pub mod listing;
 pub mod page;
 pub mod reader;
-pub mod reading;
 pub mod removal;
 pub mod request;
 pub mod script;

@@ -9,7 +9,7 @@ use super::table::Element;
 impl Device {
     /// Checks 4, "then the buffer below 512p bytes: 7. Allowed during a removal."
     pub fn status(&self, registers: &Registers, buffer: &mut [u8]) -> Answer {
-        let request = match Request::of(registers, self.reading) {
+        let request = match Request::of(registers) {
             Some(request) => request,
             None => return Answer::InvalidField,
         };
@@ -37,36 +37,36 @@ impl Device {
         Header {
             number,
             returned,
-            busy: self.noted().unwrap_or(0),
+            busy: self.note.map_or(0, |note| note.identifier),
             limit: self.limit,
             removed: self.removed_count(),
         }
     }
 
-    /// "The list": start, report type and filter, which judges the shown health.
+    /// "The list": start, report type and filter.
     pub fn list(&self, wanted: &Wanted) -> Vec<Descriptor> {
         self.elements
             .iter()
             .filter(|one| wanted.takes_identifier(one.identifier))
             .filter(|one| wanted.takes_type(one.element_type))
-            .map(|one| self.shown(one))
             .filter(|one| wanted.takes_health(one.health))
+            .map(shown)
             .collect()
     }
+}
 
-    /// "restoration allowed, here 0; .. block count, or all ones if unreported".
-    fn shown(&self, element: &Element) -> Descriptor {
-        let capacity = if element.unreported {
-            UNREPORTED
-        } else {
-            element.blocks
-        };
-        Descriptor {
-            identifier: element.identifier,
-            restoration: false,
-            element_type: element.element_type,
-            health: self.shown_health(element),
-            capacity,
-        }
+/// "restoration allowed, here 0; .. block count, or all ones if unreported".
+fn shown(element: &Element) -> Descriptor {
+    let capacity = if element.unreported {
+        UNREPORTED
+    } else {
+        element.blocks
+    };
+    Descriptor {
+        identifier: element.identifier,
+        restoration: false,
+        element_type: element.element_type,
+        health: element.health,
+        capacity,
     }
 }

@@ -1,28 +1,26 @@
-//! "The reader. Given a page and the request it answers." It is also "told which
-//! reading applies" (request 2026-07).
+//! "The reader. Given a page and the request it answers."
 
 use super::layout::{self, descriptor, Descriptor, Header, Order};
-use super::reading::Reading;
 use super::request::{Registers, Request, Wanted, REMOVED};
 
 /// What accepted bytes say.
 #[derive(Clone, Debug, PartialEq, Eq)]
-pub struct Contents {
+pub struct Reading {
     pub header: Header,
     pub descriptors: Vec<Descriptor>,
 }
 
 /// The page's contents, or the place of its first offence (number 9).
-pub fn read(page: &[u8], registers: &Registers, reading: Reading) -> Result<Contents, usize> {
+pub fn read(page: &[u8], registers: &Registers) -> Result<Reading, usize> {
     // "A request that would get 4 gets 9 at place 0."
-    let request = Request::of(registers, reading).ok_or(0usize)?;
+    let request = Request::of(registers).ok_or(0usize)?;
     check_length(page, &request)?;
     let header = Header::read(Order::Little, page);
     check_returned(&header, &request)?;
     let returned = header.returned as usize;
     let descriptors = read_descriptors(Order::Little, page, returned, &request.wanted)?;
     check_padding(page, &header)?;
-    Ok(Contents {
+    Ok(Reading {
         header,
         descriptors,
     })

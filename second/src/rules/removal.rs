@@ -32,7 +32,7 @@ impl Device {
         };
         // 4: "no element or address changes, but a failed mark is cleared"
         if element.health == REMOVED {
-            self.failed = None;
+            self.failed = false;
             return Answer::Done;
         }
         // 5
@@ -84,7 +84,7 @@ impl Device {
             1 => self.native = note.new,
             2 => self.accessible = note.new,
             3 => self.store_health(note.identifier, REMOVED),
-            4 => self.failed = None,
+            4 => self.failed = false,
             _ => self.empty_note(),
         }
     }
@@ -95,7 +95,7 @@ impl Device {
         match number {
             1 => self.native = self.wound_up_address(note),
             2 => self.accessible = self.wound_up_address(note),
-            3 => self.failed = Some(note.identifier),
+            3 => self.failed = true,
             _ => self.empty_note(),
         }
     }

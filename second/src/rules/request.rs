@@ -1,8 +1,6 @@
 //! The registers of a command, and what GET PHYSICAL ELEMENT STATUS (12h)
 //! reads in them. One decoding serves the device and the reader.
 
-use super::reading::Reading;
-
 /// Type 01h is storage.
 pub const STORAGE: u8 = 0x01;
 /// Health of a removed element.
@@ -51,12 +49,11 @@ pub struct Wanted {
     filtered: bool,
     storage_only: bool,
     start: u32,
-    reading: Reading,
 }
 
 impl Wanted {
     /// "filter 10b or 11b, report type above 1, ..: all 4": `None`.
-    pub fn of(filter: u16, report_type: u16, start: u32, reading: Reading) -> Option<Wanted> {
+    pub fn of(filter: u16, report_type: u16, start: u32) -> Option<Wanted> {
         if filter > 1 {
             return None;
         }
@@ -67,7 +64,6 @@ impl Wanted {
             filtered: filter == 1,
             storage_only: report_type == 1,
             start,
-            reading,
         })
     }
 
@@ -81,9 +77,9 @@ impl Wanted {
         !self.storage_only || element_type == STORAGE
     }
 
-    /// "with filter 01b only" the healths of the reading.
+    /// "with filter 01b only health 65h to CFh, or FFh".
     pub fn takes_health(&self, health: u8) -> bool {
-        !self.filtered || self.reading.lets_through(health)
+        !self.filtered || (0x65..=0xCF).contains(&health) || health == REMOVED
     }
 }
 
@@ -97,12 +93,12 @@ pub struct Request {
 impl Request {
     /// "filter 10b or 11b, report type above 1, p = 0: all 4", and of reserved bits
     /// "4, after the page count check" (request 2026-05): `None`.
-    pub fn of(registers: &Registers, reading: Reading) -> Option<Request> {
+    pub fn of(registers: &Registers) -> Option<Request> {
         let filter = registers.feature >> 14;
         let report_type = (registers.feature >> 8) & 0xF;
         // LBA 31:0.
         let start = registers.lba() as u32;
-        let wanted = Wanted::of(filter, report_type, start, reading)?;
+        let wanted = Wanted::of(filter, report_type, start)?;
         if registers.count == 0 {
             return None;
         }

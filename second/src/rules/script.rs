@@ -1,6 +1,5 @@
 //! The bench language: what a line says.
 
-use super::reading::Reading;
 use super::removal::Security;
 use super::request::Registers;
 use super::scsi::ScsiRequest;
@@ -32,7 +31,6 @@ pub struct Scsi {
 pub struct ToScsi {
     pub registers: Registers,
     pub length: usize,
-    pub reading: Reading,
 }
 
 /// The kept SCSI data as a page.
@@ -41,13 +39,12 @@ pub struct ToAta {
     pub request: ScsiRequest,
     pub pages: u16,
     pub length: usize,
-    pub reading: Reading,
 }
 
 #[derive(Clone, Copy, Debug, PartialEq, Eq)]
 pub enum Call {
     Element(Element),
-    Make { limit: u16, reading: Reading },
+    Make { limit: u16 },
     Command(Command),
     Step,
     Error,
@@ -57,10 +54,10 @@ pub enum Call {
     Cells,
     Length(usize),
     Poke { place: usize, byte: u8 },
-    Read(Registers, Reading),
-    Next(Registers, Reading),
+    Read(Registers),
+    Next(Registers),
     Scsi(Scsi),
-    ScsiRead(ScsiRequest, Reading),
+    ScsiRead(ScsiRequest),
     ToScsi(ToScsi),
     ToAta(ToAta),
 }
@@ -95,9 +92,8 @@ pub fn meaning(line: &[u8]) -> Line {
 fn call_of(name: &[u8], words: &[&[u8]]) -> Option<Call> {
     match (name, words) {
         (b"element", [_, _, _, _, _]) => element_of(words),
-        (b"make", [limit, reading @ ..]) => Some(Call::Make {
+        (b"make", [limit]) => Some(Call::Make {
             limit: number16(limit)?,
-            reading: reading_of(reading)?,
         }),
         (b"command", [state, code, feature, count, lba, length]) => Some(Call::Command(Command {
             security: security_of(state)?,
@@ -121,14 +117,8 @@ fn call_of(name: &[u8], words: &[&[u8]]) -> Option<Call> {
             place: length_of(place)?,
             byte: number8(byte)?,
         }),
-        (b"read", [feature, count, lba, reading @ ..]) => Some(Call::Read(
-            registers_of(feature, count, lba)?,
-            reading_of(reading)?,
-        )),
-        (b"next", [feature, count, lba, reading @ ..]) => Some(Call::Next(
-            registers_of(feature, count, lba)?,
-            reading_of(reading)?,
-        )),
+        (b"read", [feature, count, lba]) => Some(Call::Read(registers_of(feature, count, lba)?)),
+        (b"next", [feature, count, lba]) => Some(Call::Next(registers_of(feature, count, lba)?)),
         _ => scsi_call_of(name, words),
     }
 }
@@ -141,37 +131,18 @@ fn scsi_call_of(name: &[u8], words: &[&[u8]]) -> Option<Call> {
             allocation: number32(allocation)?,
             length: length_of(length)?,
         })),
-        (b"scsiread", [filter, report_type, start, reading @ ..]) => Some(Call::ScsiRead(
-            scsi_request_of(filter, report_type, start)?,
-            reading_of(reading)?,
-        )),
-        (b"toscsi", [feature, count, lba, length, reading @ ..]) => Some(Call::ToScsi(ToScsi {
+        (b"scsiread", [filter, report_type, start]) => {
+            Some(Call::ScsiRead(scsi_request_of(filter, report_type, start)?))
+        }
+        (b"toscsi", [feature, count, lba, length]) => Some(Call::ToScsi(ToScsi {
             registers: registers_of(feature, count, lba)?,
             length: length_of(length)?,
-            reading: reading_of(reading)?,
         })),
-        (b"toata", [filter, report_type, start, pages, length, reading @ ..]) => {
-            Some(Call::ToAta(ToAta {
-                request: scsi_request_of(filter, report_type, start)?,
-                pages: number16(pages)?,
-                length: length_of(length)?,
-                reading: reading_of(reading)?,
-            }))
-        }
-        _ => None,
-    }
-}
-
-/// READING at a call's end, 1 or 2; where there is none, the first.
-fn reading_of(words: &[&[u8]]) -> Option<Reading> {
-    let word = match words {
-        [] => return Some(Reading::First),
-        [word] => word,
-        _ => return None,
-    };
-    match number8(word)? {
-        1 => Some(Reading::First),
-        2 => Some(Reading::Second),
+        (b"toata", [filter, report_type, start, pages, length]) => Some(Call::ToAta(ToAta {
+            request: scsi_request_of(filter, report_type, start)?,
+            pages: number16(pages)?,
+            length: length_of(length)?,
+        })),
         _ => None,
     }
 }

@@ -4,8 +4,7 @@
 use super::answer::Answer;
 use super::device::Device;
 use super::layout::{self, lay_out, Header, Order, ROW};
-use super::reader::{read_descriptors, Contents};
-use super::reading::Reading;
+use super::reader::{read_descriptors, Reading};
 use super::request::Wanted;
 
 /// Filter, report type and starting element, each as it came.
@@ -18,12 +17,11 @@ pub struct ScsiRequest {
 
 impl ScsiRequest {
     /// "4 for filter or report type as in 01", wild values among them: `None`.
-    fn wanted(&self, reading: Reading) -> Option<Wanted> {
+    fn wanted(&self) -> Option<Wanted> {
         Wanted::of(
             u16::from(self.filter),
             u16::from(self.report_type),
             self.start,
-            reading,
         )
     }
 }
@@ -37,7 +35,7 @@ impl Device {
         allocation: u32,
         buffer: &mut [u8],
     ) -> Result<usize, Answer> {
-        let wanted = request.wanted(self.reading).ok_or(Answer::InvalidField)?;
+        let wanted = request.wanted().ok_or(Answer::InvalidField)?;
         let mut data = self.scsi_data(&wanted);
         data.truncate(allocation as usize);
         lend(&data, buffer)
@@ -62,16 +60,16 @@ pub fn lend(bytes: &[u8], buffer: &mut [u8]) -> Result<usize, Answer> {
 }
 
 /// What accepted data says: the header's numbers and the whole descriptors.
-pub struct ScsiContents {
-    pub contents: Contents,
+pub struct ScsiReading {
+    pub reading: Reading,
     /// "a descriptor cut through is dropped and this is reported".
     torn: bool,
 }
 
-impl ScsiContents {
+impl ScsiReading {
     /// Descriptors are missing, or a part of one is.
     pub fn is_cut(&self) -> bool {
-        self.contents.descriptors.len() < self.contents.header.number as usize
+        self.reading.descriptors.len() < self.reading.header.number as usize
     }
 
     /// `cut K of N`, or `torn K of N` where one was cut through; of a whole list
@@ -81,15 +79,15 @@ impl ScsiContents {
             return String::new();
         }
         let word = if self.torn { "torn" } else { "cut" };
-        let whole = self.contents.descriptors.len();
-        format!("{} {} of {}\n", word, whole, self.contents.header.number)
+        let whole = self.reading.descriptors.len();
+        format!("{} {} of {}\n", word, whole, self.reading.header.number)
     }
 }
 
 /// The data's contents, or the place of its first offence (number 9).
-pub fn read(data: &[u8], request: &ScsiRequest, reading: Reading) -> Result<ScsiContents, usize> {
+pub fn read(data: &[u8], request: &ScsiRequest) -> Result<ScsiReading, usize> {
     // "length below 32 or a request with a filter or report type due 4 (0)"
-    let wanted = request.wanted(reading).ok_or(0usize)?;
+    let wanted = request.wanted().ok_or(0usize)?;
     if data.len() < ROW {
         return Err(0);
     }
@@ -98,8 +96,8 @@ pub fn read(data: &[u8], request: &ScsiRequest, reading: Reading) -> Result<Scsi
     let whole = whole_descriptors(data, &header);
     let descriptors = read_descriptors(Order::Big, data, whole, &wanted)?;
     check_end(data, &header)?;
-    Ok(ScsiContents {
-        contents: Contents {
+    Ok(ScsiReading {
+        reading: Reading {
             header,
             descriptors,
         },

@@ -2,7 +2,6 @@
 //! time and starts the next at the last identifier plus one".
 
 use super::reader::read;
-use super::reading::Reading;
 use super::request::Registers;
 
 /// What a host does after a page.
@@ -15,14 +14,14 @@ pub enum Next {
 
 /// What follows the page that answers a request, or the place of the page's first
 /// offence (number 9).
-pub fn next(page: &[u8], registers: &Registers, reading: Reading) -> Result<Next, usize> {
-    let contents = read(page, registers, reading)?;
+pub fn next(page: &[u8], registers: &Registers) -> Result<Next, usize> {
+    let reading = read(page, registers)?;
     // "It ends where N equals returned."
-    if contents.header.number == contents.header.returned {
+    if reading.header.number == reading.header.returned {
         return Ok(Next::End);
     }
     // A cut list has 16p - 1 descriptors, so there is a last one.
-    let last = contents.descriptors.last();
+    let last = reading.descriptors.last();
     // "It must never send a start above FFFF_FFFFh", whatever a page says of N.
     let start = last.and_then(|one| one.identifier.checked_add(1));
     Ok(start.map_or(Next::End, Next::Ask))

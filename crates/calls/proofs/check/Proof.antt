@@ -5,7 +5,6 @@ use mir.Syntax.{w16}
 use Rattle.datum.proofs.Datum.{number_lem}
 use Rattle.datum.proofs.Listed.{listed_lem}
 use Rattle.offer.specs.Check.{check_of, verdict}
-use Rattle.paper.specs.declared.Reading.TheVariants.{First}
 use Rattle.calls.specs.Offered.{array_of, check_list}
 use Rattle.calls.proofs.Data.{element_lem, checked}
 use Rattle.calls.proofs.Lists.{check_offer}
@@ -21,6 +20,6 @@ pub check_spec : {M : Type 1} → statement M
 unfolding code.routine
 check_spec 𝓤 𝓛 𝓜 𝓡 =
     listed_lem element_lem 128 checked (number_lem w16 ∷ []) array_of (λ es x r. verdict r ≡ check_list es x.0)
-    (λ es n x r. verdict r ≡ check_of (record { elements = es; count = n; limit = x.0; reading = First })) (λ es x r e. e ∙ check_offer es x.0 First)
+    (λ es n x r. verdict r ≡ check_of (record { elements = es; count = n; limit = x.0 })) (λ es x r e. e ∙ check_offer es x.0)
     _ 𝓤 𝓛 𝓜 𝓡 code.env name copied_symbol.name symbol.name (code.unfolded 𝓤 𝓛.H 𝓜 𝓡)
     copied_symbol.routine code.calls-calls::copied (copied.met 𝓤 𝓛 𝓜 𝓡) symbol.routine code.calls-calls::check-in (callee.met 𝓤 𝓛 𝓜 𝓡)

@@ -1,4 +1,4 @@
--- `cells::failed_after`: its own stores write it, the others keep it.
+-- `cells::failed_after`: its own store writes it, the others keep it.
 use mathlib.Core.Path.{◌∙◌}
 use borrow.Author.Rules.{rules}
 use Rattle.cells.proofs.Stores.{failed_kept, failed_stored}
@@ -10,8 +10,5 @@ failed_after_spec =
     tie.close
     (tie.spec
     (λ c. search rules)
-    (λ c. search rules)
-    (λ c κs. search rules)
     (λ c cells q. search (failed_stored))
-    (λ c cells q. search (failed_stored))
-    (λ c cells q. c.same-mark.ensures ∙ q ∙ failed_kept cells c.before.before.args.store c.before.match.keys3))
+    (λ c cells q. q ∙ failed_kept cells c.before.args.store c.match.keys2))

@@ -20,5 +20,5 @@ put_reading_spec =
     (λ c. search rules)
     (λ c. let s = c.before.before.before.before.before.before.before.before.before.before.args in
     let last = c.before.before.put-judged in
-    let text : Puts s.out.now s.at (reading_of s.reading s.page.now s.request) last.new.0 last.result = search (reading_puts) in
+    let text : Puts s.out.now s.at (reading_of s.page.now s.request) last.new.0 last.result = search (reading_puts) in
     (search (whole_stored_in, not-false, length_reading), search (whole_ended_in, not-false, length_reading))))

@@ -12,6 +12,4 @@ built_spec =
     (tie.spec
     (λ c κs. search rules)
     (λ c. record { fits = omega (arith, c.bounded.ensures, min-le_right c.before.before.args.table.count 128) })
-    (λ c κs. search rules)
-    (λ c. search rules)
     (λ c. search (built_anew)))

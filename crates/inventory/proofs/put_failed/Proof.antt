@@ -8,8 +8,10 @@ pub put_failed_spec : {M : Type 1} → statement M
 put_failed_spec =
     tie.close
     (tie.spec
-    (λ c. search rules)
     (λ c κs. search rules)
+    (λ c κs. search rules)
+    (λ c. search rules)
+    (λ c. search rules)
     (λ c κs. search rules)
     (λ c. search rules)
     (λ c. search (failed_puts)))

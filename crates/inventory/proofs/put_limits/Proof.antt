@@ -8,6 +8,7 @@ pub put_limits_spec : {M : Type 1} → statement M
 put_limits_spec =
     tie.close
     (tie.spec
+    (λ c. search rules)
     (λ c κs. search rules)
     (λ c. search rules)
     (λ c κs. search rules)

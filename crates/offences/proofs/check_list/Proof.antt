@@ -7,10 +7,10 @@ use Rattle.offences.proofs.check_list.Statement.{statement}
 use Rattle.offences.proofs.check_list.Tie as tie
 
 abbrev invariant-loop : tie.invariant-loop
-invariant-loop page request reading count o end next₀ next = Swept o reading page request count next.at next.last.0
+invariant-loop page request count o end next₀ next = Swept o page request count next.at next.last.0
 
 abbrev decreases-loop : tie.decreases-loop
-decreases-loop page request reading count o end next₀ next = end - next.at
+decreases-loop page request count o end next₀ next = end - next.at
 
 pub check_list_spec : {M : Type 1} → statement M
 check_list_spec =

@@ -11,7 +11,7 @@ use Rattle.datum.proofs.Datum.{number_lem}
 use Rattle.datum.proofs.Made.{made}
 use Rattle.image.proofs.Image.make.Met as callee
 use Rattle.image.proofs.Image.make.Symbol as symbol
-use Rattle.image.specs.Calls.{made_numbered}
+use Rattle.image.specs.Calls.{made_by}
 use Rattle.image.specs.Reading.{device_of}
 use Rattle.paper.specs.Told.{tells}
 use Rattle.recorder.specs.Made.{made_in}
@@ -25,7 +25,7 @@ use Rattle.recorder.proofs.recorder_make.Statement.{statement}
 pub recorder_make_spec : {M : Type 1} → statement M
 unfolding code.routine
 recorder_make_spec 𝓤 𝓛 𝓜 𝓡 =
-    made image element_lem 128 (number_lem w8) imaged (number_lem w16 ∷ number_lem w8 ∷ []) array_of (λ i es x n e. (tells n e ≡ made_in i es x.0 x.1.0) × Fits (device_of e))
-    (λ i es c x n e. tells n e ≡ made_numbered i es c x.0 x.1.0) (λ i es x n e is q. (q ∙ made_in_lem i es x.0 x.1.0, image_fits e is))
+    made image element_lem 128 (number_lem w8) imaged (number_lem w16 ∷ []) array_of (λ i es x n e. (tells n e ≡ made_in i es x.0) × Fits (device_of e))
+    (λ i es c x n e. tells n e ≡ made_by i (record { elements = es; count = c; limit = x.0 })) (λ i es x n e is q. (q ∙ made_in_lem i es x.0, image_fits e is))
     _ 𝓤 𝓛 𝓜 𝓡 code.env name copied_symbol.name symbol.name (code.unfolded 𝓤 𝓛.H 𝓜 𝓡)
     copied_symbol.routine code.calls-calls::copied (copied.met 𝓤 𝓛 𝓜 𝓡) symbol.routine code.calls-image::Image::make (callee.met 𝓤 𝓛 𝓜 𝓡)

@@ -11,4 +11,4 @@ recorder_scsi_read_spec =
     (tie.spec
     (λ c κs. search rules)
     (λ c κs. search rules)
-    (λ c. c.data-reading.ensures ∙ ap data_reading c.before.scsi-read.ensures))
+    (λ c. c.data-reading.ensures ∙ ap data_reading c.before.read.ensures))

@@ -8,10 +8,10 @@ use Rattle.sender.proofs.number_asked.Statement.{statement}
 use Rattle.sender.proofs.number_asked.Tie as tie
 
 abbrev invariant-loop : tie.invariant-loop
-invariant-loop request hs ps reading n number₀ i₀ number i = Counted ps hs reading request n number i
+invariant-loop request ps hs n number₀ i₀ number i = Counted ps hs request n number i
 
 abbrev decreases-loop : tie.decreases-loop
-decreases-loop request hs ps reading n number₀ i₀ number i = n - i
+decreases-loop request ps hs n number₀ i₀ number i = n - i
 
 pub number-asked_spec : {M : Type 1} → statement M
 number-asked_spec =
@@ -21,7 +21,7 @@ number-asked_spec =
     decreases-loop
     (λ c κs. search rules)
     (λ c. let g = c.before.before.before.well-formed in
-    counted_none _ _ _ _ _ (search rules) (simp length-map at g.0.1.1.0.1.1.0.1.0.1) (search rules))
+    counted_none _ _ _ _ (search rules) (simp length-map at g.0.1.1.0.1.1.0.1.0.1) (simp length-map at g.0.1.1.1.0.1.1.1.1.0.1.0.1))
     (λ c. search rules)
     (λ c. search rules)
     (λ c. search rules)

@@ -8,10 +8,10 @@ use Rattle.sender.proofs.put_asked.Statement.{statement}
 use Rattle.sender.proofs.put_asked.Tie as tie
 
 abbrev invariant-loop : tie.invariant-loop
-invariant-loop request part₀ hs ps reading n at₀ i₀ part at i = Walked ps hs reading request n part₀ at i part
+invariant-loop request part₀ ps hs n at₀ i₀ part at i = Walked ps hs request n part₀ at i part
 
 abbrev decreases-loop : tie.decreases-loop
-decreases-loop request part₀ hs ps reading n at₀ i₀ part at i = n - i
+decreases-loop request part₀ ps hs n at₀ i₀ part at i = n - i
 
 pub put_asked_spec : {M : Type 1} → statement M
 put_asked_spec =
@@ -21,7 +21,7 @@ put_asked_spec =
     decreases-loop
     (λ c κs. search rules)
     (λ c. let g = c.before.before.before.before.well-formed in
-    walk_none _ _ _ _ _ _ (search rules) (simp length-map at g.0.1.1.0.1.1.0.1.0.1) (search rules))
+    walk_none _ _ _ _ _ (search rules) (simp length-map at g.0.1.1.0.1.1.0.1.0.1) (simp length-map at g.0.1.1.1.0.1.1.1.1.0.1.0.1))
     (λ c. search rules)
     (λ c. search rules)
     (λ c. search rules)
@@ -50,7 +50,7 @@ put_asked_spec =
     let asks = whole.before in
     let turn = asks.before.before.before in
     let l = turn.before.loop in
-    walk_next _ _ _ _ _ turn.before.before.before.before.before.before.args.part.now l.at l.i l.part l.invariant turn.loop-test.true _ asks.before.does-ask.ensures (not-false _ asks.if1.false) whole.if2.false _
+    walk_next _ _ _ _ turn.before.before.before.before.before.before.args.part.now l.at l.i l.part l.invariant turn.loop-test.true _ asks.before.does-ask.ensures (not-false _ asks.if1.false) whole.if2.false _
     put.auto.1.1.1.1.0 put.ensures)
     (λ c. search rules)
     (λ c. search (asked-all)))

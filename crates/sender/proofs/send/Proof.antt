@@ -12,7 +12,6 @@ send_spec =
     (λ c. search (sent_due))
     (λ c κs. search rules)
     (λ c κs. search rules)
-    (λ c κs. search rules)
     (λ c. search rules)
     (λ c. search rules)
     (λ c κs. search rules)
@@ -24,7 +23,7 @@ send_spec =
     (λ c. search rules)
     (λ c. let sized = c.before.before.before.before.before in
     let counted = sized.before in
-    let judged = counted.before.before.before.before in
+    let judged = counted.before.before.before in
     let s = judged.before.before in
-    sent_done s.args.d s.args.query s.args.allocation s.args.buf.now _ judged.is-refused.ensures (search rules) _ counted.before.before.for-pages.ensures _
+    sent_done s.args.d s.args.query s.args.allocation s.args.buf.now _ judged.is-refused.ensures (search rules) _ counted.before.for-pages.ensures _
     counted.number-asked.ensures.0 _ sized.smaller.ensures c.before.before.before.before.if2.false _ c.before.before.fill-part.ensures))

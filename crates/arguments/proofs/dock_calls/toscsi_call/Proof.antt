@@ -12,5 +12,4 @@ toscsi_call_spec =
     (λ c κs. search rules)
     (λ c κs. search rules)
     (λ c κs. search rules)
-    (λ c κs. search rules)
     (λ c. search (toscsi_is)))

@@ -20,5 +20,5 @@ put_scsi_reading_spec =
     (λ c. search rules)
     (λ c. let s = c.before.before.before.before.before.before.before.before.before.before.args in
     let last = c.before.before.put-judged in
-    let text : Puts s.out.now s.at (scsi_reading_of s.reading s.bytes.now s.query) last.new.0 last.result = search (data_puts) in
+    let text : Puts s.out.now s.at (scsi_reading_of s.bytes.now s.query) last.new.0 last.result = search (data_puts) in
     (search (whole_stored_in, not-false, enough_for_data), search (whole_ended_in, not-false, enough_for_data))))

@@ -11,6 +11,5 @@ device_spec =
     (λ c κs. search rules)
     (λ c κs. search rules)
     (λ c κs. search rules)
-    (λ c κs. search rules)
     (λ c. search rules)
     (λ c. search (device_read)))

@@ -1,6 +1,6 @@
--- `Image::make`: the number names no reading, or one.
+-- `Image::make`, over `making::make_device`.
 use borrow.Author.Rules.{rules}
-use Rattle.paper.proofs.Readings.{by_none, by_one}
+use Rattle.image.proofs.Calls.{made_refused, made_new}
 use Rattle.image.proofs.Image.make.Statement.{statement}
 use Rattle.image.proofs.Image.make.Tie as tie
 
@@ -9,8 +9,9 @@ make_spec =
     tie.close
     (tie.spec
     (λ c κs. search rules)
-    (λ c. search rules)
-    (λ c. search rules)
-    (λ c. search (by_none))
     (λ c κs. search rules)
-    (λ c. search (by_one)))
+    (λ c κs. search rules)
+    (λ c. search (made_refused))
+    (λ c κs. search rules)
+    (λ c κs. search rules)
+    (λ c. search (made_new)))

@@ -11,5 +11,4 @@ takes_health_spec =
     (λ c κs. search rules)
     (λ c. search (filter_any))
     (λ c. search (filter_low))
-    (λ c κs. search rules)
     (λ c. search (filter_high)))

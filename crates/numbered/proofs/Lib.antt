@@ -1,2 +1,0 @@
--- What is proved of the conversions by a reading's number.
-mod Turned

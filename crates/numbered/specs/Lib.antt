@@ -1,2 +1,0 @@
--- The host's calls by the number of a reading.
-pub mod Numbered
