@@ -17,7 +17,7 @@ TOKEN = re.compile(r"[^\s(){}\[\],;.«»\"`]+")
 WORD = re.compile(r"^[A-Za-z][\w'₀-₉⁻¹-]*$")
 USE = re.compile(r"^[ \t]*(?:pub )?use ([^\s{]+)\.\{([^}]*)\}", re.M)
 GHOST_USE = re.compile(r"^[ \t]*ghost use ([^\s{;]+)\.\{([^}]*)\};", re.M)
-MADE = re.compile(r"\.proofs\.(?:.*\.)?(?:Lts|Tie|Statement|Goals|Given)$|\.proofs\.(?:.*\.)?(?:Lts|Tie|Statement|Goals|Given)\.|\.specs\.(?:declared|contracts)(?:\.|$)")
+MADE = re.compile(r"\.proofs\.(?:.*\.)?(?:Lts|Tie|Statement|Goals|Given|Code)$|\.proofs\.(?:.*\.)?(?:Lts|Tie|Statement|Goals|Given|Code)\.|\.specs\.(?:declared|contracts)(?:\.|$)")
 LIBRARY_PARTS = {"append", "nil", "cons", "zero", "suc", "map", "length", "take", "drop", "set", "replicate", "min", "cond", "not"}
 
 
@@ -143,7 +143,7 @@ class Speller:
                 lines.append(line)
                 continue
             lines.append(self.tokens(code, keep, fields, clash) + mark + self.quoted(said, keep))
-        return "\n".join(lines)
+        return self.aliased("\n".join(lines), r"^[ \t]*(?:pub )?use ")
 
     def mine(self, path):
         steps = path.split(".")
@@ -165,6 +165,20 @@ class Speller:
 
         return re.sub(r"[A-Za-z][\w'-]*", one, said)
 
+    def aliased(self, text, use):
+        """What stands behind the name that a file gives to a module of the repository: `spec.takenFrom` is `spec.taken_from`."""
+        for path, alias in re.findall(use + r"([^\s{};]+) as ([^\s;{}]+);?[ ]*$", text, re.M):
+            if self.mine(path):
+
+                def one(m):
+                    w = m.group(1)
+                    if changes(w):
+                        self.names[w] = self.new(w)
+                    return alias + "." + self.names.get(w, w)
+
+                text = re.sub(r"(?<![\w'.-])" + re.escape(alias) + r"\.([A-Za-z][\w'-]*)", one, text)
+        return text
+
     def source(self, text):
         own, _ = imported(text, self.crates, GHOST_USE)
         own = {w for w in own if WORD.match(w) and changes(w)}
@@ -176,7 +190,7 @@ class Speller:
             for w in sorted(own, key=len, reverse=True):
                 code = re.sub(r"(?<![\w'-])" + re.escape(w) + r"(?![\w'-])", self.names[w], code)
             lines.append(code + mark + self.quoted(said))
-        return "\n".join(lines)
+        return self.aliased("\n".join(lines), r"^[ \t]*ghost use ")
 
 
 def fields_of(root):

@@ -77,7 +77,7 @@ acted a = act a.bench (heard a.reply)
 
 -- "`step`, `error`, `cut`, `comreset`, `hardreset`, `softreset`, `grade ID HEALTH`"
 abbrev pub after_event : Bench → Told Device → Act
-after_event b t = act (changes.withDevice b t.state) (answered t.number)
+after_event b t = act (changes.with_device b t.state) (answered t.number)
 
 -- "`make LIMIT` offers the list and empties it: a new device (0), or 8 and the device that was there stays"
 abbrev pub after_offer : Bench → Told Device → Act
@@ -87,7 +87,7 @@ after_offer b t = act (record { offered = no_offer; made = b.made || eqb t.numbe
 
 -- "the page (its first 512p bytes) follows"
 abbrev pub written : Bench → Command → List ℕ → List ℕ
-written b c lent = take (front.leftAfter b.device c lent).count (front.lentAfter b.device c lent)
+written b c lent = take (front.left_after b.device c lent).count (front.lent_after b.device c lent)
 
 -- "and is kept"
 abbrev pub kept_page : Bench → Command → List ℕ → List ℕ → List ℕ
@@ -95,8 +95,8 @@ kept_page b c page lent = stored page 0 (written b c lent)
 
 abbrev pub after_command : Bench → Command → List ℕ → List ℕ → Act
 after_command b c page lent =
-    let f = front.leftAfter b.device c lent in
-    act (changes.withKept (changes.withDevice b f.told.state) (kept.keptWith b.kept (written b c lent) page)) (commanded f.told.number f.room f.count)
+    let f = front.left_after b.device c lent in
+    act (changes.with_kept (changes.with_device b f.told.state) (kept.kept_with b.kept (written b c lent) page)) (commanded f.told.number f.room f.count)
 
 -- ## The kept page
 
@@ -112,12 +112,12 @@ page_saying (calls.Next q) before after = walks q
 page_saying (calls.ReadScsi q) before after = reads_scsi q
 
 abbrev pub after_page : Bench → PageCall → List ℕ → Act
-after_page b c page = let n = kept.keptAfter c b.kept page in act (changes.withKept b n) (page_saying c b.kept n)
+after_page b c page = let n = kept.kept_after c b.kept page in act (changes.with_kept b n) (page_saying c b.kept n)
 
 -- ## The calls for a SCSI host: of the device, or of the kept page
 
 abbrev pub dock_answer : Bench → Dock → List ℕ → List ℕ → dock.Answered
-dock_answer b c page lent = dock.answeredBy b.device c (take b.kept page) lent
+dock_answer b c page lent = dock.answered_by b.device c (take b.kept page) lent
 
 abbrev pub dock_lent : Bench → Dock → List ℕ → List ℕ → List ℕ
 dock_lent b c page lent = dock.lent_by b.device c (take b.kept page) lent
@@ -127,18 +127,18 @@ abbrev pub dock_bytes : Bench → Dock → List ℕ → List ℕ → List ℕ
 dock_bytes b c page lent = take (dock_answer b c page lent).count (dock_lent b c page lent)
 
 abbrev pub dock_page : Bench → Dock → List ℕ → List ℕ → List ℕ
-dock_page b c page lent = kept.pageData (dock_answer b c page lent).number (dock_bytes b c page lent) page
+dock_page b c page lent = kept.page_data (dock_answer b c page lent).number (dock_bytes b c page lent) page
 
 abbrev pub after_dock : Bench → Dock → List ℕ → List ℕ → Act
 after_dock b c page lent =
-    let a = dock_answer b c page lent in act (changes.withKept b (kept.keptData a.number b.kept (dock_bytes b c page lent) page)) (docked a)
+    let a = dock_answer b c page lent in act (changes.with_kept b (kept.kept_data a.number b.kept (dock_bytes b c page lent) page)) (docked a)
 
 -- ## A line
 
 abbrev pub act_of : Bench → Line → List ℕ → List ℕ → Act
 act_of b lines.Passed page lent = act b nothing
 act_of b lines.NotACall page lent = act b not_acall
-act_of b (lines.Element e) page lent = act (changes.withRecord b e) nothing
+act_of b (lines.Element e) page lent = act (changes.with_record b e) nothing
 act_of b (lines.Make limit) page lent = after_offer b (made_of b.device (changes.offering b limit))
 act_of b (lines.Command c) page lent = after_command b c page lent
 act_of b (lines.Bare e) page lent = after_event b (told b.device (bare_event e))
@@ -157,7 +157,7 @@ page_of b (lines.Command c) page lent = kept_page b c page lent
 page_of b (lines.Bare e) page lent = page
 page_of b (lines.Grade g) page lent = page
 page_of b lines.Cells page lent = page
-page_of b (lines.Page c) page lent = kept.pageAfter c b.kept page
+page_of b (lines.Page c) page lent = kept.page_after c b.kept page
 page_of b (lines.Dock c) page lent = dock_page b c page lent
 
 -- and in the buffer that is lent to a call
@@ -166,7 +166,7 @@ lent_of b lines.Passed page lent = lent
 lent_of b lines.NotACall page lent = lent
 lent_of b (lines.Element e) page lent = lent
 lent_of b (lines.Make limit) page lent = lent
-lent_of b (lines.Command c) page lent = front.lentAfter b.device c lent
+lent_of b (lines.Command c) page lent = front.lent_after b.device c lent
 lent_of b (lines.Bare e) page lent = lent
 lent_of b (lines.Grade g) page lent = lent
 lent_of b lines.Cells page lent = lent

@@ -1,4 +1,6 @@
 // The calls of a script, on what it has on its bench: what each leaves, and what it says.
+#![tactic(auto)]
+
 ghost use Rattle.std.specs.Prelude.{◌≡◌};
 ghost use Rattle.front.specs.Front.{lent_after};
 ghost use Rattle.kept.specs.Kept.{page_after};
@@ -16,7 +18,7 @@ use request::Request;
 use workbench::Bench;
 
 // An answer over a lent buffer of `room` bytes, of which it wrote the first `count`.
-#[derive(Drop)]
+#[derive(Clone, Copy)]
 pub struct Lent {
     pub answer: Answer,
     pub room: usize,
@@ -24,7 +26,7 @@ pub struct Lent {
 }
 
 // What the bench says to a line.
-#[derive(Drop)]
+#[derive(Clone, Copy)]
 pub enum Reply {
     Nothing,
     NotACall,
@@ -41,7 +43,7 @@ pub enum Reply {
 }
 
 // The bench after a line, and what it says.
-#[derive(Drop)]
+#[derive(Clone, Copy)]
 pub struct Acted {
     pub bench: Bench,
     pub reply: Reply,
@@ -55,7 +57,7 @@ fn replied(bench: Bench, reply: Reply) -> Acted
 
 // The answer of an event, and the bench with the device after it.
 fn after(bench: Bench, s: Stepped) -> Acted
-    ensures { paper.acted result ≡ paper.afterEvent bench (said s.answer s.device) }
+    ensures { paper.acted result ≡ paper.after_event bench (said s.answer s.device) }
 {
     let answer = s.answer;
     let device = s.device;
@@ -64,7 +66,7 @@ fn after(bench: Bench, s: Stepped) -> Acted
 
 // Offers the list and empties it.
 fn make(bench: Bench, limit: u16) -> Acted
-    ensures { paper.acted result ≡ paper.afterOffer bench (made_of bench.device (offering bench limit)) }
+    ensures { paper.acted result ≡ paper.after_offer bench (made_of bench.device (offering bench limit)) }
 {
     let there = bench.device;
     let s = making::make_device(there, bench.offering(limit));
@@ -74,8 +76,8 @@ fn make(bench: Bench, limit: u16) -> Acted
 
 // The front call; a page that it wrote is kept.
 fn command(bench: Bench, c: Command, page: &mut [u8], lent: &mut [u8]) -> Acted
-    ensures result_value { paper.acted result ≡ paper.afterCommand bench c page.old lent.old }
-    ensures page_after { page.new ≡ paper.keptPage bench c page.old lent.old }
+    ensures result_value { paper.acted result ≡ paper.after_command bench c page.old lent.old }
+    ensures page_after { page.new ≡ paper.kept_page bench c page.old lent.old }
     ensures lent_after { lent.new ≡ lent_after bench.device c lent.old }
 {
     let d = bench.device;
@@ -96,7 +98,7 @@ fn command(bench: Bench, c: Command, page: &mut [u8], lent: &mut [u8]) -> Acted
 
 // What a call on the kept page says; `length` says how long it then is.
 fn page_reply(call: PageCall, kept: usize, after: usize) -> Reply
-    ensures { paper.heard result ≡ paper.pageSaying call kept after }
+    ensures { paper.heard result ≡ paper.page_saying call kept after }
 {
     match call {
         PageCall::Length(_) => Reply::Length(after),
@@ -108,7 +110,7 @@ fn page_reply(call: PageCall, kept: usize, after: usize) -> Reply
 }
 
 fn poke_reply(p: Poke, kept: usize) -> Reply
-    ensures { paper.heard result ≡ paper.pokeSaying p kept }
+    ensures { paper.heard result ≡ paper.poke_saying p kept }
 {
     if kept <= p.place {
         return Reply::Outside;
@@ -117,7 +119,7 @@ fn poke_reply(p: Poke, kept: usize) -> Reply
 }
 
 fn on_page(bench: Bench, c: PageCall, page: &mut [u8]) -> Acted
-    ensures result_value { paper.acted result ≡ paper.afterPage bench c page.old }
+    ensures result_value { paper.acted result ≡ paper.after_page bench c page.old }
     ensures page_after { page.new ≡ page_after c bench.kept page.old }
 {
     let before = bench.kept;
@@ -127,9 +129,9 @@ fn on_page(bench: Bench, c: PageCall, page: &mut [u8]) -> Acted
 
 // A call for a SCSI host, of the device or of the kept page; the bytes that it wrote are kept.
 fn on_dock(bench: Bench, c: Dock, page: &mut [u8], lent: &mut [u8]) -> Acted
-    ensures result_value { paper.acted result ≡ paper.afterDock bench c page.old lent.old }
-    ensures page_after { page.new ≡ paper.dockPage bench c page.old lent.old }
-    ensures lent_after { lent.new ≡ paper.dockLent bench c page.old lent.old }
+    ensures result_value { paper.acted result ≡ paper.after_dock bench c page.old lent.old }
+    ensures page_after { page.new ≡ paper.dock_page bench c page.old lent.old }
+    ensures lent_after { lent.new ≡ paper.dock_lent bench c page.old lent.old }
 {
     let d = bench.device;
     let docked = docking::call(d, c, slices::head(page, bench.kept), lent);
@@ -140,7 +142,7 @@ fn on_dock(bench: Bench, c: Dock, page: &mut [u8], lent: &mut [u8]) -> Acted
 }
 
 fn does_ask_device(call: DockCall) -> bool
-    ensures { result ≡ paper.asksDevice call }
+    ensures { result ≡ paper.asks_device call }
 {
     match call {
         DockCall::Send(_) => true,
@@ -150,7 +152,7 @@ fn does_ask_device(call: DockCall) -> bool
 }
 
 fn needs_device(line: Line) -> bool
-    ensures { result ≡ paper.needsDevice line }
+    ensures { result ≡ paper.needs_device line }
 {
     match line {
         Line::Passed => false,
@@ -170,7 +172,7 @@ fn needs_device(line: Line) -> bool
 }
 
 fn lacks_device(made: bool, line: Line) -> bool
-    ensures { result ≡ paper.lacksDevice made line }
+    ensures { result ≡ paper.lacks_device made line }
 {
     if made {
         return false;
@@ -180,7 +182,7 @@ fn lacks_device(made: bool, line: Line) -> bool
 
 // Makes the call of a line, for which a device is there if it needs one.
 fn obey(bench: Bench, line: Line, page: &mut [u8], lent: &mut [u8]) -> Acted
-    ensures result_value { paper.acted result ≡ paper.actOf bench line page.old lent.old }
+    ensures result_value { paper.acted result ≡ paper.act_of bench line page.old lent.old }
     ensures page_after { page.new ≡ paper.page_of bench line page.old lent.old }
     ensures lent_after { lent.new ≡ paper.lent_of bench line page.old lent.old }
 {
@@ -201,9 +203,9 @@ fn obey(bench: Bench, line: Line, page: &mut [u8], lent: &mut [u8]) -> Acted
 
 // Makes the call of a line; one that needs a device that is not there changes nothing.
 pub fn call(bench: Bench, line: Line, page: &mut [u8], lent: &mut [u8]) -> Acted
-    ensures result_value { paper.acted result ≡ paper.actedOn bench line page.old lent.old }
-    ensures page_after { page.new ≡ paper.pageOn bench line page.old lent.old }
-    ensures lent_after { lent.new ≡ paper.lentOn bench line page.old lent.old }
+    ensures result_value { paper.acted result ≡ paper.acted_on bench line page.old lent.old }
+    ensures page_after { page.new ≡ paper.page_on bench line page.old lent.old }
+    ensures lent_after { lent.new ≡ paper.lent_on bench line page.old lent.old }
 {
     if lacks_device(bench.made, line) {
         return replied(bench, Reply::NoDevice);

@@ -20,7 +20,7 @@ use Rattle.arguments.specs.declared.PageCall.TheVariants.{Poke}
 pub element_is : (l : List ℕ) (id kind health blocks flag : Field)
     → id ≡ field_at l 1 most32 → kind ≡ field_at l 2 most8 → health ≡ field_at l 3 most8 → blocks ≡ field_at l 4 most64 → flag ≡ field_at l 5 1
     → (a b : Bool) → a ≡ (health.fits && (blocks.fits && flag.fits)) → b ≡ (id.fits && (kind.fits && a))
-    → (e : Offered) → e ≡ elements.elementOf (record { 0 = id.value }) kind.value health.value (eqb flag.value 1) blocks.value
+    → (e : Offered) → e ≡ elements.element_of (record { 0 = id.value }) kind.value health.value (eqb flag.value 1) blocks.value
     → (r : Line) → r ≡ cond b (Element e) NotACall → r ≡ element_of l
 unfolding element_of
 element_is l id kind health blocks flag is_id is_kind is_health is_blocks is_flag a b is_a is_b e is_e r is_r =

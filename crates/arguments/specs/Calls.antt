@@ -30,7 +30,7 @@ element_of l =
     let blocks = field_at l 4 most64 in
     let flag = field_at l 5 1 in
     cond (id.fits && (kind.fits && (health.fits && (blocks.fits && flag.fits))))
-    (Element (elements.elementOf (record { 0 = id.value }) kind.value health.value (eqb flag.value 1) blocks.value))
+    (Element (elements.element_of (record { 0 = id.value }) kind.value health.value (eqb flag.value 1) blocks.value))
     NotACall
 
 -- `make LIMIT`

@@ -11,7 +11,7 @@ use registers::{both, each};
 // ---- The calls on the device
 
 pub fn element_call(line: &[u8]) -> Line
-    ensures { result ≡ spec.elementOf line.now }
+    ensures { result ≡ spec.element_of line.now }
 {
     let id = field_at(line, 1, 0xFFFF_FFFF);
     let kind = field_at(line, 2, 0xFF);
@@ -30,14 +30,14 @@ pub fn element_call(line: &[u8]) -> Line
 }
 
 pub fn make_call(line: &[u8]) -> Line
-    ensures { result ≡ spec.makeOf line.now }
+    ensures { result ≡ spec.make_of line.now }
 {
     let limit = field_at(line, 1, 0xFFFF);
     fitting(limit.fits, Line::Make(limit.value as u16))
 }
 
 pub fn command_call(line: &[u8]) -> Line
-    ensures { result ≡ spec.commandOf line.now }
+    ensures { result ≡ spec.command_of line.now }
 {
     let state = registers::state_of(lines::word_at(line, 1));
     let code = field_at(line, 2, 0xFF);
@@ -60,7 +60,7 @@ pub fn command_call(line: &[u8]) -> Line
 }
 
 pub fn grade_call(line: &[u8]) -> Line
-    ensures { result ≡ spec.gradeOf line.now }
+    ensures { result ≡ spec.grade_of line.now }
 {
     let id = field_at(line, 1, 0xFFFF_FFFF);
     let health = field_at(line, 2, 0xFF);
@@ -82,7 +82,7 @@ pub fn length_call(line: &[u8]) -> Line
 }
 
 pub fn poke_call(line: &[u8]) -> Line
-    ensures { result ≡ spec.pokeOf line.now }
+    ensures { result ≡ spec.poke_of line.now }
 {
     let place = field_at(line, 1, 0x1_0000);
     let byte = field_at(line, 2, 0xFF);

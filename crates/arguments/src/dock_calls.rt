@@ -9,7 +9,7 @@ use query::Query;
 use registers::{both, each};
 
 // FILTER, TYPE and START, and whether each fits its field.
-#[derive(Drop)]
+#[derive(Clone, Copy)]
 struct Queried {
     fits: bool,
     query: Query,
@@ -17,7 +17,7 @@ struct Queried {
 
 // From a line's second word on.
 fn query_in(line: &[u8]) -> Queried
-    ensures { result ≡ spec.queriedIn line.now }
+    ensures { result ≡ spec.queried_in line.now }
 {
     let filter = field_at(line, 1, 0xFF);
     let report = field_at(line, 2, 0xFF);
@@ -33,7 +33,7 @@ fn query_in(line: &[u8]) -> Queried
 }
 
 pub fn scsi_call(line: &[u8]) -> Line
-    ensures { result ≡ spec.scsiOf line.now }
+    ensures { result ≡ spec.scsi_of line.now }
 {
     let asked = query_in(line);
     let allocation = field_at(line, 4, 0xFFFF_FFFF);
@@ -53,7 +53,7 @@ pub fn scsi_call(line: &[u8]) -> Line
 }
 
 pub fn scsiread_call(line: &[u8]) -> Line
-    ensures { result ≡ spec.scsireadOf line.now }
+    ensures { result ≡ spec.scsiread_of line.now }
 {
     let asked = query_in(line);
     let query = asked.query;
@@ -61,7 +61,7 @@ pub fn scsiread_call(line: &[u8]) -> Line
 }
 
 pub fn toscsi_call(line: &[u8]) -> Line
-    ensures { result ≡ spec.toscsiOf line.now }
+    ensures { result ≡ spec.toscsi_of line.now }
 {
     let asked = registers::asked_at(line, 1);
     let length = field_at(line, 4, 0x1_0000);
@@ -74,7 +74,7 @@ pub fn toscsi_call(line: &[u8]) -> Line
 }
 
 pub fn toata_call(line: &[u8]) -> Line
-    ensures { result ≡ spec.toataOf line.now }
+    ensures { result ≡ spec.toata_of line.now }
 {
     let asked = query_in(line);
     let pages = field_at(line, 4, 0xFFFF);

@@ -1,4 +1,6 @@
 // The bench language: each call from the words of its line.
+#![tactic(auto)]
+
 mod calls;
 mod dock_calls;
 
@@ -15,7 +17,7 @@ use query::Query;
 use request::Request;
 
 // The front call, with the length of the buffer that is lent.
-#[derive(Drop)]
+#[derive(Clone, Copy)]
 pub struct Command {
     pub security: Security,
     pub code: u8,
@@ -25,20 +27,20 @@ pub struct Command {
     pub length: usize,
 }
 
-#[derive(Drop)]
+#[derive(Clone, Copy)]
 pub struct Grade {
     pub id: ElementId,
     pub health: u8,
 }
 
-#[derive(Drop)]
+#[derive(Clone, Copy)]
 pub struct Poke {
     pub place: usize,
     pub byte: u8,
 }
 
 // An event of the device that carries no value.
-#[derive(Drop)]
+#[derive(Clone, Copy)]
 pub enum Bare {
     Step,
     Error,
@@ -49,21 +51,21 @@ pub enum Bare {
 }
 
 // A request of a SCSI host to the device, with its allocation length.
-#[derive(Drop)]
+#[derive(Clone, Copy)]
 pub struct Send {
     pub query: Query,
     pub allocation: u32,
 }
 
 // SCSI data that answers a request, to be turned into so many pages.
-#[derive(Drop)]
+#[derive(Clone, Copy)]
 pub struct ToAta {
     pub query: Query,
     pub pages: PageCount,
 }
 
 // A call that writes into a lent buffer, of the device or of the kept page.
-#[derive(Drop)]
+#[derive(Clone, Copy)]
 pub enum DockCall {
     Send(Send),
     ToScsi(Request),
@@ -71,14 +73,14 @@ pub enum DockCall {
 }
 
 // It with the length of the buffer that is lent.
-#[derive(Drop)]
+#[derive(Clone, Copy)]
 pub struct Dock {
     pub call: DockCall,
     pub length: usize,
 }
 
 // A call on the kept page.
-#[derive(Drop)]
+#[derive(Clone, Copy)]
 pub enum PageCall {
     Length(usize),
     Poke(Poke),
@@ -88,7 +90,7 @@ pub enum PageCall {
 }
 
 // What a line says.
-#[derive(Drop)]
+#[derive(Clone, Copy)]
 pub enum Line {
     Passed,
     NotACall,

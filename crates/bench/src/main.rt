@@ -1,5 +1,7 @@
 // Runs scripts of calls on one device, and hands out what each line says. A script is a file that an argument names, after a line with its
 // name; without arguments it is standard input.
+#![tactic(auto)]
+
 ghost use Rattle.std.specs.Prelude.{◌≡◌, length};
 
 use libc::{STDIN_FILENO, STDOUT_FILENO};

@@ -1,5 +1,7 @@
 // "The firmware keeps one device record in place and lends it to each call": the calls by value, over what is lent. A call that changes the
 // device copies it out, makes the call by value and stores back the device that it hands back; one that only reads stores nothing.
+#![tactic(auto)]
+
 ghost use Rattle.std.specs.Prelude.{◌≡◌, cond, leb, length, take, replicate};
 ghost use Rattle.conduct.specs.Fits.{Fits};
 ghost use Rattle.device.specs.Machine as machine;
@@ -40,7 +42,7 @@ pub fn step(d: &mut Device) -> Answer
 }
 
 pub fn media_error(d: &mut Device) -> Answer
-    ensures { said result d.new ≡ told d.old machine.mediaError }
+    ensures { said result d.new ≡ told d.old machine.media_error }
 {
     let r = (*d).media_error();
     *d = r.device;
@@ -48,7 +50,7 @@ pub fn media_error(d: &mut Device) -> Answer
 }
 
 pub fn power_cut(d: &mut Device) -> Answer
-    ensures { said result d.new ≡ told d.old machine.powerCut }
+    ensures { said result d.new ≡ told d.old machine.power_cut }
 {
     let r = (*d).power_cut();
     *d = r.device;
@@ -64,7 +66,7 @@ pub fn comreset(d: &mut Device) -> Answer
 }
 
 pub fn hardware_reset(d: &mut Device) -> Answer
-    ensures { said result d.new ≡ told d.old machine.hardwareReset }
+    ensures { said result d.new ≡ told d.old machine.hardware_reset }
 {
     let r = (*d).hardware_reset();
     *d = r.device;
@@ -72,7 +74,7 @@ pub fn hardware_reset(d: &mut Device) -> Answer
 }
 
 pub fn software_reset(d: &mut Device) -> Answer
-    ensures { said result d.new ≡ told d.old machine.softwareReset }
+    ensures { said result d.new ≡ told d.old machine.software_reset }
 {
     let r = (*d).software_reset();
     *d = r.device;

@@ -1,4 +1,6 @@
 // The cells of a device and the stores that write them; what the search sees of an element; what a call rules.
+#![tactic(auto)]
+
 ghost use Rattle.std.specs.Prelude.{◌≡◌};
 ghost use Rattle.paper.specs.Answers.{number_of};
 ghost use Rattle.cells.specs.Cells.{make, is_full, is_set};
@@ -10,28 +12,28 @@ use paper::{Answer, ElementId, Lba};
 use table::{Part, Table};
 
 // What a note holds of the removal under way.
-#[derive(Drop)]
+#[derive(Clone, Copy)]
 pub struct Removal {
     pub element: ElementId,
     pub old: Lba,
     pub new: Lba,
 }
 
-#[derive(Drop)]
+#[derive(Clone, Copy)]
 pub enum Note {
     Empty,
     Full(Removal),
 }
 
 // The failed mark.
-#[derive(Drop)]
+#[derive(Clone, Copy)]
 pub enum Mark {
     Clear,
     Set,
 }
 
 // The next step of the step list: five work steps, four winding-up steps.
-#[derive(Drop)]
+#[derive(Clone, Copy)]
 pub enum Position {
     Work1,
     Work2,
@@ -45,7 +47,7 @@ pub enum Position {
 }
 
 // "Cells that survive power loss, each written whole or not at all". A health is the cell of its place in the table.
-#[derive(Drop)]
+#[derive(Clone, Copy)]
 pub struct Cells {
     pub native: Lba,
     pub accessible: Lba,
@@ -55,7 +57,7 @@ pub struct Cells {
 }
 
 // A store writes one cell whole; a health by its place. `Marked` is the marking store.
-#[derive(Drop)]
+#[derive(Clone, Copy)]
 pub enum Store {
     Nothing,
     NativeTo(Lba),
@@ -68,7 +70,7 @@ pub enum Store {
 }
 
 // What a call rules: its answer, its one store, the position after it.
-#[derive(Drop)]
+#[derive(Clone, Copy)]
 pub struct Ruling {
     pub answer: Answer,
     pub store: Store,
@@ -76,7 +78,7 @@ pub struct Ruling {
 }
 
 // What the search sees of an element: where it stopped, the part and the health there, and whether it is the one sought.
-#[derive(Drop)]
+#[derive(Clone, Copy)]
 pub struct Seen {
     pub part: Part,
     pub place: usize,

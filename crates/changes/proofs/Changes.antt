@@ -91,13 +91,13 @@ module _ (s t : List ℕ) (l : Line) (d : Descriptor) (is_d : d ≡ handed s t l
 
 module _ (d : Descriptor) (w : ℕ) (is_w : w ≡ length (descriptor_line d)) where
   pub width_fits : 2 + w < 2 ^ 64
-  width_fits = omega (arith, rows.length-line d)
+  width_fits = omega (arith, rows.length_line d)
 
   pub arrow_fits : 2 + w + 4 < 2 ^ 64
-  arrow_fits = omega (arith, rows.length-line d)
+  arrow_fits = omega (arith, rows.length_line d)
 
   pub both_fit : (old : Descriptor) (v : ℕ) → v ≡ length (values_of old) → 2 + w + 4 + v < 2 ^ 64
-  both_fit old v is_v = omega (arith, rows.length-line d, length_values old)
+  both_fit old v is_v = omega (arith, rows.length_line d, length_values old)
 
 -- ## What it says
 

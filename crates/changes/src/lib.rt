@@ -1,4 +1,6 @@
 // The line of a difference, stored straight into a lent buffer.
+#![tactic(auto)]
+
 ghost use Rattle.std.specs.Prelude.{[], ◌∷◌, ◌≡◌, length};
 ghost use Rattle.slices.specs.Lists.{fits, stored, ended};
 ghost use Rattle.writing.specs.Private as writing·private;
@@ -43,7 +45,7 @@ fn has_room<'a>(older: &'a [u8], newer: &'a [u8], line: Line, at: usize, room: u
 
 // The descriptor at a number, as a line hands it out.
 fn handed_at(page: &[u8], k: u32) -> Descriptor
-    ensures { result ≡ private.handedAt page.now k }
+    ensures { result ≡ private.handed_at page.now k }
 {
     Descriptor::read(parts::descriptor_part(page, k), Order::Little)
 }
@@ -88,7 +90,7 @@ fn put_signed(out: &mut [u8], at: usize, sign: u8, d: Descriptor) -> usize
 
 // The older values, after an arrow.
 fn put_older(older: &[u8], k: u32, out: &mut [u8], at: usize) -> usize
-    ensures { writing·private.Puts out.old at (private.olderText older.now k) out.new result }
+    ensures { writing·private.Puts out.old at (private.older_text older.now k) out.new result }
 {
     let a = writing::word(out, at, b" <- ");
     rows::put_values(out, a, handed_at(older, k))

@@ -1,4 +1,6 @@
 // Any command code, by value: the security state, the registers, and the length of the lent buffer.
+#![tactic(auto)]
+
 ghost use Rattle.std.specs.Prelude.{◌≡◌, not, ◌&&◌, ◌≤◌};
 ghost use Rattle.device.specs.Commands.{other_number, is_media, is_named, sectors_of, is_beyond, media_number};
 ghost use Rattle.device.specs.Machine as machine;
@@ -124,7 +126,7 @@ fn quiet_answer(
     lba: Lba,
     room: usize,
 ) -> Answer
-    ensures { number_of result ≡ machine.quietNumber d security (record { code = code; feature = feature; count = count; lba = lba }) room }
+    ensures { number_of result ≡ machine.quiet_number d security (record { code = code; feature = feature; count = count; lba = lba }) room }
 {
     if code == 0x12 {
         return request::judge(security, asked(feature, count, lba), room);

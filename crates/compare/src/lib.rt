@@ -1,4 +1,6 @@
 // Two status pages compared: by ascending identifier what is only in the older, only in the newer, or in both and changed.
+#![tactic(auto)]
+
 ghost use Rattle.std.specs.Prelude.{◌≡◌, true, ◌+◌, ◌-◌, ◌*◌, ◌^◌, ◌≤◌, ◌<◌, leb, length};
 ghost use Rattle.compare.specs.Differences.{alike};
 ghost use Rattle.compare.specs.Private as private;
@@ -12,14 +14,14 @@ use words::Order;
 
 // A place in each page: how many of its descriptors lie before.
 #[repr(C)]
-#[derive(Drop)]
+#[derive(Clone, Copy)]
 pub struct Cursor {
     pub older: u32,
     pub newer: u32,
 }
 
 // A difference: the number of the descriptor in the page that has it, or in both.
-#[derive(Drop)]
+#[derive(Clone, Copy)]
 pub enum Line {
     OnlyOlder(u32),
     OnlyNewer(u32),
@@ -27,21 +29,21 @@ pub enum Line {
 }
 
 // Where a walk ends: the place past the last descriptor of each page, and the last identifier that is compared.
-#[derive(Drop)]
+#[derive(Clone, Copy)]
 pub struct Frame {
     pub last: Cursor,
     pub end: ElementId,
 }
 
 // What the walk hits: a difference, and where it goes on.
-#[derive(Drop)]
+#[derive(Clone, Copy)]
 pub struct Hit {
     pub line: Line,
     pub next: Cursor,
 }
 
 // What is next from a cursor on.
-#[derive(Drop)]
+#[derive(Clone, Copy)]
 pub enum Step {
     Done,
     Found(Hit),
@@ -115,7 +117,7 @@ fn is_alike(d: Descriptor, e: Descriptor) -> bool
 
 // Whether both pages have a descriptor at the cursor. Then there is a place after it.
 fn is_inside(last: Cursor, at: Cursor) -> bool
-    ensures { (result ≡ private.isInside last at) × (result ≡ true → (at.older + 1 < 2 ^ 32) × (at.newer + 1 < 2 ^ 32)) }
+    ensures { (result ≡ private.is_inside last at) × (result ≡ true → (at.older + 1 < 2 ^ 32) × (at.newer + 1 < 2 ^ 32)) }
 {
     if last.older <= at.older {
         return false;
@@ -125,7 +127,7 @@ fn is_inside(last: Cursor, at: Cursor) -> bool
 
 // Whether two descriptors are one element, not above the end, and unchanged.
 fn do_agree(d: Descriptor, e: Descriptor, end: ElementId) -> bool
-    ensures { result ≡ private.agreeBy d e end }
+    ensures { result ≡ private.agree_by d e end }
 {
     let id = d.id;
     if id.0 != e.id.0 {
@@ -190,7 +192,7 @@ fn found_by(a: usize, b: usize, at: Cursor) -> Step
 // What stands at the cursor, where the older's key is a, the newer's b. After a key up to the end there is a place.
 fn step_by(a: usize, b: usize, end: ElementId, at: Cursor) -> Step
     requires { (a ≤ end.0 → at.older + 1 < 2 ^ 32) × (b ≤ end.0 → at.newer + 1 < 2 ^ 32) }
-    ensures { result ≡ private.stepBy a b end at }
+    ensures { result ≡ private.step_by a b end at }
 {
     if (end.0 as usize) < slices::smaller(a, b) {
         return Step::Done;
@@ -213,7 +215,7 @@ fn step_at(older: &[u8], newer: &[u8], frame: Frame, at: Cursor) -> Step
 // asked first, as `do_agree` asks it, so that the compiled code asks it once.
 fn step_of(d: Descriptor, e: Descriptor, end: ElementId, at: Cursor) -> Step
     requires { (at.older + 1 < 2 ^ 32) × (at.newer + 1 < 2 ^ 32) }
-    ensures { result ≡ private.stepBy d.id.0 e.id.0 end at }
+    ensures { result ≡ private.step_by d.id.0 e.id.0 end at }
 {
     let a = d.id;
     let b = e.id;

@@ -1,4 +1,6 @@
 // The text of a comparison: a line for each difference, and a last one if a page was cut short; or which page was refused.
+#![tactic(auto)]
+
 ghost use Rattle.std.specs.Prelude.{◌≡◌, ◌^◌, ◌<◌, leb, length};
 ghost use Rattle.compare.specs.Walk.{first, frame_of};
 ghost use Rattle.io.specs.Counts.{IsPrefixLen};
@@ -14,7 +16,7 @@ use paper::{Answer, Written};
 use reach::Opening;
 
 fn is_accepted(opening: Opening) -> bool
-    ensures { result ≡ private.isAccepted (heard opening).state }
+    ensures { result ≡ private.is_accepted (heard opening).state }
 {
     match opening {
         Opening::Accepted(_) => true,
@@ -59,7 +61,7 @@ fn measure<'a>(older: &'a [u8], newer: &'a [u8], accepted: bool) -> usize
 // Whether the whole text fits. Each fits 160,000 bytes, so that for these nothing is measured.
 fn has_room<'a>(older: &'a [u8], newer: &'a [u8], opening: Opening, room: usize) -> bool
     requires { heard opening ≡ judged older.now newer.now }
-    ensures { result ≡ leb (length (paper.comparisonOf older.now newer.now)) room }
+    ensures { result ≡ leb (length (paper.comparison_of older.now newer.now)) room }
 {
     if 160000 <= room {
         return true;
@@ -87,7 +89,7 @@ fn put_lines<'a>(older: &'a [u8], newer: &'a [u8], accepted: bool, out: &mut [u8
 
 // The whole text, or nothing where it does not fit.
 pub fn write<'a>(older: &'a [u8], newer: &'a [u8], out: &mut [u8]) -> Written
-    ensures out_after { said result.answer (output result.count out.new) ≡ written (paper.comparisonOf older.now newer.now) out.old }
+    ensures out_after { said result.answer (output result.count out.new) ≡ written (paper.comparison_of older.now newer.now) out.old }
     ensures prefix_len { IsPrefixLen result.count out.new }
 {
     let opening = reach::judge(older, newer);

@@ -1,4 +1,6 @@
 // What the bench says of the page or the SCSI data that it reads: what it holds, or where it is refused; stored straight into a lent buffer.
+#![tactic(auto)]
+
 mod dock;
 
 ghost use Rattle.std.specs.Prelude.{◌≡◌};

@@ -49,11 +49,11 @@ use Rattle.convert.proofs.Turned.{length_list}
 module _ (s : List ℕ) (q : Request) (j : page·declared.Judgement) (is_j : page·spec.heard j ≡ page·spec.read_of Little s q) where
   pub page_taken : (h : Header) → j ≡ page·judgement.Accepted h → (f : Offence) → f ≡ unless (eqb h.returned h.number) 4 → f ≡ scsi_offence s q
   page_taken h e f is_f =
-      let (clean, is_h) = page.heard-clean Little s q h (ap page·spec.heard (sym e) ∙ is_j) in
+      let (clean, is_h) = page.heard_clean Little s q h (ap page·spec.heard (sym e) ∙ is_j) in
       is_f ∙ ap (λ (x : Header). unless (eqb x.returned x.number) 4) is_h ∙ sym (rw clean)
 
   pub page_refused : (p : ℕ) → j ≡ page·judgement.Refused p → At p ≡ scsi_offence s q
-  page_refused p e = sym (rw (page.heard-at Little s q p (ap page·spec.heard (sym e) ∙ is_j)))
+  page_refused p e = sym (rw (page.heard_at Little s q p (ap page·spec.heard (sym e) ∙ is_j)))
 
 module _ (w n p : ℕ) where
   pub convertible_cut : (w ≡ n → ⊥) → false ≡ fits_pages w n p
@@ -65,11 +65,11 @@ module _ (w n p : ℕ) where
 module _ (s : List ℕ) (q : Query) (p : ℕ) (j : scsi·declared.Judgement) (is_j : scsi·spec.heard j ≡ scsi·spec.read_of Big s q) where
   pub data_taken : (r : Reading) → j ≡ scsi·judgement.Accepted r → (b : Bool) → b ≡ fits_pages r.whole r.header.number p → (f : Offence) → f ≡ unless b 4 → f ≡ ata_offence s q p
   data_taken r e b is_b f is_f =
-      let (clean, is_h, is_w) = scsi.heard-clean Big s q r.header r.whole r.torn (ap scsi·spec.heard (sym e) ∙ is_j) in
+      let (clean, is_h, is_w) = scsi.heard_clean Big s q r.header r.whole r.torn (ap scsi·spec.heard (sym e) ∙ is_j) in
       is_f ∙ ap (λ (x : Bool). unless x 4) (is_b ∙ (λ i. fits_pages (is_w i) (is_h i).number p)) ∙ sym (rw clean)
 
   pub data_refused : (r : ℕ) → j ≡ scsi·judgement.Refused r → At r ≡ ata_offence s q p
-  data_refused r e = sym (rw (scsi.heard-at Big s q r (ap scsi·spec.heard (sym e) ∙ is_j)))
+  data_refused r e = sym (rw (scsi.heard_at Big s q r (ap scsi·spec.heard (sym e) ∙ is_j)))
 
 -- ## What is answered
 

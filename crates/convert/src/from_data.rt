@@ -12,7 +12,7 @@ use words::Order;
 
 // Whether the list is there whole, and fits so many pages.
 fn is_convertible(r: Reading, pages: PageCount) -> bool
-    ensures { result ≡ paper.fitsPages r.whole r.header.number pages.0 }
+    ensures { result ≡ paper.fits_pages r.whole r.header.number pages.0 }
 {
     if r.whole != r.header.number {
         return false;
@@ -22,7 +22,7 @@ fn is_convertible(r: Reading, pages: PageCount) -> bool
 
 // The reader's offence, or that the list is cut or too long.
 fn offence_of(bytes: &[u8], query: Query, pages: PageCount) -> Offence
-    ensures { result ≡ paper.ataOffence bytes.now query pages.0 }
+    ensures { result ≡ paper.ata_offence bytes.now query pages.0 }
 {
     match scsi::read(bytes, query) {
         Judgement::Accepted(r) => unless(is_convertible(r, pages)),
@@ -32,7 +32,7 @@ fn offence_of(bytes: &[u8], query: Query, pages: PageCount) -> Offence
 
 // The data that answers a request, as so many pages.
 pub fn to_ata(bytes: &[u8], query: Query, pages: PageCount, buf: &mut [u8]) -> Converted
-    ensures { paper.heard result buf.new ≡ paper.toAta bytes.now query pages.0 buf.old }
+    ensures { paper.heard result buf.new ≡ paper.to_ata bytes.now query pages.0 buf.old }
 {
     let found = offence_of(bytes, query, pages);
     if let Offence::At(place) = found {

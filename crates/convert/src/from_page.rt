@@ -11,7 +11,7 @@ use words::Order;
 
 // The reader's offence, or that the list is cut.
 fn offence_of(page: &[u8], request: Request) -> Offence
-    ensures { result ≡ paper.scsiOffence page.now request }
+    ensures { result ≡ paper.scsi_offence page.now request }
 {
     match reader::read(page, request) {
         Judgement::Accepted(h) => unless(h.returned == h.number),
@@ -21,7 +21,7 @@ fn offence_of(page: &[u8], request: Request) -> Offence
 
 // The page that answers a request.
 pub fn to_scsi(page: &[u8], request: Request, buf: &mut [u8]) -> Converted
-    ensures { paper.heard result buf.new ≡ paper.toScsi page.now request buf.old }
+    ensures { paper.heard result buf.new ≡ paper.to_scsi page.now request buf.old }
 {
     let found = offence_of(page, request);
     if let Offence::At(place) = found {

@@ -1,4 +1,6 @@
 // An ATA page as SCSI data, and back, between lent buffers: the same elements and header numbers in the other byte order.
+#![tactic(auto)]
+
 mod from_data;
 mod from_page;
 
@@ -17,7 +19,7 @@ use strokes::Row;
 use words::Order;
 
 // How many bytes were written; that the buffer is too short; or the place of the first offence.
-#[derive(Drop)]
+#[derive(Clone, Copy)]
 pub enum Converted {
     Done(usize),
     SmallBuffer,

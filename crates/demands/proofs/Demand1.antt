@@ -15,7 +15,7 @@ demand_1 =
       command = refusal_leaves_both;
       showing = refusal_leaves_bytes;
       sending = unsent_leaves_bytes;
-      converting = convert.refusal-leaves-bytes;
+      converting = convert.refusal_leaves_bytes;
       making = refused_list_leaves;
       printing = refusal_writes_nothing;
     }

@@ -15,7 +15,7 @@ pub record Demand1 : Type 0 where
   pub showing : RefusalLeavesBytes
   -- the data for a SCSI host, and the conversions
   pub sending : UnsentLeavesBytes
-  pub converting : convert.Refusal-leaves-bytes
+  pub converting : convert.RefusalLeavesBytes
   pub making : RefusedListLeaves
   -- the listing and the comparison, and any other text in a lent buffer
   pub printing : RefusalWritesNothing

@@ -26,9 +26,9 @@ pub record RefusedByAll (q : Request) : Type 0 where
   -- "the reader treats such a request as refused", whatever the page holds, and so does each call that goes by the reader
   pub read : (o : Order) (s : List ℕ) → reader.read_of o s q ≡ tells 9 (reader.place 0)
   pub next : (s : List ℕ) → walk.next_of s q ≡ tells 9 (walk.place 0)
-  pub convert : (s buf : List ℕ) → convert.toScsi s q buf ≡ tells 9 (convert.place 0 buf)
+  pub convert : (s buf : List ℕ) → convert.to_scsi s q buf ≡ tells 9 (convert.place 0 buf)
   -- "9 with the page's turn, older first"
-  pub compare : (s t : List ℕ) → reach.openOf s t q ≡ tells 9 (reach.turn Older)
+  pub compare : (s t : List ℕ) → reach.open_of s t q ≡ tells 9 (reach.turn Older)
 
 -- one definition serves them all: "A request that would get 4 gets 9"
 abbrev pub FourRefused : Type 0

@@ -1,5 +1,7 @@
 // The device by value: the table as built, the cells, the position. Each call rules on an answer, one store and the next position; carrying the
 // ruling out changes cells and position alone, and nothing else changes a device.
+#![tactic(auto)]
+
 ghost use Rattle.std.specs.Prelude.{◌≡◌};
 ghost use Rattle.cells.specs.Rulings.{ruled};
 ghost use Rattle.paper.specs.Answers.{number_of};
@@ -13,7 +15,7 @@ use cells::{Cells, Position, Ruling, quiet};
 use paper::{Answer, ElementId, Lba, Security};
 use table::Table;
 
-#[derive(Drop)]
+#[derive(Clone, Copy)]
 pub struct Device {
     pub table: Table,
     pub cells: Cells,
@@ -21,7 +23,7 @@ pub struct Device {
 }
 
 // What a call hands back.
-#[derive(Drop)]
+#[derive(Clone, Copy)]
 pub struct Stepped {
     pub device: Device,
     pub answer: Answer,
@@ -65,7 +67,7 @@ impl Device {
         lba: Lba,
         other: Answer,
     ) -> Ruling
-        ensures { ruled result ≡ machine.ruleCommand self security (record { code = code; feature = feature; count = count; lba = lba }) (number_of other) }
+        ensures { ruled result ≡ machine.rule_command self security (record { code = code; feature = feature; count = count; lba = lba }) (number_of other) }
     {
         let at = self.position;
         if code == 0x7C {
@@ -86,7 +88,7 @@ impl Device {
         lba: Lba,
         other: Answer,
     ) -> Stepped
-        ensures { said result.answer result.device ≡ tell self (machine.ruleCommand self security (record { code = code; feature = feature; count = count; lba = lba }) (number_of other)) }
+        ensures { said result.answer result.device ≡ tell self (machine.rule_command self security (record { code = code; feature = feature; count = count; lba = lba }) (number_of other)) }
     {
         let r = self.rule_command(security, code, feature, count, lba, other);
         self.carry_out(r)
@@ -115,13 +117,13 @@ impl Device {
     }
 
     pub fn media_error(self) -> Stepped
-        ensures { said result.answer result.device ≡ told self machine.mediaError }
+        ensures { said result.answer result.device ≡ told self machine.media_error }
     {
         self.stop(Answer::NoRemoval)
     }
 
     pub fn power_cut(self) -> Stepped
-        ensures { said result.answer result.device ≡ told self machine.powerCut }
+        ensures { said result.answer result.device ≡ told self machine.power_cut }
     {
         self.stop(Answer::Done)
     }
@@ -142,13 +144,13 @@ impl Device {
     }
 
     pub fn hardware_reset(self) -> Stepped
-        ensures { said result.answer result.device ≡ told self machine.hardwareReset }
+        ensures { said result.answer result.device ≡ told self machine.hardware_reset }
     {
         self.stay()
     }
 
     pub fn software_reset(self) -> Stepped
-        ensures { said result.answer result.device ≡ told self machine.softwareReset }
+        ensures { said result.answer result.device ≡ told self machine.software_reset }
     {
         self.stay()
     }

@@ -1,5 +1,7 @@
 // Compares the status pages in the files that the arguments name two by two, the older first; of several pairs, each after a line with its
 // names. If a file cannot be read, it says so on standard error and compares nothing.
+#![tactic(auto)]
+
 use libc::STDOUT_FILENO;
 
 // A byte more than may be compared, so that a longer file is seen.

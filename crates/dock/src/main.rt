@@ -1,5 +1,7 @@
 // Lists SCSI data: that of each file that an argument names, after a line with its name, or without arguments that on standard input. If
 // reading fails, it says so on standard error and lists nothing.
+#![tactic(auto)]
+
 use libc::{STDIN_FILENO, STDOUT_FILENO};
 
 // A byte more than may be listed, so that a longer input is seen.

@@ -34,11 +34,11 @@ module _ (d : Device) (call : DockCall) (source buf x : List ℕ) where
   unfolding told_over
   sent-told s w e so = ap (λ (t : Told Output). tells t.number (put t.state)) so ∙ sym (rw e)
 
-  pub scsi_told : (q : Request) (c : Converted) → call ≡ calls.ToScsi q → convert.heard c x ≡ convert.toScsi source q buf → heard_over (ToScsi c) x ≡ told_over d call source buf
+  pub scsi_told : (q : Request) (c : Converted) → call ≡ calls.ToScsi q → convert.heard c x ≡ convert.to_scsi source q buf → heard_over (ToScsi c) x ≡ told_over d call source buf
   unfolding told_over
   scsi_told q c e so = so ∙ sym (rw e)
 
-  pub ata_told : (t : Asked) (c : Converted) → call ≡ calls.ToAta t → convert.heard c x ≡ convert.toAta source t.query t.pages.0 buf
+  pub ata_told : (t : Asked) (c : Converted) → call ≡ calls.ToAta t → convert.heard c x ≡ convert.to_ata source t.query t.pages.0 buf
       → heard_over (ToAta c) x ≡ told_over d call source buf
   unfolding told_over
   ata_told t c e so = so ∙ sym (rw e)

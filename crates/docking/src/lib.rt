@@ -1,4 +1,6 @@
 // The bench's calls for a SCSI host, over a lent buffer that is filled with A5h before.
+#![tactic(auto)]
+
 ghost use Rattle.std.specs.Prelude.{◌≡◌, [], length};
 ghost use Rattle.convert.specs.Convert.{heard};
 ghost use Rattle.docking.specs.Dock as paper;
@@ -9,7 +11,7 @@ use device::Device;
 use paper::Written;
 
 // What a call says, by its kind.
-#[derive(Drop)]
+#[derive(Clone, Copy)]
 pub enum Said {
     Sent(Written),
     ToScsi(Converted),
@@ -17,7 +19,7 @@ pub enum Said {
 }
 
 // It, and how many bytes were lent.
-#[derive(Drop)]
+#[derive(Clone, Copy)]
 pub struct Docked {
     pub said: Said,
     pub room: usize,
@@ -36,7 +38,7 @@ fn number_of(c: Converted) -> u8
 }
 
 fn count_of(c: Converted) -> usize
-    ensures { result ≡ paper.countIn (heard c []).state }
+    ensures { result ≡ paper.count_in (heard c []).state }
 {
     match c {
         Converted::Done(n) => n,
@@ -48,7 +50,7 @@ fn count_of(c: Converted) -> usize
 impl Said {
     // The number in document 01's table.
     pub fn number(self) -> u8
-        ensures { result ≡ paper.numberSaid self }
+        ensures { result ≡ paper.number_said self }
     {
         match self {
             Said::Sent(w) => {
@@ -62,7 +64,7 @@ impl Said {
 
     // How many bytes were written.
     pub fn count(self) -> usize
-        ensures { result ≡ paper.countSaid self }
+        ensures { result ≡ paper.count_said self }
     {
         match self {
             Said::Sent(w) => w.count,
@@ -75,7 +77,7 @@ impl Said {
 // ---- The calls
 
 fn answer(d: Device, call: DockCall, source: &[u8], lent: &mut [u8]) -> Said
-    ensures { (paper.kindSaid result ≡ paper.kind_of call) × (paper.heardOver result lent.new ≡ paper.toldOver d call source.now lent.old) }
+    ensures { (paper.kind_said result ≡ paper.kind_of call) × (paper.heard_over result lent.new ≡ paper.told_over d call source.now lent.old) }
 {
     match call {
         DockCall::Send(s) => {
@@ -93,7 +95,7 @@ fn answer(d: Device, call: DockCall, source: &[u8], lent: &mut [u8]) -> Said
 
 // Over a buffer that is lent whole.
 fn answer_over(d: Device, call: DockCall, source: &[u8], lent: &mut [u8]) -> Said
-    ensures { (paper.kindSaid result ≡ paper.kind_of call) × (paper.heardOver result lent.new ≡ paper.toldOver d call source.now (paper.filled (length lent.old))) }
+    ensures { (paper.kind_said result ≡ paper.kind_of call) × (paper.heard_over result lent.new ≡ paper.told_over d call source.now (paper.filled (length lent.old))) }
 {
     front::fill(lent);
     answer(d, call, source, lent)
@@ -101,7 +103,7 @@ fn answer_over(d: Device, call: DockCall, source: &[u8], lent: &mut [u8]) -> Sai
 
 // Over as many bytes as the line says, and as there are; `source` is the kept page.
 pub fn call(d: Device, c: Dock, source: &[u8], lent: &mut [u8]) -> Docked
-    ensures { (paper.heard result ≡ paper.answeredBy d c source.now lent.old) × (lent.new ≡ paper.lent_by d c source.now lent.old) }
+    ensures { (paper.heard result ≡ paper.answered_by d c source.now lent.old) × (lent.new ≡ paper.lent_by d c source.now lent.old) }
 {
     let room = slices::smaller(c.length, lent.len());
     let call = c.call;

@@ -1,5 +1,7 @@
 // The listing of SCSI data: a line for the header, one for each descriptor that is there whole, and what is missing; or the place of the first
 // offence.
+#![tactic(auto)]
+
 ghost use Rattle.std.specs.Prelude.{◌≡◌};
 ghost use Rattle.io.specs.Counts.{IsPrefixLen};
 ghost use Rattle.paper.specs.Output.{output};

@@ -1,5 +1,7 @@
 // A lent buffer as the bench shows it, stored straight into another: a page or data in rows of hexadecimal digits, and the first byte that was
 // touched.
+#![tactic(auto)]
+
 ghost use Rattle.std.specs.Prelude.{◌≡◌, ◌*◌, ◌≤◌, ◌<◌, length, take, drop};
 ghost use Rattle.slices.specs.Lists.{stored, ended};
 ghost use Rattle.text.specs.Digits.{glyph, digits};
@@ -113,7 +115,7 @@ pub fn put_page(out: &mut [u8], at: usize, page: &[u8]) -> usize
 // The last row, if it has a byte: the front of a whole row's line.
 fn put_last(out: &mut [u8], at: usize, bytes: &[u8]) -> usize
     requires { length bytes.now < 32 }
-    ensures { writing·private.Puts out.old at (private.lastLine bytes.now) out.new result }
+    ensures { writing·private.Puts out.old at (private.last_line bytes.now) out.new result }
 {
     if bytes.len() == 0 {
         return at;

@@ -1,4 +1,6 @@
 // The line that a comparison ends with, stored straight into a lent buffer: how far two pages were compared, or which of them was refused.
+#![tactic(auto)]
+
 ghost use Rattle.std.specs.Prelude.{◌≡◌, length};
 ghost use Rattle.reach.specs.Opening.{heard};
 ghost use Rattle.slices.specs.Lists.{stored, ended};

@@ -1,4 +1,6 @@
 // The lines of a list's descriptors, in either byte order, stored straight into a lent buffer.
+#![tactic(auto)]
+
 ghost use Rattle.std.specs.Prelude.{◌≡◌, length};
 ghost use Rattle.slices.specs.Lists.{fits, stored, ended};
 ghost use Rattle.writing.specs.Private as writing·private;

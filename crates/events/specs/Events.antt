@@ -18,11 +18,11 @@ event_of c room = machine.command c.security (registers_of c) room
 -- "`step`, `error`, `cut`, `comreset`, `hardreset`, `softreset`"
 abbrev pub bare_event : Bare → Event
 bare_event bares.Step = machine.step
-bare_event bares.Error = machine.mediaError
-bare_event bares.Cut = machine.powerCut
+bare_event bares.Error = machine.media_error
+bare_event bares.Cut = machine.power_cut
 bare_event bares.Comreset = machine.comreset
-bare_event bares.Hardreset = machine.hardwareReset
-bare_event bares.Softreset = machine.softwareReset
+bare_event bares.Hardreset = machine.hardware_reset
+bare_event bares.Softreset = machine.software_reset
 
 -- "`grade ID HEALTH`"
 abbrev pub grade_event : Grade → Event

@@ -1,4 +1,6 @@
 // The bench's calls on a device by value: what a line says is one event of the device.
+#![tactic(auto)]
+
 ghost use Rattle.std.specs.Prelude.{◌≡◌};
 ghost use Rattle.device.specs.Machine.{told};
 ghost use Rattle.paper.specs.Told.{said};

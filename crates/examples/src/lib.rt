@@ -1,1 +1,2 @@
 // Examples of the definitions, computed in proofs/. There is no function here.
+#![tactic(auto)]

@@ -117,7 +117,7 @@ module _ (s : List ℕ) (q : Request) (r : Query) (n : ℕ) (is_n : (header_in L
   data_fits = subst (λ (t : List ℕ). FitsIn Big t n) data_laid (fits_kept Little Big s n fits [])
 
   data_clean : data_offence Big data_of r ≡ Clean
-  data_clean = (scsi·theorem.heard-clean Big data_of r _ _ _ (sym as_data.taken)).0
+  data_clean = (scsi·theorem.heard_clean Big data_of r _ _ _ (sym as_data.taken)).0
 
 pub page_to_data : PageToData
 page_to_data s q r bytes alike clean = as_data s q r (header_in Little s).number refl (bytes_fit Little s (header_in Little s).number bytes) alike clean
@@ -203,11 +203,11 @@ module _ (s : List ℕ) (r : Query) (p n : ℕ) (is_n : (header_in Big s).number
 
   own_page : PageHolds page_of_lem (asked_for p r) (header_in Big s) (scsi.slot_of Big s)
   own_page =
-      as_page (asked_for p r) refl (page·theorem.asked-to (asked_for p r) (not-refused p r data_was.fields.0 data_was.fields.1 (omega (arith, few))))
+      as_page (asked_for p r) refl (page·theorem.asked_to (asked_for p r) (not-refused p r data_was.fields.0 data_was.fields.1 (omega (arith, few))))
       (λ k l. listed_as (asked r) (asked_for p r) refl refl (omega arith) _ _ (data_was.list k (rw (is_n, data_whole) l)))
 
   page_clean : page_offence Little page_of_lem (asked_for p r) ≡ Clean
-  page_clean = (page·theorem.heard-clean Little page_of_lem (asked_for p r) _ (sym own_page.taken)).0
+  page_clean = (page·theorem.heard_clean Little page_of_lem (asked_for p r) _ (sym own_page.taken)).0
 
 pub data_to_page : DataToPage
 data_to_page s r p bytes clean = own_page s r p (header_in Big s).number refl (bytes_fit Big s (header_in Big s).number bytes) clean

@@ -1,1 +1,2 @@
 // Pages and SCSI data turned into each other: what holds of it; no function.
+#![tactic(auto)]

@@ -1,4 +1,6 @@
 // The bench's front call, over a lent buffer that is filled with A5h before.
+#![tactic(auto)]
+
 ghost use Rattle.std.specs.Prelude.{◌≡◌, length, replicate};
 ghost use Rattle.paper.specs.Answers.{number_of};
 ghost use Rattle.front.specs.Front.{lent_of, written_by, left, after, lent_after, left_after};
@@ -8,7 +10,7 @@ use device::Device;
 use paper::Answer;
 
 // What the call leaves: the device, the answer, how many bytes were lent, and how many of these it wrote.
-#[derive(Drop)]
+#[derive(Clone, Copy)]
 pub struct Left {
     pub device: Device,
     pub answer: Answer,

@@ -1,4 +1,6 @@
 // The line that a listing begins with, the header's or a refusal's, stored straight into a lent buffer.
+#![tactic(auto)]
+
 ghost use Rattle.std.specs.Prelude.{◌≡◌, length};
 ghost use Rattle.rows.specs.Rows.{header_line, refused_line};
 ghost use Rattle.slices.specs.Lists.{stored, ended};
@@ -17,7 +19,7 @@ pub fn header_width(h: Header) -> usize
 }
 
 fn put_busy(out: &mut [u8], at: usize, h: Header) -> usize
-    ensures { writing·private.Puts out.old at (private.busyOf h) out.new result }
+    ensures { writing·private.Puts out.old at (private.busy_of h) out.new result }
 {
     let id = writing::hex8(h.busy.0);
     let a = writing::word(out, at, b" busy ");
@@ -26,7 +28,7 @@ fn put_busy(out: &mut [u8], at: usize, h: Header) -> usize
 
 // The header's line up to the busy identifier.
 fn put_counts(out: &mut [u8], at: usize, h: Header) -> usize
-    ensures { writing·private.Puts out.old at (private.countsOf h) out.new result }
+    ensures { writing·private.Puts out.old at (private.counts_of h) out.new result }
 {
     let a = writing::field(out, at, b"number ", h.number as u64);
     let b = writing::field(out, a, b" returned ", h.returned as u64);
@@ -35,7 +37,7 @@ fn put_counts(out: &mut [u8], at: usize, h: Header) -> usize
 
 // The rest of it.
 fn put_limits(out: &mut [u8], at: usize, h: Header) -> usize
-    ensures { writing·private.Puts out.old at (private.limitsOf h) out.new result }
+    ensures { writing·private.Puts out.old at (private.limits_of h) out.new result }
 {
     let a = writing::field(out, at, b" limit ", h.limit as u64);
     writing::numbered(out, a, b" removed ", h.removed as u64)

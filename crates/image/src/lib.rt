@@ -1,5 +1,7 @@
 // The device as C keeps it: numbers alone, and a field for every byte, so that any bytes are a device. A call reads the device, makes the call by
 // value, and puts down in the image what that may have changed.
+#![tactic(auto)]
+
 ghost use Rattle.std.specs.Prelude.{◌≡◌};
 ghost use Rattle.device.specs.Machine as machine;
 ghost use Rattle.paper.specs.Output.{output};
@@ -22,7 +24,7 @@ use table::{Part, Table};
 
 // The table as built is `parts`, `count` and `limit`; `element`, `old` and `new` are the note's while it is full.
 #[repr(C)]
-#[derive(Drop)]
+#[derive(Clone, Copy)]
 pub struct Image {
     pub parts: [Part; 128],
     pub native: Lba,
@@ -39,7 +41,7 @@ pub struct Image {
 }
 
 // What a call hands back: the image after it, and its number in document 01's table.
-#[derive(Drop)]
+#[derive(Clone, Copy)]
 pub struct Imaged {
     pub image: Image,
     pub answer: u8,
@@ -210,7 +212,7 @@ impl Image {
     }
 
     fn with_addresses(mut self, native: Lba, accessible: Lba) -> Image
-        ensures { result ≡ private.withAddresses native accessible self }
+        ensures { result ≡ private.with_addresses native accessible self }
     {
         self.native = native;
         self.accessible = accessible;
@@ -218,21 +220,21 @@ impl Image {
     }
 
     fn with_healths(mut self, healths: [u8; 128]) -> Image
-        ensures { result ≡ private.withHealths healths self }
+        ensures { result ≡ private.with_healths healths self }
     {
         self.healths = healths;
         self
     }
 
     fn with_mark(mut self, mark: Mark) -> Image
-        ensures { result ≡ private.withMark mark self }
+        ensures { result ≡ private.with_mark mark self }
     {
         self.failed = flag_for(self.failed, mark.is_set());
         self
     }
 
     fn with_note(mut self, note: Note) -> Image
-        ensures { result ≡ private.withNote note self }
+        ensures { result ≡ private.with_note note self }
     {
         self.element = element_for(self.element, note);
         self.old = old_for(self.old, note);
@@ -242,7 +244,7 @@ impl Image {
     }
 
     fn at_position(mut self, at: Position) -> Image
-        ensures { result ≡ private.atPosition at self }
+        ensures { result ≡ private.at_position at self }
     {
         self.position = place_for(self.position, at);
         self
@@ -310,7 +312,7 @@ impl Image {
 
     // An error or a cut sets the position alone.
     pub fn media_error(self) -> Imaged
-        ensures { tells result.answer result.image ≡ told_of self machine.mediaError }
+        ensures { tells result.answer result.image ≡ told_of self machine.media_error }
     {
         let d = self.device();
         let s = d.media_error();
@@ -323,7 +325,7 @@ impl Image {
     }
 
     pub fn power_cut(self) -> Imaged
-        ensures { tells result.answer result.image ≡ told_of self machine.powerCut }
+        ensures { tells result.answer result.image ≡ told_of self machine.power_cut }
     {
         let d = self.device();
         let s = d.power_cut();
@@ -350,7 +352,7 @@ impl Image {
     }
 
     pub fn hardware_reset(self) -> Imaged
-        ensures { tells result.answer result.image ≡ told_of self machine.hardwareReset }
+        ensures { tells result.answer result.image ≡ told_of self machine.hardware_reset }
     {
         let d = self.device();
         let s = d.hardware_reset();
@@ -363,7 +365,7 @@ impl Image {
     }
 
     pub fn software_reset(self) -> Imaged
-        ensures { tells result.answer result.image ≡ told_of self machine.softwareReset }
+        ensures { tells result.answer result.image ≡ told_of self machine.software_reset }
     {
         let d = self.device();
         let s = d.software_reset();

@@ -1,4 +1,6 @@
 // What the bench says of a device: a line of its cells and one for each element, stored straight into a lent buffer.
+#![tactic(auto)]
+
 ghost use Rattle.std.specs.Prelude.{◌≡◌, min};
 ghost use Rattle.writing.specs.Private as writing·private;
 ghost use Rattle.writing.specs.Writing.{stored_in, ended_in};
@@ -47,7 +49,7 @@ fn step_name(p: Position) -> [u8; 5]
 }
 
 fn put_limits(out: &mut [u8], at: usize, limit: u16, native: Lba, accessible: Lba) -> usize
-    ensures { writing·private.Puts out.old at (private.limitsOf limit native accessible) out.new result }
+    ensures { writing·private.Puts out.old at (private.limits_of limit native accessible) out.new result }
 {
     let a = writing::field(out, at, b"limit ", limit as u64);
     let b = writing::field(out, a, b" native ", native.0);
@@ -55,7 +57,7 @@ fn put_limits(out: &mut [u8], at: usize, limit: u16, native: Lba, accessible: Lb
 }
 
 fn put_failed(out: &mut [u8], at: usize, mark: Mark) -> usize
-    ensures { writing·private.Puts out.old at (private.failedOf mark) out.new result }
+    ensures { writing·private.Puts out.old at (private.failed_of mark) out.new result }
 {
     let failed = slices::bit(mark.is_set());
     writing::field(out, at, b" failed ", failed as u64)
@@ -70,7 +72,7 @@ fn put_numbers(
     accessible: Lba,
     mark: Mark,
 ) -> usize
-    ensures { writing·private.Puts out.old at (private.numbersOf limit native accessible mark) out.new result }
+    ensures { writing·private.Puts out.old at (private.numbers_of limit native accessible mark) out.new result }
 {
     let a = put_limits(out, at, limit, native, accessible);
     put_failed(out, a, mark)

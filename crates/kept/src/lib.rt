@@ -1,4 +1,6 @@
 // The page that the bench keeps: the calls on it, and the page that an answer wrote.
+#![tactic(auto)]
+
 ghost use Rattle.std.specs.Prelude.{◌≡◌, min, length};
 ghost use Rattle.slices.specs.Lists.{stored};
 ghost use Rattle.kept.specs.Kept.{lengthened, poked, kept_after, page_after, replaced, kept_with, kept_data, page_data};

@@ -1,4 +1,6 @@
 // What device and reader share of a status page: the header and the descriptor, in either byte order.
+#![tactic(auto)]
+
 ghost use Rattle.std.specs.Prelude.{◌≡◌, ◌≤◌, length, drop};
 ghost use Rattle.strokes.specs.Rows.{row_bytes};
 ghost use Rattle.layout.specs.Bytes.{header_bytes, header_in, descriptor_bytes, descriptor_in};
@@ -9,7 +11,7 @@ use words::Order;
 
 // The numbers of a page's first 32 bytes.
 #[repr(C)]
-#[derive(Drop)]
+#[derive(Clone, Copy)]
 pub struct Header {
     pub number: u32,
     pub returned: u32,
@@ -20,7 +22,7 @@ pub struct Header {
 
 // An element as a page shows it; `kind` is document 01's type, a word that the language keeps.
 #[repr(C)]
-#[derive(Drop)]
+#[derive(Clone, Copy)]
 pub struct Descriptor {
     pub id: ElementId,
     pub restorable: bool,

@@ -69,8 +69,8 @@ same_long (x ∷ a) (y ∷ b) h = by_test (eqb x y) (same_long a b (λ e. h (ap 
     by_test false e = refl
 
 module _ (a b : List ℕ) where
-  pub same-not_long : (length a ≡ length b → ⊥) → false ≡ same a b
-  same-not_long = same_long a b
+  pub same_not_long : (length a ≡ length b → ⊥) → false ≡ same a b
+  same_not_long = same_long a b
 
   module _ (i : ℕ) (so : same (drop i a) (drop i b) ≡ same a b) (long : length a ≡ length b) where
     pub same_next : i < length a → get_or a i 0 ≡ get_or b i 0 → same (drop (i + 1) a) (drop (i + 1) b) ≡ same a b

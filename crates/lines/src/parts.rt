@@ -4,7 +4,7 @@ ghost use Rattle.lines.specs.Parts.{drop_while, from_word, word_at, same, named,
 ghost use Rattle.lines.specs.Private as private;
 
 fn is_spaced(b: u8, space: bool) -> bool
-    ensures { result ≡ private.spaceOr space b }
+    ensures { result ≡ private.space_or space b }
 {
     if space { b == 32 } else { b != 32 }
 }
@@ -12,7 +12,7 @@ fn is_spaced(b: u8, space: bool) -> bool
 // The first place from `from` on whose byte is no space; with `space` false, whose byte is one.
 fn skip(line: &[u8], from: usize, space: bool) -> usize
     requires { from ≤ length line.now }
-    ensures { (drop result line.now ≡ drop_while (private.spaceOr space) (drop from line.now)) × (from ≤ result) × (result ≤ length line.now) }
+    ensures { (drop result line.now ≡ drop_while (private.space_or space) (drop from line.now)) × (from ≤ result) × (result ≤ length line.now) }
 {
     let mut at = from;
     while at < line.len() {

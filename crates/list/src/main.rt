@@ -1,4 +1,6 @@
 // Lists the status page on standard input. If reading fails, it says so on standard error and lists nothing.
+#![tactic(auto)]
+
 use libc::{STDIN_FILENO, STDOUT_FILENO};
 
 // A byte more than may be listed, so that a longer input is seen.

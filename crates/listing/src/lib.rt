@@ -1,4 +1,6 @@
 // The listing of a status page: a line for the header and one for each descriptor, or the place of the first offence.
+#![tactic(auto)]
+
 ghost use Rattle.std.specs.Prelude.{◌≡◌};
 ghost use Rattle.io.specs.Counts.{IsPrefixLen};
 ghost use Rattle.paper.specs.Output.{output};

@@ -1,4 +1,6 @@
 // The making of a device from an offered table.
+#![tactic(auto)]
+
 ghost use Rattle.std.specs.Prelude.{◌≡◌};
 ghost use Rattle.paper.specs.Told.{said};
 ghost use Rattle.making.specs.Making.{made_of};

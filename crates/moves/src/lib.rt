@@ -1,4 +1,6 @@
 // What the bench says of a walk: how it goes on after the kept page; stored straight into a lent buffer.
+#![tactic(auto)]
+
 ghost use Rattle.std.specs.Prelude.{◌≡◌};
 ghost use Rattle.slices.specs.Lists.{stored, ended};
 ghost use Rattle.walk.specs.Next.{heard};

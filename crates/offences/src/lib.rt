@@ -1,4 +1,6 @@
 // The descriptors of a status page, in either byte order: the one at a number, and the first offence of a list, in document 01's order.
+#![tactic(auto)]
+
 ghost use Rattle.std.specs.Prelude.{◌≡◌, true, ℕ, ◌+◌, ◌^◌, ◌≤◌, ◌<◌, length, drop};
 ghost use Rattle.layout.specs.Bytes.{descriptor_in};
 ghost use Rattle.offences.specs.Checks.{descriptor_at, in_turn, earned, check_of, offence_at};
@@ -12,14 +14,14 @@ use request::Request;
 use words::Order;
 
 // What a check finds: nothing, or the place of an offence.
-#[derive(Drop)]
+#[derive(Clone, Copy)]
 pub enum Offence {
     Clean,
     At(usize),
 }
 
 // Where a list is taken up: a descriptor's place, and the identifier before it, 0 being none.
-#[derive(Drop)]
+#[derive(Clone, Copy)]
 struct Place {
     at: usize,
     last: ElementId,

@@ -1,4 +1,6 @@
 // An offered table: its check, its search, and how it is split into the table as built and the starting healths.
+#![tactic(auto)]
+
 ghost use Rattle.std.specs.Prelude.{◌≡◌, ◌-◌, ◌≤◌, ◌^◌, ◌++◌, map, take, replicate};
 ghost use Rattle.table.specs.Elements.{blank_part};
 ghost use Rattle.offer.specs.Check.{sized, shaped, healthy, check_of, verdict};
@@ -13,7 +15,7 @@ use table::{Part, Table};
 // An element as document 01 has it in an offered table; `kind` is its type, a word that the language keeps. As a part, it has a field for each
 // of its 16 bytes.
 #[repr(C)]
-#[derive(Drop)]
+#[derive(Clone, Copy)]
 pub struct Element {
     pub id: ElementId,
     pub kind: u8,
@@ -24,7 +26,7 @@ pub struct Element {
 }
 
 // An offered table.
-#[derive(Drop)]
+#[derive(Clone, Copy)]
 pub struct Offer {
     pub elements: [Element; 128],
     pub count: usize,
@@ -32,13 +34,13 @@ pub struct Offer {
 }
 
 // What the check says: 8, or 0 with the blocks of all elements.
-#[derive(Drop)]
+#[derive(Clone, Copy)]
 pub enum Checked {
     Refused,
     Blocks(u64),
 }
 
-#[derive(Drop)]
+#[derive(Clone, Copy)]
 pub enum Found {
     Missing,
     One(Element),
@@ -47,7 +49,7 @@ pub enum Found {
 // ---- An element, and the part of it that is built
 
 pub fn element_of(id: ElementId, kind: u8, health: u8, unreported: bool, blocks: u64) -> Element
-    ensures { result ≡ elements.elementOf id kind health unreported blocks }
+    ensures { result ≡ elements.element_of id kind health unreported blocks }
 {
     Element {
         id,
@@ -113,7 +115,7 @@ fn is_healthy(e: Element) -> bool
 // Whether an element may follow: above the last identifier, shaped, healthy, and with the blocks so far at most 2^48.
 fn may_follow(e: Element, last: u32, total: u64) -> bool
     requires { total ≤ 2 ^ 48 }
-    ensures { result ≡ private.mayFollow last total e }
+    ensures { result ≡ private.may_follow last total e }
 {
     if e.id.0 <= last {
         return false;
@@ -130,7 +132,7 @@ fn may_follow(e: Element, last: u32, total: u64) -> bool
 // The first n elements, checked one after the other.
 fn walk(es: [Element; 128], n: usize) -> Checked
     requires { n ≤ 128 }
-    ensures { result ≡ private.walkFrom 0 0 (take n es) }
+    ensures { result ≡ private.walk_from 0 0 (take n es) }
 {
     let mut i: usize = 0;
     let mut last: u32 = 0;
@@ -197,7 +199,7 @@ fn parts_of(es: [Element; 128], count: usize) -> [Part; 128]
 
 // The healths of the first `count`, then zeros.
 fn healths_of(es: [Element; 128], count: usize) -> [u8; 128]
-    ensures { result ≡ map elements.healthOf (take count es) ++ replicate (128 - count) 0 }
+    ensures { result ≡ map elements.health_of (take count es) ++ replicate (128 - count) 0 }
 {
     let n = table::bounded(count);
     let mut hs: [u8; 128] = [0; 128];
@@ -246,7 +248,7 @@ impl Offer {
 
     // The healths that its cells start with.
     pub fn healths(self) -> [u8; 128]
-        ensures { result ≡ elements.healthsOf self }
+        ensures { result ≡ elements.healths_of self }
     {
         let es = self.elements;
         healths_of(es, self.count)

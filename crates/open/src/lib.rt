@@ -1,10 +1,12 @@
 // What is open during a removal (002): a constant table of opcodes, subcommands and log addresses, and its search.
+#![tactic(auto)]
+
 ghost use Rattle.std.specs.Prelude.{◌≡◌};
 ghost use Rattle.open.specs.Open.{is_open};
 ghost use Rattle.open.specs.Private as private;
 
 // A form of a command: its code, and for FEATURE and LBA a mask and what it must leave. Mask 0: any; FFh: bits 7:0; FFF_FFFFh: bits 27:0.
-#[derive(Drop)]
+#[derive(Clone, Copy)]
 struct Row {
     code: u8,
     feature_mask: u16,
@@ -129,7 +131,7 @@ const OPEN: [Row; 16] = [
 ];
 
 fn does_fit(row: Row, code: u8, feature: u16, lba: u64) -> bool
-    ensures { result ≡ private.rowFits row code feature lba }
+    ensures { result ≡ private.row_fits row code feature lba }
 {
     if code != row.code {
         return false;
@@ -141,7 +143,7 @@ fn does_fit(row: Row, code: u8, feature: u16, lba: u64) -> bool
 }
 
 fn any_fits(rows: [Row; 16], code: u8, feature: u16, lba: u64) -> bool
-    ensures { result ≡ private.anyFits rows code feature lba }
+    ensures { result ≡ private.any_fits rows code feature lba }
 {
     let mut i: usize = 0;
     while i < 16 {

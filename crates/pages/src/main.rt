@@ -1,4 +1,6 @@
 // Lists each page of data/ that an argument names, after a line with its name. What the program must write is in `stdout`.
+#![tactic(auto)]
+
 use libc::STDOUT_FILENO;
 
 // A byte more than may be listed, so that a longer input is seen.

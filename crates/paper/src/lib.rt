@@ -1,4 +1,6 @@
 // What document 01 speaks of (identifiers, addresses, page counts, security) and what a call says.
+#![tactic(auto)]
+
 ghost use Rattle.std.specs.Prelude.{◌≡◌};
 ghost use Rattle.paper.specs.Answers.{number_of, sense_of};
 ghost use Rattle.paper.specs.Flags.{is_on};
@@ -7,19 +9,19 @@ ghost use Rattle.paper.specs.Table12.{aborts, row_of, column_of};
 
 // "An element identifier, a logical block address and a page count are three quantities kept apart."
 #[repr(C)]
-#[derive(Drop)]
+#[derive(Clone, Copy)]
 pub struct ElementId(pub u32);
 
 #[repr(C)]
-#[derive(Drop)]
+#[derive(Clone, Copy)]
 pub struct Lba(pub u64);
 
 #[repr(C)]
-#[derive(Drop)]
+#[derive(Clone, Copy)]
 pub struct PageCount(pub u16);
 
 // The columns of 000, table 12.
-#[derive(Drop)]
+#[derive(Clone, Copy)]
 pub enum Security {
     Locked,
     Unlocked,
@@ -27,14 +29,14 @@ pub enum Security {
 }
 
 // Its rows.
-#[derive(Drop)]
+#[derive(Clone, Copy)]
 pub enum Command {
     Remove,
     Status,
 }
 
 // What a device call says. The page reader's 9 has a byte place and an answer of its own.
-#[derive(Drop)]
+#[derive(Clone, Copy)]
 pub enum Answer {
     Done,
     SecurityLocked,
@@ -50,13 +52,13 @@ pub enum Answer {
 }
 
 // What a call says that writes into a lent buffer, and how many bytes it wrote: none unless it says 0.
-#[derive(Drop)]
+#[derive(Clone, Copy)]
 pub struct Written {
     pub answer: Answer,
     pub count: usize,
 }
 
-#[derive(Drop)]
+#[derive(Clone, Copy)]
 pub struct Sense {
     pub key: u8,
     pub asc: u8,
@@ -64,7 +66,7 @@ pub struct Sense {
 }
 
 // Document 01's last column: three codes, or none, which is not 0/00/00.
-#[derive(Drop)]
+#[derive(Clone, Copy)]
 pub enum Sensed {
     None,
     Codes(Sense),

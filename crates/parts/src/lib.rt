@@ -1,4 +1,6 @@
 // The descriptor itself that a line of a comparison speaks of, as part of the page that it came from.
+#![tactic(auto)]
+
 ghost use Rattle.std.specs.Prelude.{◌≡◌};
 ghost use Rattle.parts.specs.Parts.{descriptor_part, part_of};
 

@@ -1,16 +1,18 @@
 // Lines put together from pieces of input.
+#![tactic(auto)]
+
 ghost use Rattle.std.specs.Prelude.{◌≡◌, drop};
 ghost use Rattle.pieces.specs.Pieces as spec;
 
 // A line as far as it was read: its first `len` bytes; 201 if there are more than 200.
-#[derive(Drop)]
+#[derive(Clone, Copy)]
 pub struct Gathered {
     pub bytes: [u8; 200],
     pub len: usize,
 }
 
 // A line after a piece of input: where the piece goes on, and whether the line has ended.
-#[derive(Drop)]
+#[derive(Clone, Copy)]
 pub struct Taken {
     pub line: Gathered,
     pub at: usize,
@@ -18,7 +20,7 @@ pub struct Taken {
 }
 
 pub fn is_long(line: &[u8]) -> bool
-    ensures { result ≡ spec.isLong line.now }
+    ensures { result ≡ spec.is_long line.now }
 {
     200 < line.len()
 }
@@ -49,7 +51,7 @@ impl Gathered {
 
     // The line with what a piece adds from a place on, up to the next newline or the piece's end.
     pub fn take(self, piece: &[u8], from: usize) -> Taken
-        ensures { result ≡ spec.takenFrom self (drop from piece.now) from }
+        ensures { result ≡ spec.taken_from self (drop from piece.now) from }
     {
         let mut line = self;
         let mut at = from;

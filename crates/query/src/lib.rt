@@ -1,4 +1,6 @@
 // A SCSI host's request for status data: which are due 4, and the ATA request of the same fields.
+#![tactic(auto)]
+
 ghost use Rattle.std.specs.Prelude.{◌≡◌};
 ghost use Rattle.query.specs.Queries as spec;
 ghost use Rattle.query.specs.Queries.{due_four, asked_for};
@@ -8,7 +10,7 @@ use request::Request;
 
 // Each field as it came.
 #[repr(C)]
-#[derive(Drop)]
+#[derive(Clone, Copy)]
 pub struct Query {
     pub filter: u8,
     pub report: u8,

@@ -1,4 +1,6 @@
 // How far a status page reaches; how far two are compared, or which of them is refused.
+#![tactic(auto)]
+
 ghost use Rattle.std.specs.Prelude.{◌≡◌};
 ghost use Rattle.offences.specs.Checks.{last_before};
 ghost use Rattle.words.specs.declared.Order.TheVariants.{Little};
@@ -12,21 +14,21 @@ use request::Request;
 use words::Order;
 
 // Which of the two pages is meant.
-#[derive(Drop)]
+#[derive(Clone, Copy)]
 pub enum Turn {
     Older,
     Newer,
 }
 
 // How far a page reaches, or two are compared: whole, or up to an identifier, itself included.
-#[derive(Drop)]
+#[derive(Clone, Copy)]
 pub enum Bound {
     Whole,
     UpTo(ElementId),
 }
 
 // How far they are compared, or the first page that the reader refuses.
-#[derive(Drop)]
+#[derive(Clone, Copy)]
 pub enum Opening {
     Accepted(Bound),
     Refused(Turn),

@@ -1,4 +1,6 @@
 // The host's reader of a status page: the page and the request that it answers, checked in document 01's order. A page is read in place.
+#![tactic(auto)]
+
 ghost use Rattle.std.specs.Prelude.{◌≡◌, ◌+◌, ◌-◌, ◌*◌, ◌≤◌, length};
 ghost use Rattle.layout.specs.Bytes.{returned_of};
 ghost use Rattle.offences.specs.First.{first_below};
@@ -13,14 +15,14 @@ use request::Request;
 use words::Order;
 
 // The header's numbers, or the place of the first offence.
-#[derive(Drop)]
+#[derive(Clone, Copy)]
 pub enum Judgement {
     Accepted(Header),
     Refused(usize),
 }
 
 // What stands at a descriptor's number.
-#[derive(Drop)]
+#[derive(Clone, Copy)]
 pub enum Slot {
     Outside,
     Holds(Descriptor),

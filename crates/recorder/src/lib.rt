@@ -1,6 +1,8 @@
 // The library that C links: c/recorder.h declares these functions and their structs. A slice is two arguments there, a pointer and a length.
 // The device's calls are thin over those of an image by value, as crate `calls` is over those of a device; the host's hand on what theirs say,
 // in numbers.
+#![tactic(auto)]
+
 ghost use Rattle.std.specs.Prelude.{◌≡◌, length};
 ghost use Rattle.compare.specs.Walk as comparing;
 ghost use Rattle.conduct.specs.Fits.{Fits};
@@ -57,7 +59,7 @@ pub extern "C" fn recorder_step(d: &mut Image) -> u8
 
 #[unsafe(no_mangle)]
 pub extern "C" fn recorder_media_error(d: &mut Image) -> u8
-    ensures { tells result d.new ≡ told_of d.old machine.mediaError }
+    ensures { tells result d.new ≡ told_of d.old machine.media_error }
 {
     let r = (*d).media_error();
     *d = r.image;
@@ -66,7 +68,7 @@ pub extern "C" fn recorder_media_error(d: &mut Image) -> u8
 
 #[unsafe(no_mangle)]
 pub extern "C" fn recorder_power_cut(d: &mut Image) -> u8
-    ensures { tells result d.new ≡ told_of d.old machine.powerCut }
+    ensures { tells result d.new ≡ told_of d.old machine.power_cut }
 {
     let r = (*d).power_cut();
     *d = r.image;
@@ -84,7 +86,7 @@ pub extern "C" fn recorder_comreset(d: &mut Image) -> u8
 
 #[unsafe(no_mangle)]
 pub extern "C" fn recorder_hardware_reset(d: &mut Image) -> u8
-    ensures { tells result d.new ≡ told_of d.old machine.hardwareReset }
+    ensures { tells result d.new ≡ told_of d.old machine.hardware_reset }
 {
     let r = (*d).hardware_reset();
     *d = r.image;
@@ -93,7 +95,7 @@ pub extern "C" fn recorder_hardware_reset(d: &mut Image) -> u8
 
 #[unsafe(no_mangle)]
 pub extern "C" fn recorder_software_reset(d: &mut Image) -> u8
-    ensures { tells result d.new ≡ told_of d.old machine.softwareReset }
+    ensures { tells result d.new ≡ told_of d.old machine.software_reset }
 {
     let r = (*d).software_reset();
     *d = r.image;
@@ -152,7 +154,7 @@ fn sent(d: Image, query: Query, allocation: u32, buf: &mut [u8]) -> Count
 
 #[unsafe(no_mangle)]
 pub extern "C" fn recorder_sense(number: u8) -> Sense
-    ensures { result ≡ spelt.senseOf (paper.senseOf number) }
+    ensures { result ≡ spelt.sense_of (paper.sense_of number) }
 {
     spelt::sense_of(paper::sense_at(number))
 }
@@ -161,28 +163,28 @@ pub extern "C" fn recorder_sense(number: u8) -> Sense
 
 #[unsafe(no_mangle)]
 pub extern "C" fn recorder_read(page: &[u8], request: Request) -> Reading
-    ensures { result ≡ spelt.pageReading (pages.read_of Little page.now request) }
+    ensures { result ≡ spelt.page_reading (pages.read_of Little page.now request) }
 {
     spelt::page_reading(reader::read(page, request))
 }
 
 #[unsafe(no_mangle)]
 pub extern "C" fn recorder_descriptor(page: &[u8], k: u32) -> Stand
-    ensures { result ≡ spelt.standOf (pages.slot_of Little page.now k) }
+    ensures { result ≡ spelt.stand_of (pages.slot_of Little page.now k) }
 {
     spelt::stand_of(reader::descriptor(page, k))
 }
 
 #[unsafe(no_mangle)]
 pub extern "C" fn recorder_scsi_read(bytes: &[u8], query: Query) -> Reading
-    ensures { result ≡ spelt.dataReading (dock.read_of Big bytes.now query) }
+    ensures { result ≡ spelt.data_reading (dock.read_of Big bytes.now query) }
 {
     spelt::data_reading(scsi::read(bytes, query))
 }
 
 #[unsafe(no_mangle)]
 pub extern "C" fn recorder_scsi_descriptor(bytes: &[u8], k: u32) -> Stand
-    ensures { result ≡ spelt.standOf (dock.slot_of Big bytes.now k) }
+    ensures { result ≡ spelt.stand_of (dock.slot_of Big bytes.now k) }
 {
     spelt::stand_of(scsi::descriptor(bytes, k))
 }
@@ -203,7 +205,7 @@ pub extern "C" fn recorder_scsi_list(bytes: &[u8], out: &mut [u8]) -> Count
 
 #[unsafe(no_mangle)]
 pub extern "C" fn recorder_to_scsi(page: &[u8], request: Request, out: &mut [u8]) -> Turned
-    ensures { (result ≡ spelt.turnedOf (to_scsi page.now request out.old))
+    ensures { (result ≡ spelt.turned_of (to_scsi page.now request out.old))
         × (out.new ≡ buffer_of (to_scsi page.now request out.old).state) }
 {
     spelt::turned_of(convert::to_scsi(page, request, out))
@@ -216,7 +218,7 @@ pub extern "C" fn recorder_to_ata(
     pages: PageCount,
     out: &mut [u8],
 ) -> Turned
-    ensures { (result ≡ spelt.turnedOf (to_ata bytes.now query pages.0 out.old))
+    ensures { (result ≡ spelt.turned_of (to_ata bytes.now query pages.0 out.old))
         × (out.new ≡ buffer_of (to_ata bytes.now query pages.0 out.old).state) }
 {
     spelt::turned_of(convert::to_ata(bytes, query, pages, out))
@@ -224,7 +226,7 @@ pub extern "C" fn recorder_to_ata(
 
 #[unsafe(no_mangle)]
 pub extern "C" fn recorder_next(page: &[u8], request: Request) -> Onward
-    ensures { result ≡ spelt.onwardOf (walk.next_of page.now request) }
+    ensures { result ≡ spelt.onward_of (walk.next_of page.now request) }
 {
     spelt::onward_of(walk::next(page, request))
 }
@@ -235,7 +237,7 @@ pub extern "C" fn recorder_next_request(
     start: ElementId,
     pages: PageCount,
 ) -> Request
-    ensures { result ≡ walk.nextRequest request start pages }
+    ensures { result ≡ walk.next_request request start pages }
 {
     walk::next_request(request, start, pages)
 }
@@ -244,14 +246,14 @@ pub extern "C" fn recorder_next_request(
 
 #[unsafe(no_mangle)]
 pub extern "C" fn recorder_open(older: &[u8], newer: &[u8], request: Request) -> Opened
-    ensures { result ≡ spelt.openedOf (open_of older.now newer.now request) }
+    ensures { result ≡ spelt.opened_of (open_of older.now newer.now request) }
 {
     spelt::opened_of(reach::open(older, newer, request))
 }
 
 #[unsafe(no_mangle)]
 pub extern "C" fn recorder_next_difference(older: &[u8], newer: &[u8], from: Cursor) -> Difference
-    ensures { result ≡ spelt.differenceOf (comparing.next_of older.now newer.now from) }
+    ensures { result ≡ spelt.difference_of (comparing.next_of older.now newer.now from) }
 {
     spelt::difference_of(compare::next(older, newer, from))
 }

@@ -1,4 +1,6 @@
 // The words of a command's registers: the security state, and FEATURE, COUNT and LBA.
+#![tactic(auto)]
+
 ghost use Rattle.std.specs.Prelude.{◌&&◌, ◌≡◌};
 ghost use Rattle.registers.specs.Registers.{state_of, asked_at};
 
@@ -7,14 +9,14 @@ use paper::{Lba, PageCount, Security};
 use request::Request;
 
 // A security state that a word names, and whether it names one.
-#[derive(Drop)]
+#[derive(Clone, Copy)]
 pub struct State {
     pub fits: bool,
     pub security: Security,
 }
 
 // FEATURE, COUNT and LBA, and whether each fits its field.
-#[derive(Drop)]
+#[derive(Clone, Copy)]
 pub struct Asked {
     pub fits: bool,
     pub request: Request,

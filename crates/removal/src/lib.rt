@@ -1,4 +1,6 @@
 // REMOVE ELEMENT AND TRUNCATE (7Ch): its seven checks, in document 01's order.
+#![tactic(auto)]
+
 ghost use Rattle.std.specs.Prelude.{◌≡◌, ◌+◌, ◌*◌};
 ghost use Rattle.cells.specs.Rulings.{ruled};
 ghost use Rattle.removal.specs.Remove as remove;
@@ -16,14 +18,14 @@ fn identifier(feature: u16, count: u16) -> ElementId
 
 // The LBA, or the difference if the LBA is 0.
 fn new_max(difference: u64, lba: Lba) -> Lba
-    ensures { result ≡ remove.orDifference difference lba }
+    ensures { result ≡ remove.or_difference difference lba }
 {
     if lba.0 == 0 { Lba(difference) } else { lba }
 }
 
 // Whether a limit is reported and as many elements are at FFh.
 fn limit_met(limit: u16, removed: u16) -> bool
-    ensures { result ≡ remove.limitMet limit removed }
+    ensures { result ≡ remove.limit_met limit removed }
 {
     if limit == 0 {
         return false;
@@ -33,7 +35,7 @@ fn limit_met(limit: u16, removed: u16) -> bool
 
 // Checks 6 and 7.
 fn judge_room(at: Position, old: Lba, id: ElementId, lba: Lba, blocks: u64) -> Ruling
-    ensures { ruled result ≡ remove.judgeRoom at old id lba blocks }
+    ensures { ruled result ≡ remove.judge_room at old id lba blocks }
 {
     if old.0 <= blocks {
         return quiet(Answer::InvalidField, at);
@@ -55,7 +57,7 @@ fn judge_room(at: Position, old: Lba, id: ElementId, lba: Lba, blocks: u64) -> R
 
 // Checks 3 to 7.
 fn judge_found(t: Table, c: Cells, at: Position, id: ElementId, lba: Lba, s: Seen) -> Ruling
-    ensures { ruled result ≡ remove.judgeFound t c at id lba s }
+    ensures { ruled result ≡ remove.judge_found t c at id lba s }
 {
     if !s.hit {
         return quiet(Answer::InvalidField, at);
@@ -84,7 +86,7 @@ pub fn rule_remove(
     count: u16,
     lba: Lba,
 ) -> Ruling
-    ensures { ruled result ≡ remove.ruleRemove t c at security (record { code = 0x7C; feature = feature; count = count; lba = lba }) }
+    ensures { ruled result ≡ remove.rule_remove t c at security (record { code = 0x7C; feature = feature; count = count; lba = lba }) }
 {
     if paper::is_aborted(Command::Remove, security) {
         return quiet(Answer::SecurityLocked, at);

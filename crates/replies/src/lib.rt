@@ -1,4 +1,6 @@
 // What the bench says to a line, as text in a lent buffer.
+#![tactic(auto)]
+
 ghost use Rattle.std.specs.Prelude.{◌≡◌, [], ◌≤◌, length};
 ghost use Rattle.acts.specs.Acts.{heard};
 ghost use Rattle.convert.specs.Convert as convert;
@@ -61,7 +63,7 @@ fn put_bare(out: &mut [u8], c: Converted) -> usize
 
 // The first line, of `scsi` with a sense.
 fn put_first(out: &mut [u8], said: Said) -> usize
-    ensures { writing·private.Puts out.old 0 (first_line (dock.kindSaid said) (dock.numberSaid said) (dock.placeSaid said)) out.new result }
+    ensures { writing·private.Puts out.old 0 (first_line (dock.kind_said said) (dock.number_said said) (dock.place_said said)) out.new result }
 {
     match said {
         Said::Sent(w) => {
@@ -75,7 +77,7 @@ fn put_first(out: &mut [u8], said: Said) -> usize
 
 // The bytes that were written, as data or as a page.
 fn put_shown(out: &mut [u8], at: usize, said: Said, bytes: &[u8]) -> usize
-    ensures { (out.new ≡ stored_in 134000 out.old at (shown_as (dock.kindSaid said) bytes.now)) × (result ≡ ended_in 134000 out.old at (shown_as (dock.kindSaid said) bytes.now)) }
+    ensures { (out.new ≡ stored_in 134000 out.old at (shown_as (dock.kind_said said) bytes.now)) × (result ≡ ended_in 134000 out.old at (shown_as (dock.kind_said said) bytes.now)) }
 {
     match said {
         Said::Sent(_) => dump::put_data(out, at, bytes),
@@ -85,7 +87,7 @@ fn put_shown(out: &mut [u8], at: usize, said: Said, bytes: &[u8]) -> usize
 }
 
 fn put_bytes(out: &mut [u8], at: usize, said: Said, bytes: &[u8]) -> usize
-    ensures { (out.new ≡ stored_in 134000 out.old at (bytes_text (dock.kindSaid said) (dock.numberSaid said) bytes.now)) × (result ≡ ended_in 134000 out.old at (bytes_text (dock.kindSaid said) (dock.numberSaid said) bytes.now)) }
+    ensures { (out.new ≡ stored_in 134000 out.old at (bytes_text (dock.kind_said said) (dock.number_said said) bytes.now)) × (result ≡ ended_in 134000 out.old at (bytes_text (dock.kind_said said) (dock.number_said said) bytes.now)) }
 {
     if said.number() != 0 {
         return at;

@@ -1,4 +1,6 @@
 // A request for status pages (12h): which are due 4, the tests of an element, and what a request is answered.
+#![tactic(auto)]
+
 ghost use Rattle.std.specs.Prelude.{◌≡◌};
 ghost use Rattle.paper.specs.Answers.{number_of};
 ghost use Rattle.request.specs.Requests.{filter_of, report_type_of, start_of, sets_reserved, refused, status_number, takes_id, takes_type, takes_health, request_for};
@@ -7,7 +9,7 @@ use paper::{Answer, Command, ElementId, Lba, PageCount, Security};
 
 // A request for status pages (12h), as the registers have it.
 #[repr(C)]
-#[derive(Drop)]
+#[derive(Clone, Copy)]
 pub struct Request {
     pub feature: u16,
     pub count: PageCount,

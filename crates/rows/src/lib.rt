@@ -1,4 +1,6 @@
 // The lines of a listing: a descriptor's, and an element's values, stored straight into a lent buffer.
+#![tactic(auto)]
+
 ghost use Rattle.std.specs.Prelude.{◌≡◌, eqb, length};
 ghost use Rattle.layout.specs.Bytes.{all_ones};
 ghost use Rattle.slices.specs.Lists.{fits, stored, ended};
@@ -41,7 +43,7 @@ fn put_capacity(out: &mut [u8], at: usize, blocks: u64) -> usize
 
 // Type and health, each with the space after it.
 fn grade(kind: u8, health: u8) -> [u8; 6]
-    ensures { result ≡ private.gradeOf kind health }
+    ensures { result ≡ private.grade_of kind health }
 {
     let g = writing::hex_pair(kind, health);
     [g[0], g[1], 32, g[2], g[3], 32]
@@ -57,8 +59,8 @@ pub fn values_width(d: Descriptor) -> usize
 // Stores them at the front of a part of 26 bytes, in which all of them fit, and answers how long they are.
 fn put_front(part: &mut [u8], kind: u8, health: u8, capacity: u64) -> usize
     requires { length part.old ≡ 26 }
-    ensures part_after { part.new ≡ stored part.old 0 (private.valuesFor kind health capacity) }
-    ensures value { result ≡ length (private.valuesFor kind health capacity) }
+    ensures part_after { part.new ≡ stored part.old 0 (private.values_for kind health capacity) }
+    ensures value { result ≡ length (private.values_for kind health capacity) }
 {
     let begun = grade(kind, health);
     slices::put(&mut part[0..6], 0, &begun);

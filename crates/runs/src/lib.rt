@@ -1,4 +1,6 @@
 // Runs a script: its lines, put together from pieces of input, are obeyed one after the other. What a line says stands in a lent buffer then.
+#![tactic(auto)]
+
 ghost use Rattle.std.specs.Prelude.{◌≡◌, drop};
 ghost use Rattle.acts.specs.Acts.{page_on, lent_on};
 ghost use Rattle.pieces.specs.Pieces.{taken_from};
@@ -9,14 +11,14 @@ use pieces::{Gathered, Taken};
 use workbench::Bench;
 
 // A script as far as it was run: the line as far as it was read, and the bench.
-#[derive(Drop)]
+#[derive(Clone, Copy)]
 pub struct Run {
     pub line: Gathered,
     pub bench: Bench,
 }
 
 // A run after the next line of a piece, or the piece's end: where the piece goes on, and how long the text is that the line says.
-#[derive(Drop)]
+#[derive(Clone, Copy)]
 pub struct Went {
     pub run: Run,
     pub at: usize,
@@ -24,14 +26,14 @@ pub struct Went {
 }
 
 // The bench after a line, and how long the text is that it says.
-#[derive(Drop)]
+#[derive(Clone, Copy)]
 struct Obeyed {
     bench: Bench,
     said: usize,
 }
 
 pub fn new_run() -> Run
-    ensures { result ≡ paper.newRun }
+    ensures { result ≡ paper.new_run }
 {
     Run {
         line: Gathered::nothing(),
@@ -44,7 +46,7 @@ fn obey(bench: Bench, line: Gathered, page: &mut [u8], lent: &mut [u8], out: &mu
     ensures value { result ≡ paper.obeyed bench line page.old lent.old out.old }
     ensures page_after { page.new ≡ page_on bench (meaning_of line) page.old lent.old }
     ensures lent_after { lent.new ≡ lent_on bench (meaning_of line) page.old lent.old }
-    ensures out_after { out.new ≡ paper.saidIn bench line page.old lent.old out.old }
+    ensures out_after { out.new ≡ paper.said_in bench line page.old lent.old out.old }
 {
     let acted = acts::call(bench, script::meaning_of(line), page, lent);
     let reply = acted.reply;
@@ -55,10 +57,10 @@ fn obey(bench: Bench, line: Gathered, page: &mut [u8], lent: &mut [u8], out: &mu
 
 // Obeys a line that has ended; one that goes on in the next piece is kept.
 fn go_from(run: Run, taken: Taken, page: &mut [u8], lent: &mut [u8], out: &mut [u8]) -> Went
-    ensures value { result ≡ paper.wentOn run taken page.old lent.old out.old }
-    ensures page_after { page.new ≡ paper.pageGone run taken page.old lent.old }
-    ensures lent_after { lent.new ≡ paper.lentGone run taken page.old lent.old }
-    ensures out_after { out.new ≡ paper.outGone run taken page.old lent.old out.old }
+    ensures value { result ≡ paper.went_on run taken page.old lent.old out.old }
+    ensures page_after { page.new ≡ paper.page_gone run taken page.old lent.old }
+    ensures lent_after { lent.new ≡ paper.lent_gone run taken page.old lent.old }
+    ensures out_after { out.new ≡ paper.out_gone run taken page.old lent.old out.old }
 {
     let line = taken.line;
     let bench = run.bench;
@@ -90,10 +92,10 @@ pub fn go_on(
     lent: &mut [u8],
     out: &mut [u8],
 ) -> Went
-    ensures value { result ≡ paper.wentOn run (taken_from run.line (drop from piece.now) from) page.old lent.old out.old }
-    ensures page_after { page.new ≡ paper.pageGone run (taken_from run.line (drop from piece.now) from) page.old lent.old }
-    ensures lent_after { lent.new ≡ paper.lentGone run (taken_from run.line (drop from piece.now) from) page.old lent.old }
-    ensures out_after { out.new ≡ paper.outGone run (taken_from run.line (drop from piece.now) from) page.old lent.old out.old }
+    ensures value { result ≡ paper.went_on run (taken_from run.line (drop from piece.now) from) page.old lent.old out.old }
+    ensures page_after { page.new ≡ paper.page_gone run (taken_from run.line (drop from piece.now) from) page.old lent.old }
+    ensures lent_after { lent.new ≡ paper.lent_gone run (taken_from run.line (drop from piece.now) from) page.old lent.old }
+    ensures out_after { out.new ≡ paper.out_gone run (taken_from run.line (drop from piece.now) from) page.old lent.old out.old }
 {
     let line = run.line;
     go_from(run, line.take(piece, from), page, lent, out)
@@ -104,7 +106,7 @@ pub fn end_run(run: Run, page: &mut [u8], lent: &mut [u8], out: &mut [u8]) -> us
     ensures value { result ≡ (paper.obeyed run.bench run.line page.old lent.old out.old).said }
     ensures page_after { page.new ≡ page_on run.bench (meaning_of run.line) page.old lent.old }
     ensures lent_after { lent.new ≡ lent_on run.bench (meaning_of run.line) page.old lent.old }
-    ensures out_after { out.new ≡ paper.saidIn run.bench run.line page.old lent.old out.old }
+    ensures out_after { out.new ≡ paper.said_in run.bench run.line page.old lent.old out.old }
 {
     let last = run.line;
     let bench = run.bench;

@@ -1,4 +1,6 @@
 // The bench language: what a line of a script says.
+#![tactic(auto)]
+
 ghost use Rattle.std.specs.Prelude.{◌≡◌};
 ghost use Rattle.script.specs.Names as spec;
 
@@ -10,7 +12,7 @@ use lines::{is_named, is_passed};
 use pieces::{Gathered, is_long};
 
 fn dock_call(line: &[u8]) -> Line
-    ensures { result ≡ spec.dockCall line.now }
+    ensures { result ≡ spec.dock_call line.now }
 {
     if is_named(line, b"scsi", 6) {
         return scsi_call(line);
@@ -28,7 +30,7 @@ fn dock_call(line: &[u8]) -> Line
 }
 
 fn page_call(line: &[u8]) -> Line
-    ensures { result ≡ spec.pageCall line.now }
+    ensures { result ≡ spec.page_call line.now }
 {
     if is_named(line, b"length", 2) {
         return length_call(line);
@@ -46,7 +48,7 @@ fn page_call(line: &[u8]) -> Line
 }
 
 fn reset_call(line: &[u8]) -> Line
-    ensures { result ≡ spec.resetCall line.now }
+    ensures { result ≡ spec.reset_call line.now }
 {
     if is_named(line, b"comreset", 1) {
         return Line::Bare(Bare::Comreset);
@@ -61,7 +63,7 @@ fn reset_call(line: &[u8]) -> Line
 }
 
 fn event_call(line: &[u8]) -> Line
-    ensures { result ≡ spec.eventCall line.now }
+    ensures { result ≡ spec.event_call line.now }
 {
     if is_named(line, b"step", 1) {
         return Line::Bare(Bare::Step);
@@ -79,7 +81,7 @@ fn event_call(line: &[u8]) -> Line
 }
 
 fn device_call(line: &[u8]) -> Line
-    ensures { result ≡ spec.deviceCall line.now }
+    ensures { result ≡ spec.device_call line.now }
 {
     if is_named(line, b"element", 6) {
         return element_call(line);
@@ -111,7 +113,7 @@ pub fn meaning(line: &[u8]) -> Line
 
 // Of a line as it was gathered.
 pub fn meaning_of(line: Gathered) -> Line
-    ensures { result ≡ spec.meaningOf line }
+    ensures { result ≡ spec.meaning_of line }
 {
     let len = line.len;
     if 200 < len {

@@ -65,23 +65,23 @@ refuses_exactly o s q = refuses (answered o s q) place refl (λ p. refl) (data_o
 
 -- ## What was heard tells the offence
 
-reading_in : Header → Values → Header
-reading_in g (reading h whole torn) = h
-reading_in g (place p) = g
+reading_in_lem : Header → Values → Header
+reading_in_lem g (reading h whole torn) = h
+reading_in_lem g (place p) = g
 
-whole_in : ℕ → Values → ℕ
-whole_in n (reading h whole torn) = whole
-whole_in n (place p) = n
+whole_in_lem : ℕ → Values → ℕ
+whole_in_lem n (reading h whole torn) = whole
+whole_in_lem n (place p) = n
 
 module _ (o : Order) (s : List ℕ) (q : Query) where
   -- a reading goes with 0, and is the data's
   pub heard_clean : (h : Header) (w : ℕ) (t : Bool) → tells 0 (reading h w t) ≡ read_of o s q
       → (data_offence o s q ≡ Clean) × (h ≡ header_in o s) × (w ≡ whole_of (header_in o s).number (length s))
-  unfolding reading_in whole_in
+  unfolding reading_in_lem whole_in_lem
   heard_clean h w t e =
       let clean : data_offence o s q ≡ Clean = clean_0 (answered o s q) place refl (λ p. refl) (data_offence o s q) (ap (λ (u : Told Values). u.number) (sym e)) in
       let same : tells 0 (reading h w t) ≡ answered o s q Clean = e ∙ ap (answered o s q) clean in
-      (clean, ap (λ (u : Told Values). reading_in h u.state) same, ap (λ (u : Told Values). whole_in w u.state) same)
+      (clean, ap (λ (u : Told Values). reading_in_lem h u.state) same, ap (λ (u : Told Values). whole_in_lem w u.state) same)
 
   pub heard_at : (p : ℕ) → tells 9 (place p) ≡ read_of o s q → data_offence o s q ≡ At p
   unfolding placed

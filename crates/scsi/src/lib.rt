@@ -1,5 +1,7 @@
 // The host's reader of SCSI data: the data and the request that it answers, checked in request 2026-03's order. Data is read in
 // place, and may be cut anywhere after its header, the first 32 bytes.
+#![tactic(auto)]
+
 ghost use Rattle.std.specs.Prelude.{◌≡◌};
 ghost use Rattle.words.specs.declared.Order.TheVariants.{Big};
 ghost use Rattle.scsi.specs.Data.{whole_of, torn_of, contents_of};
@@ -13,7 +15,7 @@ use reader::Slot;
 use words::Order;
 
 // The header's numbers, how many whole descriptors are there, and whether one was cut through.
-#[derive(Drop)]
+#[derive(Clone, Copy)]
 pub struct Reading {
     pub header: Header,
     pub whole: u32,
@@ -21,7 +23,7 @@ pub struct Reading {
 }
 
 // What was read, or the place of the first offence.
-#[derive(Drop)]
+#[derive(Clone, Copy)]
 pub enum Judgement {
     Accepted(Reading),
     Refused(usize),

@@ -1,4 +1,6 @@
 // The data of a device for a SCSI host, cut at an allocation length.
+#![tactic(auto)]
+
 ghost use Rattle.std.specs.Prelude.{◌≡◌, ◌+◌, ◌-◌, ◌*◌, ◌≤◌, length, take};
 ghost use Rattle.layout.specs.Bytes.{descriptor_bytes};
 ghost use Rattle.paper.specs.Output.{output};
@@ -55,7 +57,7 @@ fn put_asked(d: Device, request: Request, part: &mut [u8])
 // Fills a part with the front of the data, of which it has no more than all.
 fn fill_part(d: Device, request: Request, number: usize, part: &mut [u8])
     requires { (number ≡ length (list_of d request)) × (number ≤ 128) × (length part.old ≤ 32 + 32 * number) }
-    ensures { part.new ≡ take (length part.old) (private.dataFor d request) }
+    ensures { part.new ≡ take (length part.old) (private.data_for d request) }
 {
     let count = number as u32;
     let header = status::header_of(d, count, count);

@@ -1,4 +1,6 @@
 // The text of a listing, of a page or of SCSI data, in a lent buffer: the whole of it, or nothing where it does not fit.
+#![tactic(auto)]
+
 ghost use Rattle.std.specs.Prelude.{◌≡◌, leb, length};
 ghost use Rattle.io.specs.Counts.{IsPrefixLen};
 ghost use Rattle.paper.specs.Output.{output, written};

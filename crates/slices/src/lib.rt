@@ -1,5 +1,7 @@
 // The parts of a slice, and bytes at a place. Any place will do: past the end a byte is 0, and bytes that do not fit are not stored. And the
 // smaller of two numbers, and a test's bit.
+#![tactic(auto)]
+
 ghost use Rattle.std.specs.Prelude.{◌≡◌, ◌+◌, ◌-◌, ◌≤◌, min, length, get_or, take, drop, replicate};
 ghost use Rattle.std.proofs.Math.Seq.{paste};
 ghost use Rattle.slices.specs.Lists.{fits, stored, one};

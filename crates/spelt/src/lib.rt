@@ -1,5 +1,7 @@
 // What calls say, in numbers alone, for C: a struct in the place of each enum that an answer is, by its name in c/recorder.h. What an answer does not
 // name is 0.
+#![tactic(auto)]
+
 ghost use Rattle.std.specs.Prelude.{ℕ, List, ◌≡◌};
 ghost use Rattle.convert.specs.Convert as convert;
 ghost use Rattle.reach.specs.Opening as opening;
@@ -18,7 +20,7 @@ use walk::Move;
 
 // `recorder_written`: how many bytes a call wrote into a lent buffer; its number in document 01's table.
 #[repr(C)]
-#[derive(Drop)]
+#[derive(Clone, Copy)]
 pub struct Count {
     pub count: usize,
     pub answer: u8,
@@ -26,7 +28,7 @@ pub struct Count {
 
 // `recorder_reading`, 0: the header's numbers, how many descriptors are there whole, and whether one was cut through; 9: a place.
 #[repr(C)]
-#[derive(Drop)]
+#[derive(Clone, Copy)]
 pub struct Reading {
     pub place: usize,
     pub header: Header,
@@ -37,7 +39,7 @@ pub struct Reading {
 
 // `recorder_slot`: what stands at a descriptor's number.
 #[repr(C)]
-#[derive(Drop)]
+#[derive(Clone, Copy)]
 pub struct Stand {
     pub descriptor: Descriptor,
     pub there: bool,
@@ -45,7 +47,7 @@ pub struct Stand {
 
 // `recorder_move`, 0: whether a walk asks once more, and from which start; 9: a place.
 #[repr(C)]
-#[derive(Drop)]
+#[derive(Clone, Copy)]
 pub struct Onward {
     pub place: usize,
     pub start: ElementId,
@@ -55,7 +57,7 @@ pub struct Onward {
 
 // `recorder_opening`, 0: the last identifier that is compared, and whether a page was cut short there; 9: a page's turn.
 #[repr(C)]
-#[derive(Drop)]
+#[derive(Clone, Copy)]
 pub struct Opened {
     pub end: ElementId,
     pub cut: bool,
@@ -65,7 +67,7 @@ pub struct Opened {
 
 // `recorder_difference`: a difference and where the comparison goes on, or kind 0. Its descriptors' numbers are those in the pages that have it.
 #[repr(C)]
-#[derive(Drop)]
+#[derive(Clone, Copy)]
 pub struct Difference {
     pub at: Cursor,
     pub next: Cursor,
@@ -74,7 +76,7 @@ pub struct Difference {
 
 // `recorder_span`: a part of one of two pages.
 #[repr(C)]
-#[derive(Drop)]
+#[derive(Clone, Copy)]
 pub struct Span {
     pub place: usize,
     pub length: usize,
@@ -83,7 +85,7 @@ pub struct Span {
 
 // `recorder_converted`, 0: how many bytes were written; 9: a place.
 #[repr(C)]
-#[derive(Drop)]
+#[derive(Clone, Copy)]
 pub struct Turned {
     pub count: usize,
     pub place: usize,
@@ -92,7 +94,7 @@ pub struct Turned {
 
 // `recorder_sense`: a number's sense, if it has one.
 #[repr(C)]
-#[derive(Drop)]
+#[derive(Clone, Copy)]
 pub struct Sense {
     pub there: bool,
     pub key: u8,
@@ -145,7 +147,7 @@ fn refused(place: usize) -> Reading
 
 // Of a page every descriptor that is returned is there.
 pub fn page_reading(j: reader::Judgement) -> Reading
-    ensures { result ≡ spelt.pageReading (pages.heard j) }
+    ensures { result ≡ spelt.page_reading (pages.heard j) }
 {
     match j {
         reader::Judgement::Accepted(h) => accepted(h, h.returned, false),
@@ -154,7 +156,7 @@ pub fn page_reading(j: reader::Judgement) -> Reading
 }
 
 pub fn data_reading(j: scsi::Judgement) -> Reading
-    ensures { result ≡ spelt.dataReading (dock.heard j) }
+    ensures { result ≡ spelt.data_reading (dock.heard j) }
 {
     match j {
         scsi::Judgement::Accepted(x) => accepted(x.header, x.whole, x.torn),
@@ -163,7 +165,7 @@ pub fn data_reading(j: scsi::Judgement) -> Reading
 }
 
 pub fn stand_of(s: reader::Slot) -> Stand
-    ensures { result ≡ spelt.standOf s }
+    ensures { result ≡ spelt.stand_of s }
 {
     match s {
         reader::Slot::Outside => Stand {
@@ -184,7 +186,7 @@ pub fn stand_of(s: reader::Slot) -> Stand
 }
 
 pub fn onward_of(m: Move) -> Onward
-    ensures { result ≡ spelt.onwardOf (walk.heard m) }
+    ensures { result ≡ spelt.onward_of (walk.heard m) }
 {
     match m {
         Move::Ask(start) => Onward {
@@ -218,7 +220,7 @@ fn turn_of(t: Turn) -> u8
 }
 
 fn bounded(b: Bound) -> Opened
-    ensures { result ≡ spelt.boundedBy b 0 }
+    ensures { result ≡ spelt.bounded_by b 0 }
 {
     match b {
         Bound::Whole => Opened {
@@ -237,7 +239,7 @@ fn bounded(b: Bound) -> Opened
 }
 
 pub fn opened_of(o: Opening) -> Opened
-    ensures { result ≡ spelt.openedOf (opening.heard o) }
+    ensures { result ≡ spelt.opened_of (opening.heard o) }
 {
     match o {
         Opening::Accepted(b) => bounded(b),
@@ -251,7 +253,7 @@ pub fn opened_of(o: Opening) -> Opened
 }
 
 fn difference_at(line: Line, next: Cursor) -> Difference
-    ensures { result ≡ spelt.differenceAt line next }
+    ensures { result ≡ spelt.difference_at line next }
 {
     match line {
         Line::OnlyOlder(k) => Difference {
@@ -269,7 +271,7 @@ fn difference_at(line: Line, next: Cursor) -> Difference
 }
 
 pub fn difference_of(s: Step) -> Difference
-    ensures { result ≡ spelt.differenceOf s }
+    ensures { result ≡ spelt.difference_of s }
 {
     match s {
         Step::Done => Difference {
@@ -285,7 +287,7 @@ pub fn difference_of(s: Step) -> Difference
 }
 
 pub fn turned_of(c: Converted) -> Turned
-    ensures { (buf : List ℕ) → result ≡ spelt.turnedOf (convert.heard c buf) }
+    ensures { (buf : List ℕ) → result ≡ spelt.turned_of (convert.heard c buf) }
 {
     match c {
         Converted::Done(count) => Turned {
@@ -307,7 +309,7 @@ pub fn turned_of(c: Converted) -> Turned
 }
 
 pub fn sense_of(s: Sensed) -> Sense
-    ensures { result ≡ spelt.senseOf s }
+    ensures { result ≡ spelt.sense_of s }
 {
     match s {
         Sensed::None => Sense {
@@ -329,7 +331,7 @@ pub fn sense_of(s: Sensed) -> Sense
 
 // Descriptor k of the page whose turn it is.
 fn span_in(turn: u8, page: &[u8], k: u32) -> Span
-    ensures { result ≡ spans.spanIn turn page.now k }
+    ensures { result ≡ spans.span_in turn page.now k }
 {
     let length = parts::descriptor_part(page, k).len();
     if length == 0 {
@@ -343,7 +345,7 @@ fn span_in(turn: u8, page: &[u8], k: u32) -> Span
 }
 
 fn no_span() -> Span
-    ensures { result ≡ spans.noSpan }
+    ensures { result ≡ spans.no_span }
 {
     Span {
         place: 0,

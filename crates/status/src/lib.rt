@@ -1,4 +1,6 @@
 // GET PHYSICAL ELEMENT STATUS: the list and the filled page. The device is only read.
+#![tactic(auto)]
+
 ghost use Rattle.std.specs.Prelude.{◌≡◌, ◌++◌, ◌+◌, ◌-◌, ◌*◌, ◌≤◌, length, drop, replicate};
 ghost use Rattle.device.specs.Record.{removed_number};
 ghost use Rattle.layout.specs.Bytes.{descriptor_bytes};
@@ -34,7 +36,7 @@ pub fn header_of(d: Device, number: u32, returned: u32) -> Header
 // Stores the descriptors of the elements at the first of the places.
 fn put_list(ps: [Part; 128], hs: [u8; 128], places: [u8; 128], returned: usize, buf: &mut [u8])
     requires { (returned ≤ 128) × (32 + 32 * returned ≤ length buf.old) × private.Slots places }
-    ensures { buf.new ≡ stored buf.old 32 (flat (descriptor_bytes Order.Little) (private.shownThere ps hs places returned)) }
+    ensures { buf.new ≡ stored buf.old 32 (flat (descriptor_bytes Order.Little) (private.shown_there ps hs places returned)) }
 {
     let mut k: usize = 0;
     while k < returned {

@@ -1,4 +1,6 @@
 // Work steps, winding up and grades: what each rules over a table, its cells and the position.
+#![tactic(auto)]
+
 ghost use Rattle.std.specs.Prelude.{◌≡◌, false};
 ghost use Rattle.cells.specs.Rulings.{ruled};
 ghost use Rattle.cells.specs.Sights.{see_in};
@@ -57,7 +59,7 @@ fn marking(s: Seen) -> Store
 
 // Where winding up takes the addresses.
 fn wound_to(s: Seen, w: Removal) -> Lba
-    ensures { result ≡ steps.woundTo s w }
+    ensures { result ≡ steps.wound_to s w }
 {
     let new = w.new;
     let old = w.old;
@@ -69,7 +71,7 @@ fn wound_to(s: Seen, w: Removal) -> Lba
 
 // The store of a step.
 fn store_from(s: Seen, w: Removal, at: Position) -> Store
-    ensures { result ≡ steps.storeFrom s w at }
+    ensures { result ≡ steps.store_from s w at }
 {
     let new = w.new;
     match at {
@@ -102,7 +104,7 @@ fn look(t: Table, c: Cells, id: ElementId, at: Position) -> Seen
 
 // A work step, or a step of winding up.
 pub fn rule_step(t: Table, c: Cells, at: Position) -> Ruling
-    ensures { ruled result ≡ steps.ruleStep t c at c.note }
+    ensures { ruled result ≡ steps.rule_step t c at c.note }
 {
     let note = c.note;
     match note {
@@ -113,7 +115,7 @@ pub fn rule_step(t: Table, c: Cells, at: Position) -> Ruling
 
 // An error or a cut: to the first winding-up step if a removal is under way, else this answer.
 pub fn rule_stop(note: Note, at: Position, idle: Answer) -> Ruling
-    ensures { ruled result ≡ steps.ruleStop at (number_of idle) note }
+    ensures { ruled result ≡ steps.rule_stop at (number_of idle) note }
 {
     match note {
         Note::Empty => quiet(idle, at),
@@ -122,7 +124,7 @@ pub fn rule_stop(note: Note, at: Position, idle: Answer) -> Ruling
 }
 
 pub fn rule_grade(t: Table, c: Cells, at: Position, id: ElementId, health: u8) -> Ruling
-    ensures { ruled result ≡ steps.ruleGrade t c at id health }
+    ensures { ruled result ≡ steps.rule_grade t c at id health }
 {
     let s = cells::see(t, c, id);
     if !s.hit {

@@ -1,12 +1,14 @@
 // Bytes stored as numbers, one after the other, so that each byte is stored once and in ascending order. What stands there afterwards is
 // proved; how it is stored is seen in the compiled code (docs/TRUST.md).
+#![tactic(auto)]
+
 ghost use Rattle.std.specs.Prelude.{◌≡◌, ◌+◌, ◌-◌, ◌*◌, ◌≤◌, length, take};
 ghost use Rattle.slices.specs.Lists.{fits, stored};
 ghost use Rattle.words.specs.Bytes.{low_bytes};
 ghost use Rattle.strokes.specs.Rows.{row_bytes, times};
 
 // 32 bytes, as four numbers of eight, the lowest byte of each first.
-#[derive(Drop)]
+#[derive(Clone, Copy)]
 pub struct Row {
     pub first: u64,
     pub second: u64,

@@ -1,4 +1,6 @@
 // The table as built, which no call changes, and its search; the healths, a cell for each place.
+#![tactic(auto)]
+
 ghost use Rattle.std.specs.Prelude.{◌≡◌, ◌≤◌, min, take, get_or, set};
 ghost use Rattle.paper.specs.Elements.{removed_health};
 ghost use Rattle.slices.specs.Lists.{one};
@@ -10,7 +12,7 @@ use paper::ElementId;
 // What of an element is no cell; `kind` is its type, a word that the language keeps. C lends it in a record of its own: each of its 16 bytes is
 // a field's, the spare ones too, which nothing looks at.
 #[repr(C)]
-#[derive(Drop)]
+#[derive(Clone, Copy)]
 pub struct Part {
     pub id: ElementId,
     pub kind: u8,
@@ -20,7 +22,7 @@ pub struct Part {
 }
 
 // The table as built.
-#[derive(Drop)]
+#[derive(Clone, Copy)]
 pub struct Table {
     pub parts: [Part; 128],
     pub count: usize,
@@ -28,7 +30,7 @@ pub struct Table {
 }
 
 // Where the search stopped, the part there, and whether it is the one sought; past the end a blank one.
-#[derive(Drop)]
+#[derive(Clone, Copy)]
 pub struct Sight {
     pub part: Part,
     pub place: usize,
@@ -59,7 +61,7 @@ pub fn blank_part() -> Part
 
 // The search among the first `count`.
 fn seek(ps: [Part; 128], count: usize, want: u32) -> Sight
-    ensures { result ≡ search.sightIn want (take count ps) }
+    ensures { result ≡ search.sight_in want (take count ps) }
 {
     let n = bounded(count);
     let mut i: usize = 0;

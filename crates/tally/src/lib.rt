@@ -1,5 +1,7 @@
 // The line that ends the text of SCSI data that is not whole, stored straight into a lent buffer: of N descriptors K are there whole, and
 // perhaps a part of the next.
+#![tactic(auto)]
+
 ghost use Rattle.std.specs.Prelude.{◌≡◌, ◌+◌, length};
 ghost use Rattle.slices.specs.Lists.{stored, ended};
 ghost use Rattle.text.specs.Digits.{decimal_of};

@@ -1,1 +1,2 @@
 // A walk over a device: what holds of it; no function.
+#![tactic(auto)]

@@ -1,5 +1,7 @@
 // Converts what is on standard input: a page to SCSI data, or with an argument, a decimal number, SCSI data to so many pages. A refusal is words
 // on standard error, and then nothing is written.
+#![tactic(auto)]
+
 use convert::Converted;
 use libc::{STDERR_FILENO, STDIN_FILENO, STDOUT_FILENO};
 use paper::PageCount;

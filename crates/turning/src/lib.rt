@@ -1,4 +1,6 @@
 // What a file is converted to, in a lent buffer: a page to SCSI data, or SCSI data to pages.
+#![tactic(auto)]
+
 ghost use Rattle.std.specs.Prelude.{◌≡◌, ltb, length};
 ghost use Rattle.convert.specs.Convert.{heard};
 ghost use Rattle.turning.specs.Turning.{scsi_of, ata_of};

@@ -1,4 +1,6 @@
 // What a status page shows of an element, whether a request asks for it, the noted element; and the bytes of the header and of an element.
+#![tactic(auto)]
+
 ghost use Rattle.std.specs.Prelude.{◌≡◌};
 ghost use Rattle.layout.specs.Bytes.{header_bytes, descriptor_bytes};
 ghost use Rattle.slices.specs.Lists.{stored};

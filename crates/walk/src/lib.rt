@@ -1,4 +1,6 @@
 // A host's walk over small pages: what it does after a page, by the page that came and the request that it answers, and its next request.
+#![tactic(auto)]
+
 ghost use Rattle.std.specs.Prelude.{◌≡◌};
 ghost use Rattle.paper.specs.Told.{tells};
 ghost use Rattle.walk.specs.Next.{heard, after, next_of, next_request};
@@ -9,7 +11,7 @@ use reader::Judgement;
 use request::Request;
 
 // Where the next request starts; or that the walk ends; or the place of the page's first offence.
-#[derive(Drop)]
+#[derive(Clone, Copy)]
 pub enum Move {
     Ask(ElementId),
     End,

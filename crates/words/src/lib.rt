@@ -1,11 +1,13 @@
 // Numbers as bytes, in either order, at widths 2, 4 and 8. Any place will do: past the end a byte is 0.
+#![tactic(auto)]
+
 ghost use Rattle.std.specs.Prelude.{[], ◌∷◌, ◌++◌, ◌≡◌};
 ghost use Rattle.words.specs.Bytes.{low_bytes, value, number, number_at};
 
 use slices::{byte_at, tail};
 
 // Which byte of a number comes first: the lowest (ATA) or the highest (SCSI).
-#[derive(Drop)]
+#[derive(Clone, Copy)]
 pub enum Order {
     Little,
     Big,

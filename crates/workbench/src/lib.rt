@@ -1,4 +1,6 @@
 // What a script has on its bench, and how a call changes it.
+#![tactic(auto)]
+
 ghost use Rattle.std.specs.Prelude.{◌≡◌};
 ghost use Rattle.workbench.specs.Changes as changes;
 ghost use Rattle.workbench.specs.Empty as spec;
@@ -10,7 +12,7 @@ use paper::{Answer, Lba};
 use table::Table;
 
 // The offered list, the device and whether one was made, and how many bytes the kept page has, which is lent to each call.
-#[derive(Drop)]
+#[derive(Clone, Copy)]
 pub struct Bench {
     pub offered: Offer,
     pub made: bool,
@@ -19,7 +21,7 @@ pub struct Bench {
 }
 
 fn no_offer() -> Offer
-    ensures { result ≡ spec.noOffer }
+    ensures { result ≡ spec.no_offer }
 {
     let blank = offer::blank();
     Offer {
@@ -30,7 +32,7 @@ fn no_offer() -> Offer
 }
 
 fn no_table() -> Table
-    ensures { result ≡ spec.noTable }
+    ensures { result ≡ spec.no_table }
 {
     let blank = table::blank_part();
     Table {
@@ -41,7 +43,7 @@ fn no_table() -> Table
 }
 
 fn no_cells() -> Cells
-    ensures { result ≡ spec.noCells }
+    ensures { result ≡ spec.no_cells }
 {
     Cells {
         native: Lba(0),
@@ -54,7 +56,7 @@ fn no_cells() -> Cells
 
 // What stands where the first device is made.
 fn no_device() -> Device
-    ensures { result ≡ spec.noDevice }
+    ensures { result ≡ spec.no_device }
 {
     Device {
         table: no_table(),
@@ -65,7 +67,7 @@ fn no_device() -> Device
 
 // The records with one more; those past the 128th have no place.
 fn with_element(elements: [Element; 128], place: usize, e: Element) -> [Element; 128]
-    ensures { result ≡ changes.withElement elements place e }
+    ensures { result ≡ changes.with_element elements place e }
 {
     if 128 <= place {
         return elements;
@@ -89,7 +91,7 @@ fn lengthened(list: Offer, e: Element) -> Offer
 
 // Whether a device is there after one was to be made.
 fn is_made(made: bool, answer: Answer) -> bool
-    ensures { result ≡ changes.isMade made answer }
+    ensures { result ≡ changes.is_made made answer }
 {
     if made {
         return true;
@@ -110,7 +112,7 @@ impl Bench {
     }
 
     pub fn offer(self, e: Element) -> Bench
-        ensures { result ≡ changes.withRecord self e }
+        ensures { result ≡ changes.with_record self e }
     {
         let list = self.offered;
         let longer = lengthened(list, e);
@@ -130,7 +132,7 @@ impl Bench {
 
     // The list is emptied once it was offered; the device is a new one, or the one that was there.
     pub fn after_making(self, s: Stepped) -> Bench
-        ensures { result ≡ changes.afterMaking self s }
+        ensures { result ≡ changes.after_making self s }
     {
         let answer = s.answer;
         let device = s.device;
@@ -143,7 +145,7 @@ impl Bench {
     }
 
     pub fn with_device(self, device: Device) -> Bench
-        ensures { result ≡ changes.withDevice self device }
+        ensures { result ≡ changes.with_device self device }
     {
         let mut next = self;
         next.device = device;
@@ -151,7 +153,7 @@ impl Bench {
     }
 
     pub fn with_kept(self, kept: usize) -> Bench
-        ensures { result ≡ changes.withKept self kept }
+        ensures { result ≡ changes.with_kept self kept }
     {
         let mut next = self;
         next.kept = kept;

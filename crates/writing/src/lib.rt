@@ -1,5 +1,7 @@
 // Words and numbers as text, stored straight into a lent buffer. A writer stores the whole text from a place on and answers where it ends; if it
 // does not fit there, nothing, and the answer is the place itself.
+#![tactic(auto)]
+
 ghost use Rattle.std.specs.Prelude.{◌++◌, ◌≡◌, ◌+◌, ◌^◌, ◌<◌, length};
 ghost use Rattle.slices.specs.Lists.{fits, stored, ended};
 ghost use Rattle.text.specs.Digits.{digits, decimal_of};
@@ -216,7 +218,7 @@ fn put_any(out: &mut [u8], at: usize, n: u64) -> usize
 // ---- A number, made apart and measured
 
 // A short text: the last `count` bytes.
-#[derive(Drop)]
+#[derive(Clone, Copy)]
 struct Spelling {
     bytes: [u8; 20],
     count: usize,

@@ -15,8 +15,8 @@ invariant-loop page n k₀ k = (rows_shown page k ≡ rows_shown page n) × (k �
 abbrev decreases-loop : tie.decreases-loop
 decreases-loop page n k₀ k = k
 
-pub shown-rows_spec : {M : Type 1} → statement M
-shown-rows_spec =
+pub shown_rows_spec : {M : Type 1} → statement M
+shown_rows_spec =
     tie.close
     (tie.spec
     invariant-loop

@@ -4,8 +4,8 @@ use Rattle.kept.proofs.Left.{length_as_given}
 use Rattle.kept.proofs.set_length.Statement.{statement}
 use Rattle.kept.proofs.set_length.Tie as tie
 
-pub set-length_spec : {M : Type 1} → statement M
-set-length_spec =
+pub set_length_spec : {M : Type 1} → statement M
+set_length_spec =
     tie.close
     (tie.spec
     (λ c κs. search rules)

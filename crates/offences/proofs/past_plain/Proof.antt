@@ -14,8 +14,8 @@ invariant-loop page request count o last_at last₀ at₀ last at = (at₀ ≤ a
 abbrev decreases-loop : tie.decreases-loop
 decreases-loop page request count o last_at last₀ at₀ last at = last_at - at
 
-pub past-plain_spec : {M : Type 1} → statement M
-past-plain_spec =
+pub past_plain_spec : {M : Type 1} → statement M
+past_plain_spec =
     tie.close
     (tie.spec
     invariant-loop

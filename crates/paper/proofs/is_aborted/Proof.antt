@@ -11,7 +11,7 @@ is_aborted_spec =
     (tie.spec
     (λ c κs. search rules)
     (λ c κs. search rules)
-    (λ c. omega (arith, row_below c.before.before.args.command, c.before.row.ensures))
-    (λ c. omega (arith, row_below c.before.before.args.command, c.before.row.ensures))
-    (λ c. omega (arith, column_below c.before.before.args.security, c.column.ensures))
-    (λ c. rw (c.before.before.row.ensures, c.before.column.ensures) (grid_right c.before.before.before.args.command c.before.before.before.args.security)))
+    (λ c. omega (arith, row_below c.before.before.args.command, c.before.row-i.ensures))
+    (λ c. omega (arith, row_below c.before.before.args.command, c.before.row-i.ensures))
+    (λ c. omega (arith, column_below c.before.before.args.security, c.column-j.ensures))
+    (λ c. rw (c.before.before.row-i.ensures, c.before.column-j.ensures) (grid_right c.before.before.before.args.command c.before.before.before.args.security)))

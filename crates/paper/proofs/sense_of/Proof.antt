@@ -8,4 +8,4 @@ use Rattle.paper.proofs.sense_of.Tie as tie
 pub sense_of_spec : {M : Type 1} → statement M
 sense_of_spec =
     tie.close
-    (tie.spec (λ c κs. search rules) (λ c κs. search rules) (λ c. c.«sense-at».ensures ∙ ap sense_of c.before.«number_of_lem».ensures))
+    (tie.spec (λ c κs. search rules) (λ c κs. search rules) (λ c. c.sense_at.ensures ∙ ap sense_of c.before.number_of.ensures))

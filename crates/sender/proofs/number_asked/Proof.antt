@@ -13,8 +13,8 @@ invariant-loop request ps hs n number₀ i₀ number i = Counted ps hs request n
 abbrev decreases-loop : tie.decreases-loop
 decreases-loop request ps hs n number₀ i₀ number i = n - i
 
-pub number-asked_spec : {M : Type 1} → statement M
-number-asked_spec =
+pub number_asked_spec : {M : Type 1} → statement M
+number_asked_spec =
     tie.close
     (tie.spec
     invariant-loop

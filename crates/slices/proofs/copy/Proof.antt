@@ -9,10 +9,10 @@ use borrow.Author.Rules.{rules}
 use Rattle.slices.proofs.copy.Statement.{statement}
 use Rattle.slices.proofs.copy.Tie as tie
 
-abbrev invariant-loop : tie.invariant-loop
+abbrev invariant-loop : tie.invariant-loop-k
 invariant-loop buf₀ at b k₀ buf k = (buf ≡ paste buf₀ at b k) × (k ≤ length b) × (length buf ≡ length buf₀)
 
-abbrev decreases-loop : tie.decreases-loop
+abbrev decreases-loop : tie.decreases-loop-k
 decreases-loop buf₀ at b k₀ buf k = length b - k
 
 pub copy_spec : {M : Type 1} → statement M
@@ -29,8 +29,8 @@ copy_spec =
     (λ c. search rules)
     (λ c. let at_loop = c.before.before in
     let a = at_loop.before.args in
-    let i = at_loop.loop in
+    let i = at_loop.loop-k in
     (rw (i.invariant.0, add-one) (paste-suc a.buf.now a.at a.b.now i.k 0 (omega arith) (search rules)), omega arith, simp length-set i.invariant.2))
     (λ c. search rules)
-    (λ c. let e : c.before.loop.k ≡ length c.before.before.args.b.now = omega arith in
-    rw e at c.before.loop.invariant.0))
+    (λ c. let e : c.before.loop-k.k ≡ length c.before.before.args.b.now = omega arith in
+    rw e at c.before.loop-k.invariant.0))

@@ -14,4 +14,4 @@ head_spec =
     (λ c. search rules)
     (λ c. search rules)
     (λ c. rw sub-zero)
-    (λ c. sym (take_all _ _ c.if1.false)))
+    (λ c. sym (take_all _ _ c.if-n-s.false)))

@@ -17,4 +17,4 @@ tail_spec =
     (λ c. search rules)
     (λ c. search rules)
     (λ c. part_end c.before.before.args.s.now c.before.before.args.at)
-    (λ c. sym (drop_of_length-le _ c.before.if1.false)))
+    (λ c. sym (drop_of_length-le _ c.before.if-at-s.false)))

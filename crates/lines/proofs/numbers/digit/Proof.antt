@@ -10,15 +10,15 @@ digit_spec =
     tie.close
     (tie.spec
     (λ c κs. search rules)
-    (λ c. omega (arith, least 48 57 c.before.before.args.c _ c.before.is_Within.ensures c.if1.true))
+    (λ c. omega (arith, least 48 57 c.before.before.args.c _ c.before.is_Within.ensures c.if-is_within.true))
     (λ c. search rules)
     (λ c. search (digit_decimal))
     (λ c κs. search rules)
-    (λ c. omega (arith, least 65 70 c.before.before.before.before.args.c _ c.before.is-within2.ensures c.if2.true))
+    (λ c. omega (arith, least 65 70 c.before.before.before.before.args.c _ c.before.is_within-2.ensures c.if-is_within-2.true))
     (λ c. search rules)
     (λ c. search (digit_upper))
     (λ c κs. search rules)
-    (λ c. omega (arith, least 97 102 c.before.before.before.before.before.before.args.c _ c.before.is-within3.ensures c.if3.true))
+    (λ c. omega (arith, least 97 102 c.before.before.before.before.before.before.args.c _ c.before.is_within-3.ensures c.if-is_within-3.true))
     (λ c. search rules)
     (λ c. search (digit_lower))
     (λ c. search (digit_none)))

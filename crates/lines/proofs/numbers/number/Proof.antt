@@ -8,10 +8,10 @@ use Rattle.lines.proofs.Hexadecimal.{Read, read_none, number-empty, number_long,
 use Rattle.lines.proofs.numbers.number.Statement.{statement}
 use Rattle.lines.proofs.numbers.number.Tie as tie
 
-abbrev invariant-loop : tie.invariant-loop
+abbrev invariant-loop : tie.invariant-loop-i
 invariant-loop w most value₀ i₀ value i = Read most w value i × (length w ≤ 16) × (length w ≡ 0 → ⊥)
 
-abbrev decreases-loop : tie.decreases-loop
+abbrev decreases-loop : tie.decreases-loop-i
 decreases-loop w most value₀ i₀ value i = length w - i
 
 pub number_spec : {M : Type 1} → statement M
@@ -23,18 +23,18 @@ number_spec =
     (λ c κs. search rules)
     (λ c. c.no_number.ensures ∙ search (number-empty))
     (λ c κs. search rules)
-    (λ c. c.no-number2.ensures ∙ search (number_long))
+    (λ c. c.no_number-then-w-gt16.ensures ∙ search (number_long))
     (λ c. (read_none _ _, search rules, search rules))
     (λ c. search rules)
     (λ c κs. search rules)
     (λ c κs. search rules)
-    (λ c. c.no-number3.ensures ∙ search (number_none))
-    (λ c. let l = c.before.before.before.before.loop in
+    (λ c. c.no_number-then-d-eq16.ensures ∙ search (number_none))
+    (λ c. let l = c.before.before.before.before.loop-i in
     let s = c.before.before.before.before.before.before.before.before.args in
     omega (arith, value_small s.most s.w.now l.value l.i l.invariant.0 l.invariant.1 (omega arith)))
-    (λ c. let l = c.before.before.before.before.loop in
+    (λ c. let l = c.before.before.before.before.loop-i in
     let s = c.before.before.before.before.before.before.before.before.args in
-    let d = c.before.digit in
+    let d = c.before.digit-d in
     omega (
       arith,
       value_small s.most s.w.now l.value l.i l.invariant.0 l.invariant.1 (omega arith),
@@ -44,5 +44,5 @@ number_spec =
     (λ c. search rules)
     (λ c. (search (read_more), search rules, search rules))
     (λ c κs. search rules)
-    (λ c. c.no-number4.ensures ∙ search (number_above))
+    (λ c. c.no_number-then-most-value.ensures ∙ search (number_above))
     (λ c. search (number_is)))

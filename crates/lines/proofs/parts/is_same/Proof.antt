@@ -5,14 +5,14 @@ use native.Mathlib.Omega.{arith}
 use lib.ListN.{length, drop}
 use borrow.Author.Rules.{rules}
 use Rattle.lines.specs.Parts.{same}
-use Rattle.lines.proofs.Words.{same-not_long, same_next, same_stop, same_end}
+use Rattle.lines.proofs.Words.{same_not_long, same_next, same_stop, same_end}
 use Rattle.lines.proofs.parts.is_same.Statement.{statement}
 use Rattle.lines.proofs.parts.is_same.Tie as tie
 
-abbrev invariant-loop : tie.invariant-loop
+abbrev invariant-loop : tie.invariant-loop-i
 invariant-loop a b i₀ i = (same (drop i a) (drop i b) ≡ same a b) × (length a ≡ length b) × (i ≤ length a)
 
-abbrev decreases-loop : tie.decreases-loop
+abbrev decreases-loop : tie.decreases-loop-i
 decreases-loop a b i₀ i = length a - i
 
 pub is_same_spec : {M : Type 1} → statement M
@@ -21,7 +21,7 @@ is_same_spec =
     (tie.spec
     invariant-loop
     decreases-loop
-    (λ c. search (same-not_long))
+    (λ c. search (same_not_long))
     (λ c. (refl, search rules, omega arith))
     (λ c. search rules)
     (λ c. search rules)

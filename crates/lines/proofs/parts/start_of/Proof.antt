@@ -9,10 +9,10 @@ use Rattle.lines.proofs.Words.{first_word, next_word}
 use Rattle.lines.proofs.parts.start_of.Statement.{statement}
 use Rattle.lines.proofs.parts.start_of.Tie as tie
 
-abbrev invariant-loop : tie.invariant-loop
+abbrev invariant-loop : tie.invariant-loop-i
 invariant-loop line k at₀ i₀ at i = (drop at line ≡ from_word i line) × (at ≤ length line) × (i ≤ k)
 
-abbrev decreases-loop : tie.decreases-loop
+abbrev decreases-loop : tie.decreases-loop-i
 decreases-loop line k at₀ i₀ at i = k - i
 
 pub start_of_spec : {M : Type 1} → statement M
@@ -28,6 +28,6 @@ start_of_spec =
     (λ c. search rules)
     (λ c. search rules)
     (λ c. (search (next_word), search rules, omega arith))
-    (λ c. let l = c.before.loop in
+    (λ c. let l = c.before.loop-i in
     let all : l.i ≡ c.before.before.before.before.args.k = omega arith in
     (rw all at l.invariant.0, l.invariant.1)))

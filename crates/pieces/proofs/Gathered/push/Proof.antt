@@ -10,5 +10,5 @@ push_spec =
     (tie.spec
     (λ c. search rules)
     (λ c. search rules)
-    (λ c. simp (lt-ltb _ _ c.if1.true))
-    (λ c. simp (le-ltb _ _ c.if1.false)))
+    (λ c. simp (lt-ltb _ _ c.if-at-lt200.true))
+    (λ c. simp (le-ltb _ _ c.if-at-lt200.false)))

@@ -8,10 +8,10 @@ use Rattle.pieces.proofs.Gathered.take.Statement.{statement}
 use Rattle.pieces.proofs.Gathered.take.Tie as tie
 use Rattle.pieces.proofs.Gathering.{taken_newline, taken_more, taken_end}
 
-abbrev invariant-loop : tie.invariant-loop
+abbrev invariant-loop : tie.invariant-loop-at
 invariant-loop piece from line₀ at₀ line at = taken_from line (drop at piece) at ≡ taken_from line₀ (drop from piece) from
 
-abbrev decreases-loop : tie.decreases-loop
+abbrev decreases-loop : tie.decreases-loop-at
 decreases-loop piece from line₀ at₀ line at = length piece - at
 
 pub take_spec : {M : Type 1} → statement M
