@@ -93,7 +93,8 @@ INSTEAD = {}
 
 def lemmas(text, crates):
     """The lemmas that a file of proofs/ states or imports from one."""
-    found = set(re.findall(r"^[ ]*(?:pub )?([^\s:]+) : ", text, re.M))
+    stated = re.sub(r"^(?:pub )?(?:record|data) [^\n]*where\n(?:[ ]+[^\n]*\n|\n)*", "", text, flags=re.M)
+    found = set(re.findall(r"^[ ]*(?:pub )?([^\s:]+) : ", stated, re.M))
     for path, names in USE.findall(text):
         if re.match(r"Rattle\.[\w]+\.proofs\.", path) and path.split(".")[1] in crates and not MADE.search(path):
             found |= {n.strip() for n in names.split(",")}
@@ -193,6 +194,21 @@ class Speller:
         return self.aliased("\n".join(lines), r"^[ \t]*ghost use ")
 
 
+def undotted(text):
+    return {m.group(0) for m in TOKEN.finditer(text) if m.start() == 0 or text[m.start() - 1] != "."}
+
+
+def unlengthened(texts):
+    """Takes `_lem` off again where no file has the plain word beside it. texts: the new text of each file, changed in place."""
+    found = {p: undotted(uncommented(t)) for p, t in texts.items()}
+    longer = {w for words in found.values() for w in words if re.match(r"[a-z]\w*_lem$", w)}
+    stays = {w for w in longer if any(w in words and w[:-4] in words for words in found.values())}
+    for p, t in texts.items():
+        for w in sorted((longer - stays) & found[p]):
+            t = re.sub(r"(?<![\w'-])" + re.escape(w) + r"(?![\w'-])", w[:-4], t)
+        texts[p] = t
+
+
 def fields_of(root):
     found = set()
     for p in files(root, ".antt"):
@@ -212,6 +228,7 @@ def main():
         new[p] = s.antt(text_of(p), fields, "/proofs/" in p)
     for p in antt:  # again, for the names in backticks that a later file defines
         new[p] = s.antt(text_of(p), fields, "/proofs/" in p)
+    unlengthened(new)
     for p in rt:
         new[p] = s.source(text_of(p))
     pages = [os.path.join(root, "README.md")] + sorted(os.path.join(root, "docs", n) for n in os.listdir(os.path.join(root, "docs")) if n.endswith(".md"))

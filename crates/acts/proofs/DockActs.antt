@@ -21,17 +21,17 @@ module _ (b : Bench) (c : Dock) (page lent source after part : List ℕ) (r : Do
   answer : heard r ≡ dock_answer b c page lent
   answer = is_r ∙ ap (λ (s : List ℕ). answered_by b.device c s lent) is_source
 
-  number_lem : n ≡ (dock_answer b c page lent).number
-  number_lem = is_n ∙ ap (λ (a : Answered). a.number) answer
+  number : n ≡ (dock_answer b c page lent).number
+  number = is_n ∙ ap (λ (a : Answered). a.number) answer
 
   bytes : part ≡ dock_bytes b c page lent
   bytes = is_part ∙ (λ i. take ((is_m ∙ ap (λ (a : Answered). a.count) answer) i) (dock_lent_lem b c page lent source after is_source is_after i))
 
   pub dock_page_lem : (x : List ℕ) → x ≡ page_data n part page → x ≡ dock_page b c page lent
-  dock_page_lem x is_x = is_x ∙ (λ i. page_data (number_lem i) (bytes i) page)
+  dock_page_lem x is_x = is_x ∙ (λ i. page_data (number i) (bytes i) page)
 
   pub dock_act : (k : ℕ) (x : Bench) (z : Act) → k ≡ kept_data n b.kept part page → x ≡ with_kept b k → z ≡ act x (docked (heard r)) → z ≡ after_dock b c page lent
   dock_act k x z is_k is_x is_z =
       is_z
       ∙ (λ i. act ((is_x ∙ ap (with_kept b) is_k) i) (docked (answer i)))
-      ∙ (λ i. act (with_kept b (kept_data (number_lem i) b.kept (bytes i) page)) (docked (dock_answer b c page lent)))
+      ∙ (λ i. act (with_kept b (kept_data (number i) b.kept (bytes i) page)) (docked (dock_answer b c page lent)))

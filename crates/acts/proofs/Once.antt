@@ -1,7 +1,7 @@
 -- No second reply fits the promise of a line's call (specs/Promises): `reply_of` undoes `heard`.
 use mathlib.Core.Path.{◌≡◌, refl, sym, ap, ◌∙◌}
 use Rattle.docking.proofs.Once.{docked_of, docked_undone}
-use Rattle.paper.proofs.Once.{answer_of_lem, answer_number}
+use Rattle.paper.proofs.Once.{answer_of, answer_number}
 use Rattle.acts.specs.Acts.{Saying, nothing, not_acall, no_device, outside, long_now, answered, commanded, cells, reads, walks, reads_scsi, docked, heard, Act}
 use Rattle.acts.specs.Promises.{OneAct}
 use Rattle.acts.specs.declared.Reply.TheVariants as replies
@@ -13,8 +13,8 @@ reply_of not_acall = replies.NotACall
 reply_of no_device = replies.NoDevice
 reply_of outside = replies.Outside
 reply_of (long_now n) = replies.Length n
-reply_of (answered n) = replies.Answer (answer_of_lem n)
-reply_of (commanded n room count) = replies.Command (record { answer = answer_of_lem n; room = room; count = count })
+reply_of (answered n) = replies.Answer (answer_of n)
+reply_of (commanded n room count) = replies.Command (record { answer = answer_of n; room = room; count = count })
 reply_of cells = replies.Cells
 reply_of (reads q) = replies.Read q
 reply_of (walks q) = replies.Next q

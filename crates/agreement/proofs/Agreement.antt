@@ -28,7 +28,7 @@ use Rattle.reader.proofs.LayoutTheorem.{and_both, asked_to, type_exactly, health
 use Rattle.reader.proofs.Taken.{Listed, Taken, takes}
 use Rattle.reader.specs.Judgement.{header, slot_of}
 use Rattle.reader.specs.declared.Slot.TheVariants.{Holds}
-use Rattle.request.proofs.Requests.{accepted_lem}
+use Rattle.request.proofs.Requests.{accepted}
 use Rattle.request.specs.Requests.{filter_of, report_type_of, pages_of, refused, takes_id, takes_type}
 use Rattle.request.specs.declared.Request.{Request}
 use Rattle.slices.proofs.Lists.{length-keep, length-up_to, every_take, every_keep, every_at, every_below, kept_all}
@@ -188,7 +188,7 @@ module _ (d : Device) (q : Request) (fits : Fits d) (asc : ascending 0 (identifi
 
   padding_here : (i : ℕ) → i < length (page_of d q) - base_of n → get_or (page_of d q) (base_of n + i) 0 ≡ 0
   padding_here i l =
-      let whole = whole_pages d q (accepted_lem q ok).2 in
+      let whole = whole_pages d q (accepted q ok).2 in
       let front : List ℕ = laid Little (header_of d q) listed in
       let long : length front ≡ base_of n = length-laid Little (header_of d q) listed ∙ ap base_of listed-length in
       ap (λ (s : List ℕ). get_or s (base_of n + i) 0) page_is
@@ -198,11 +198,11 @@ module _ (d : Device) (q : Request) (fits : Fits d) (asc : ascending 0 (identifi
   returned_here : (header_in Little (page_of d q)).returned ≡ n
   returned_here = ap (λ (h : Header). h.returned) header_here
 
-  keeps_lem : Taken Little (page_of d q) q
-  keeps_lem =
+  keeps : Taken Little (page_of d q) q
+  keeps =
       record {
         asked = asked_to q ok;
-        long = whole_pages d q (accepted_lem q ok).2;
+        long = whole_pages d q (accepted q ok).2;
         returned = returned_here ∙ ap (λ (h : Header). returned_of h.number (pages_of q)) (sym header_here);
         list = λ k l. list_here d q fits asc Little (page_of d q) n (omega arith) descriptor_here k (rw returned_here at l);
         padding = subst (λ (m : ℕ). (i : ℕ) → i < length (page_of d q) - base_of m → get_or (page_of d q) (base_of m + i) 0 ≡ 0) (sym returned_here) padding_here;
@@ -215,4 +215,4 @@ module _ (d : Device) (q : Request) (fits : Fits d) (asc : ascending 0 (identifi
 
 pub agrees : Agrees
 agrees d q fits asc ok =
-    (takes Little (page_of d q) q (keeps_lem d q fits asc ok) ∙ ap (λ (h : Header). tells 0 (header h)) (header_here d q fits asc ok), slot_here d q fits asc ok)
+    (takes Little (page_of d q) q (keeps d q fits asc ok) ∙ ap (λ (h : Header). tells 0 (header h)) (header_here d q fits asc ok), slot_here d q fits asc ok)

@@ -54,9 +54,9 @@ unfolding refused
 G4 = refl
 
 -- the highest start, and bits above LBA 47: N = 0, and only byte 12 (02h) is not 0
-empty_lem : shown device_a Unlocked (request 0x4100 1 0xFFFF_0000_FFFF_FFFF) (old 512) ≡ tells 0 (zeros 12 ++ (0x02 ∷ zeros 499))
+empty : shown device_a Unlocked (request 0x4100 1 0xFFFF_0000_FFFF_FFFF) (old 512) ≡ tells 0 (zeros 12 ++ (0x02 ∷ zeros 499))
 unfolding shown_of asks list_of page_of refused takes_health
-empty_lem = refl
+empty = refl
 
 -- a reserved bit comes before the buffer
 reserved : shown device_a Unlocked (request 0x4100 1 0x1_0000_0000) (old 511) ≡ tells 4 (old 511)

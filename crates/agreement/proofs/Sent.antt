@@ -75,8 +75,8 @@ module _ (o : Order) (d : Device) (q : Query) (fits : Fits d) where
     here : (k : ℕ) → k < whole → descriptor_at o s k ≡ get_or list k none
     here k l = cut_descriptor o (data_of o d q) a k (inside k l) ∙ data_descriptor k (omega arith)
 
-    keeps_lem : Taken o s q
-    keeps_lem =
+    keeps : Taken o s q
+    keeps =
         record {
           there = omega (arith, long);
           fields = not_due q ok;
@@ -86,7 +86,7 @@ module _ (o : Order) (d : Device) (q : Query) (fits : Fits d) where
         }
 
     taken : read_of o s q ≡ tells 0 (reading (sent_header d q) whole (torn_of n (length s)))
-    taken = takes o s q keeps_lem ∙ (λ i. tells 0 (reading (header_here i) (whole_of (number_here i) (length s)) (torn_of (number_here i) (length s))))
+    taken = takes o s q keeps ∙ (λ i. tells 0 (reading (header_here i) (whole_of (number_here i) (length s)) (torn_of (number_here i) (length s))))
 
     slot_here : (k : ℕ) → k < whole → slot_of o s k ≡ Holds (get_or list k none)
     slot_here k l =

@@ -55,4 +55,4 @@ grade_is l id health is_id is_health a is_a r is_r = is_r ∙ rw (is_a, is_id, i
 pub poke_is : (l : List ℕ) (place byte : Field) → place ≡ field_at l 1 most_place → byte ≡ field_at l 2 most8 → (a : Bool) → a ≡ (place.fits && byte.fits)
     → (r : Line) → r ≡ cond a (Page (Poke (record { place = place.value; byte = byte.value }))) NotACall → r ≡ poke_of l
 unfolding poke_of
-poke_is l place byte is_place is_byte_lem a is_a r is_r = is_r ∙ rw (is_a, is_place, is_byte_lem)
+poke_is l place byte is_place is_byte a is_a r is_r = is_r ∙ rw (is_a, is_place, is_byte)

@@ -43,9 +43,9 @@ long_bad count es limit h = simp (lt-leb count 128 h, and-false)
 
 module _ (es : List Element) (limit : ℕ) where
   -- the check of the offer goes by the list
-  alike_lem : {A : Type 0} (f : List Element → A) (x : A)
+  alike : {A : Type 0} (f : List Element → A) (x : A)
       → cond (good (length es) (offered (offer_of es limit)) limit) (f (offered (offer_of es limit))) x ≡ cond (good (length es) es limit) (f es) x
-  alike_lem {A} f x = go (leb (length es) 128) refl
+  alike {A} f x = go (leb (length es) 128) refl
     where
       go : (b : Bool) → leb (length es) 128 ≡ b
           → cond (good (length es) (offered (offer_of es limit)) limit) (f (offered (offer_of es limit))) x ≡ cond (good (length es) es limit) (f es) x
@@ -56,7 +56,7 @@ module _ (es : List Element) (limit : ℕ) where
 
   pub check_offer : check_of (offer_of es limit) ≡ check_list es limit
   unfolding check_of check_list
-  check_offer = alike_lem (λ (l : List Element). tells 0 (block_sum l ∷ [])) (tells 8 [])
+  check_offer = alike (λ (l : List Element). tells 0 (block_sum l ∷ [])) (tells 8 [])
 
 pub find_offer : (es : List Element) (id : ℕ) → cond (leb (length es) 128) (find id (take (length es) (array_of es))) Missing ≡ find_list id es
 unfolding find_list
@@ -83,7 +83,7 @@ long_list_refused d es limit id h = rw (long_bad (length es) es limit h, lt-leb 
 
 pub made_alike : MadeAlike
 unfolding made_of made_from
-made_alike d es limit = sym (alike_lem es limit (λ (l : List Element). tells 0 (fresh (offer_of es limit))) (tells 8 d))
+made_alike d es limit = sym (alike es limit (λ (l : List Element). tells 0 (fresh (offer_of es limit))) (tells 8 d))
 
 pub refused_list_leaves : RefusedListLeaves
 unfolding made_from

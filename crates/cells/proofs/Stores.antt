@@ -98,8 +98,8 @@ module _ (c : Cells) where
     pub marked_health : s ≡ Marked place → hs ≡ set old place 0xFF → hs ≡ (make s c).healths
     marked_health e q = q ∙ rw (is_old, e)
 
-    pub graded_health_lem : (h : ℕ) → s ≡ Graded place h → hs ≡ set old place h → hs ≡ (make s c).healths
-    graded_health_lem h e q = q ∙ rw (is_old, e)
+    pub graded_health : (h : ℕ) → s ≡ Graded place h → hs ≡ set old place h → hs ≡ (make s c).healths
+    graded_health h e q = q ∙ rw (is_old, e)
 
   -- the cells built of them
   pub made : (s : Store) (n a : Lba) (hs : List ℕ) (f : Mark) (m : Note)

@@ -124,21 +124,21 @@ module _ (s t : List ℕ) (l : Line) (sign : ℕ) (is_sign : sign ≡ sign_of l)
   begun : (k : Line) → l ≡ k → Puts d at (signed (sign_of k ∷ 32 ∷ []) (handed s t k)) x m
   begun k so = subst (λ (u : List ℕ). Puts d at u x m) ((λ i. signed (is_sign i ∷ 32 ∷ []) (is_e i)) ∙ (λ i. signed (sign_of (so i) ∷ 32 ∷ []) (handed s t (so i)))) first
 
-  said_lem : (k : Line) → l ≡ k → (y : List ℕ) (r : ℕ) → Puts d at (body_of s t k) y r → Puts d at (body_of s t l) y r
-  said_lem k so y r = subst⁻¹ (λ (j : Line). Puts d at (body_of s t j) y r) so
+  said : (k : Line) → l ≡ k → (y : List ℕ) (r : ℕ) → Puts d at (body_of s t k) y r → Puts d at (body_of s t l) y r
+  said k so y r = subst⁻¹ (λ (j : Line). Puts d at (body_of s t j) y r) so
 
   pub said_older : (k : ℕ) → l ≡ OnlyOlder k → Puts d at (body_of s t l) x m
-  said_older k so = said_lem (OnlyOlder k) so x m (begun (OnlyOlder k) so)
+  said_older k so = said (OnlyOlder k) so x m (begun (OnlyOlder k) so)
 
   pub said_newer : (k : ℕ) → l ≡ OnlyNewer k → Puts d at (body_of s t l) x m
-  said_newer k so = said_lem (OnlyNewer k) so x m (begun (OnlyNewer k) so)
+  said_newer k so = said (OnlyNewer k) so x m (begun (OnlyNewer k) so)
 
   pub said-changed : (c : Cursor) → l ≡ Changed c → (y : List ℕ) (r : ℕ) → Puts x m (older_text s c.older) y r → Puts d at (body_of s t l) y r
   unfolding older_of
   said-changed c so y r last =
       let new : List ℕ = signed (ascii "~ ") (handed s t (Changed c)) in
       let both : Puts d at (new ++ older_text s c.older) y r = puts_more d x at m new (older_text s c.older) y r last (begun (Changed c) so) in
-      said_lem (Changed c) so y r
+      said (Changed c) so y r
       (subst (λ (u : List ℕ). Puts d at u y r) (sym (append_assoc new (ascii " <- ") (values_of (handed_at s c.older)))) both)
 
 pub line_puts : (s t : List ℕ) (l : Line) (d x y : List ℕ) (at m r : ℕ) → Puts d at (body_of s t l) x m

@@ -21,10 +21,10 @@ pub record Ascends (s : List ℕ) : Type 0 where
   pub some : (k : ℕ) → k < count_of s → 1 ≤ id_at s k
   pub rise : (j k : ℕ) → j < k → k < count_of s → id_at s j < id_at s k
 
-module _ (s : List ℕ) (q : Request) (is_accepted_lem : accepted s q ≡ true) where
+module _ (s : List ℕ) (q : Request) (is_accepted : accepted s q ≡ true) where
   pub is_taken : Taken Little s q
   unfolding accepted
-  is_taken = taken Little s q (eqb-true (read_of Little s q).number 0 is_accepted_lem)
+  is_taken = taken Little s q (eqb-true (read_of Little s q).number 0 is_accepted)
 
   -- a page of p times 512 bytes has room for 16p - 1 descriptors
   pub count_room : count_of s ≤ 16 * pages_of q - 1

@@ -29,9 +29,9 @@ older = page 3 3 (element 1 0x20 ∷ element 3 0x10 ∷ element 0x10003 0x70 ∷
 abbrev pub newer : List ℕ
 newer = page 3 3 (element 3 0x10 ∷ element 4 0 ∷ element 0x10003 0xFF ∷ [])
 
-walked_lem : walk_from older newer first ≡ OnlyOlder 0 ∷ OnlyNewer 1 ∷ Changed (cursor 2 2) ∷ []
+walked : walk_from older newer first ≡ OnlyOlder 0 ∷ OnlyNewer 1 ∷ Changed (cursor 2 2) ∷ []
 unfolding count_of element_at reach_of bound_of key_at agree_at step_at past next_to next_of walk walk_from
-walked_lem = refl
+walked = refl
 
 -- cut after 3: 4 and what is above it are not compared
 unfoldable pub cut : List ℕ

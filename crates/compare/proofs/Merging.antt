@@ -78,13 +78,13 @@ module _ (s t : List ℕ) where
         skip (m - a) (suc (end.0 - m)) n a m (omega (arith, all)) (omega arith) (nowhere m l r)
         ∙ ap (λ (k : ℕ). difference_at s t (numbered m) ++ differences_in s t k (end.0 - m)) (sym (add-one m))
 
-    steps_lem : (r : Step) → agree_at s t (frame_of s t) c ≡ false → r ≡ step_at s t (frame_of s t) c → r ≡ next_of s t c
+    steps : (r : Step) → agree_at s t (frame_of s t) c ≡ false → r ≡ step_at s t (frame_of s t) c → r ≡ next_of s t c
     unfolding next_of
-    steps_lem r n is_r = next_here s t (frame_of s t) c n r is_r
+    steps r n is_r = next_here s t (frame_of s t) c n r is_r
 
     finds : (r : Step) → agree_at s t (frame_of s t) c ≡ false → min x y ≤ end.0 → r ≡ found_by x y c → r ≡ next_of s t c
     unfolding x y
-    finds r n l is_r = steps_lem r n (step_by_lem s t (frame_of s t) c x y refl refl r (step_found x y end c (min x y) refl l r is_r))
+    finds r n l is_r = steps r n (step_by_lem s t (frame_of s t) c x y refl refl r (step_found x y end c (min x y) refl l r is_r))
 
     apart : (x ≡ y → ⊥) → agree_at s t (frame_of s t) c ≡ false
     unfolding x y
@@ -103,7 +103,7 @@ module _ (s t : List ℕ) where
     none_left : end.0 < x → end.0 < y → Right c a n
     unfolding x y differences_in Right
     none_left l r =
-        walk_done s t c (steps_lem Done (beyond l) (step_by_lem s t (frame_of s t) c x y refl refl Done (step_done x y end c (min x y) refl (le-min l r))))
+        walk_done s t c (steps Done (beyond l) (step_by_lem s t (frame_of s t) c x y refl refl Done (step_done x y end c (min x y) refl (le-min l r))))
         ∙ sym (skip n 0 n a (a + n) (omega arith) refl (nowhere (a + n) (omega (arith, all)) (omega (arith, all))))
 
     only_older : x < y → x ≤ end.0 → Right c a n
@@ -167,9 +167,9 @@ module _ (s t : List ℕ) where
           walk_ends s t c ∙ ap (λ (r : Step). after r (walk_from s t)) next ∙ sym (walk_ends s t on) ∙ rest
           ∙ ap (λ (ls : List Line). ls ++ differences_in s t (x + 1) (end.0 - x)) (sym none)
 
-      changed_lem : alike (element_at s c.older) (element_at t c.newer) ≡ false → walk_from s t c ≡ difference_at s t (numbered x) ++ differences_in s t (x + 1) (end.0 - x)
+      changed : alike (element_at s c.older) (element_at t c.newer) ≡ false → walk_from s t c ≡ difference_at s t (numbered x) ++ differences_in s t (x + 1) (end.0 - x)
       unfolding x y on
-      changed_lem e =
+      changed e =
           let line : difference_at s t (numbered x) ≡ Changed c ∷ [] = both_stand ∙ ap (λ (b : Bool). cond b [] (Changed c ∷ [])) e in
           walk-found s t c _
           (finds _ (sym agree ∙ e) (omega (arith, in_end, min-le_left x y)) (found-changed x y c _ (omega (arith, same)) (omega (arith, same)) refl))
@@ -182,7 +182,7 @@ module _ (s t : List ℕ) where
         where
           by_test : (b : Bool) → alike (element_at s c.older) (element_at t c.newer) ≡ b → walk_from s t c ≡ difference_at s t (numbered x) ++ differences_in s t (x + 1) (end.0 - x)
           by_test true e = unchanged e
-          by_test false e = changed_lem e
+          by_test false e = changed e
 
     right_here : Right c a n
     right_here = by_tests (ltb x y) refl (ltb y x) refl (ltb end.0 (min x y)) refl

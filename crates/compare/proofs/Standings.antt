@@ -20,9 +20,9 @@ module _ (s : List ℕ) (id : ElementId) where
   none_of zero f = refl
   none_of (suc n) f = rw (ne_eqb (id_at s n) id.0 (f n (omega arith))) (none_of n (λ k l. f k (omega arith)))
 
-  one_of_lem : (n k : ℕ) → k < n → id_at s k ≡ id.0 → ((j : ℕ) → j < n → id_at s j ≡ id.0 → j ≡ k) → standing_in s n id ≡ stands k
-  one_of_lem zero k l e f = absurd (omega arith)
-  one_of_lem (suc n) k l e f = by_test (eqb (id_at s n) id.0) refl (λ m. one_of_lem n k m e (λ j i. f j (omega arith)))
+  one_of : (n k : ℕ) → k < n → id_at s k ≡ id.0 → ((j : ℕ) → j < n → id_at s j ≡ id.0 → j ≡ k) → standing_in s n id ≡ stands k
+  one_of zero k l e f = absurd (omega arith)
+  one_of (suc n) k l e f = by_test (eqb (id_at s n) id.0) refl (λ m. one_of n k m e (λ j i. f j (omega arith)))
     where
       by_test : (b : Bool) → eqb (id_at s n) id.0 ≡ b → (k < n → standing_in s n id ≡ stands k) → cond b (stands n) (standing_in s n id) ≡ stands k
       by_test true p g = ap stands (f n (omega arith) (eqb-true _ _ p))
@@ -36,7 +36,7 @@ module _ (s : List ℕ) (id : ElementId) where
 
 -- identifiers before the place are below a, those from there on are not
 pub record Split (s : List ℕ) (i a : ℕ) : Type 0 where
-  pub below_lem : (k : ℕ) → k < i → k < count_of s → id_at s k < a
+  pub below : (k : ℕ) → k < i → k < count_of s → id_at s k < a
   pub above : (k : ℕ) → i ≤ k → k < count_of s → a ≤ id_at s k
 
 module _ (s : List ℕ) (up : Ascends s) (i : ℕ) (end : ElementId) where
@@ -56,10 +56,10 @@ module _ (s : List ℕ) (up : Ascends s) (i : ℕ) (end : ElementId) where
     -- an identifier between the two stands nowhere
     pub between : (id : ElementId) → a ≤ id.0 → id.0 < key_at s (count_of s) i end → standing s id ≡ absent
     unfolding standing
-    between id low high = none_of s id (count_of s) other_lem
+    between id low high = none_of s id (count_of s) other
       where
-        other_lem : (k : ℕ) → k < count_of s → id_at s k ≡ id.0 → ⊥
-        other_lem k l e = by_test (ltb k i) refl
+        other : (k : ℕ) → k < count_of s → id_at s k ≡ id.0 → ⊥
+        other k l e = by_test (ltb k i) refl
           where
             by_test : (b : Bool) → ltb k i ≡ b → ⊥
             by_test true p = omega (arith, split.below k (ltb-true _ _ p) l)
@@ -69,7 +69,7 @@ module _ (s : List ℕ) (up : Ascends s) (i : ℕ) (end : ElementId) where
     pub nearer_to : (m : ℕ) → a ≤ m → m ≤ key_at s (count_of s) i end → Split s i m
     nearer_to m low high =
         record {
-          below_lem = λ k l n. omega (arith, split.below k l n);
+          below = λ k l n. omega (arith, split.below k l n);
           above = λ k l n. omega (arith, from_there k l n);
         }
 
@@ -82,7 +82,7 @@ module _ (s : List ℕ) (up : Ascends s) (i : ℕ) (end : ElementId) where
 
       pub stands_there : standing s (record { 0 = m }) ≡ stands i
       unfolding standing
-      stands_there = one_of_lem s (record { 0 = m }) (count_of s) i there (omega (arith, is_m, within_is there)) only
+      stands_there = one_of s (record { 0 = m }) (count_of s) i there (omega (arith, is_m, within_is there)) only
         where
           only : (j : ℕ) → j < count_of s → id_at s j ≡ m → j ≡ i
           only j l e = by_tests (ltb j i) refl (ltb i j) refl
@@ -95,7 +95,7 @@ module _ (s : List ℕ) (up : Ascends s) (i : ℕ) (end : ElementId) where
       pub past_it : Split s (i + 1) (m + 1)
       past_it =
           record {
-            below_lem = λ k l n. omega (arith, is_m, within_is there, before k (omega arith) n);
+            below = λ k l n. omega (arith, is_m, within_is there, before k (omega arith) n);
             above = λ k l n. omega (arith, is_m, within_is there, up.rise i k (omega arith) n);
           }
         where

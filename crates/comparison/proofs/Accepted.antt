@@ -29,15 +29,15 @@ tag : Values → ℕ
 tag (bound b) = 0
 tag (turn w) = 1
 
-refused_lem : {A : Type 0} (w : Turn) (b : Bound) → turn w ≡ bound b → A
+refused : {A : Type 0} (w : Turn) (b : Bound) → turn w ≡ bound b → A
 unfolding tag
-refused_lem w b e = absurd (let away : ◌≡◌ {A = ℕ} 1 0 = ap tag e in omega arith)
+refused w b e = absurd (let away : ◌≡◌ {A = ℕ} 1 0 = ap tag e in omega arith)
 
 opened : (x y : Bool) (m b : Bound)
     → (cond x (cond y (tells 0 (bound m)) (tells 9 (turn Newer))) (tells 9 (turn Older))).state ≡ bound b → (x ≡ true) × (y ≡ true)
 opened true true m b e = (refl, refl)
-opened true false m b e = refused_lem Newer b e
-opened false y m b e = refused_lem Older b e
+opened true false m b e = refused Newer b e
+opened false y m b e = refused Older b e
 
 module _ (s t : List ℕ) (b : Bound) where
   both_accepted : (judged s t).state ≡ bound b → (length s ≤ 65536) × (accepted s (request_of s) ≡ true) × (accepted t (request_of s) ≡ true)
@@ -46,7 +46,7 @@ module _ (s t : List ℕ) (b : Bound) where
     where
       by_test : (x : Bool) → ltb 65536 (length s) ≡ x → (cond x (tells 9 (turn Older)) (open_of s t (request_of s))).state ≡ bound b
           → (length s ≤ 65536) × (accepted s (request_of s) ≡ true) × (accepted t (request_of s) ≡ true)
-      by_test true e v = refused_lem Older b v
+      by_test true e v = refused Older b v
       by_test false e v =
           let both = opened (accepted s (request_of s)) (accepted t (request_of s)) (bound_of s t) b v in
           (ltb-false _ _ e, both.0, both.1)
@@ -69,8 +69,8 @@ lines_walked : (s t : List ℕ) → walk_from s t first ≡ differences_of s t �
 unfolding lines_from
 lines_walked s t e = ap (lines_of s t) e
 
-walked_lem : (s t : List ℕ) → lines_from (is_accepted (judged s t).state) s t first ≡ lines_of s t (differences_for s t (judged s t).state)
-walked_lem s t = by_state (judged s t).state refl
+walked : (s t : List ℕ) → lines_from (is_accepted (judged s t).state) s t first ≡ lines_of s t (differences_for s t (judged s t).state)
+walked s t = by_state (judged s t).state refl
   where
     by_state : (v : Values) → (judged s t).state ≡ v → lines_from (is_accepted v) s t first ≡ lines_of s t (differences_for s t v)
     by_state (turn w) e = lines_none s t first
@@ -78,4 +78,4 @@ walked_lem s t = by_state (judged s t).state refl
 
 pub by_walk : (s t : List ℕ) → comparison_of s t ≡ lines_from (is_accepted (judged s t).state) s t first ++ last_line (judged s t).state
 unfolding comparison_of
-by_walk s t = sym (rw (walked_lem s t))
+by_walk s t = sym (rw (walked s t))

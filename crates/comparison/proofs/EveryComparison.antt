@@ -60,11 +60,11 @@ module _ (s t : List ℕ) where
 
   status : (v : Values) → status_of (lines_of s t (differences_for s t v) ++ last_line v) ≡ status_for v (differences_of s t)
   status (bound b) = status_lines b (differences_of s t)
-  status (turn w) = refused_lem w
+  status (turn w) = refused w
     where
-      refused_lem : (w : Turn) → status_of (refused_line w) ≡ 2
-      refused_lem Older = refl
-      refused_lem Newer = refl
+      refused : (w : Turn) → status_of (refused_line w) ≡ 2
+      refused Older = refl
+      refused Newer = refl
 
 pub tells_status : TellsStatus
 unfolding comparison_of

@@ -20,13 +20,13 @@ use Rattle.comparison.proofs.Accepted.{counts, lines_none}
 -- ## The walk's lines
 
 module _ (s t : List ℕ) where
-  length_of_lem : (ls : List Line) → length (lines_of s t ls) ≤ 38 * sum passed ls
-  length_of_lem [] = omega arith
-  length_of_lem (l ∷ ls) = omega (arith, line_passes s t l, length_of_lem ls, length-append (line_of s t l) (lines_of s t ls))
+  length_of : (ls : List Line) → length (lines_of s t ls) ≤ 38 * sum passed ls
+  length_of [] = omega arith
+  length_of (l ∷ ls) = omega (arith, line_passes s t l, length_of ls, length-append (line_of s t l) (lines_of s t ls))
 
   length_from : (c : Cursor) → length (lines_from true s t c) ≤ 38 * ahead s t c
   unfolding lines_from
-  length_from c = omega (arith, length_of_lem (walk_from s t c), few s t c)
+  length_from c = omega (arith, length_of (walk_from s t c), few s t c)
 
 -- ## The whole text
 

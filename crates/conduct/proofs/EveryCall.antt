@@ -25,7 +25,7 @@ use Rattle.table.proofs.Search.{hits_there}
 use Rattle.table.specs.Elements.{identifiers}
 use Rattle.table.specs.Search.{sight_in}
 use Rattle.conduct.specs.Promises.{OneAnswer, Leaves, RefusalLeaves, KeepsTable, Tidy, KeepsTidy, EndsAtRest}
-use Rattle.conduct.proofs.Shapes.{Kind, Shape, quiet_lem, clears, notes, advances, winds, Grading, refuses, grades, every, marking_note}
+use Rattle.conduct.proofs.Shapes.{Kind, Shape, quiet, clears, notes, advances, winds, Grading, refuses, grades, every, marking_note}
 
 -- ## No second answer
 
@@ -38,7 +38,7 @@ pub refusal_leaves : RefusalLeaves
 refusal_leaves d e = every d (λ (r : Ruled). Leaves d (tell d r)) shape grading e
   where
     shape : (k : Kind) (r : Ruled) → Shape d k r → Leaves d (tell d r)
-    shape k r (quiet_lem n) z = refl
+    shape k r (quiet n) z = refl
     shape k r clears z = absurd (z refl)
     shape k r (notes id lba n s) z = absurd (z refl)
     shape k r (advances w n) z = absurd (z refl)
@@ -82,20 +82,20 @@ module _ (d : Device) (tidy : Tidy d) where
   abbrev zeros : List ℕ → Type 0
   zeros hs = drop d.table.count hs ≡ replicate (128 - d.table.count) 0
 
-  stored_lem : (place h : ℕ) → place < d.table.count → zeros (set d.cells.healths place h)
-  stored_lem place h below = drop-set-lt d.table.count d.cells.healths place h below ∙ tidy.healths
+  stored : (place h : ℕ) → place < d.table.count → zeros (set d.cells.healths place h)
+  stored place h below = drop-set-lt d.table.count d.cells.healths place h below ∙ tidy.healths
 
-  marked_lem : (s : Seen) → (s.hit ≡ true → s.place < d.table.count) → zeros (make (marking s) d.cells).healths
-  marked_lem s below = go s.hit below
+  marked : (s : Seen) → (s.hit ≡ true → s.place < d.table.count) → zeros (make (marking s) d.cells).healths
+  marked s below = go s.hit below
     where
       go : (b : Bool) → (b ≡ true → s.place < d.table.count) → zeros (make (cond b (Marked s.place) Nothing) d.cells).healths
-      go true h = stored_lem s.place 0xFF (h refl)
+      go true h = stored s.place 0xFF (h refl)
       go false h = tidy.healths
 
   stepped : (w : Removal) (p : Position) → zeros (make (store_at d w p) d.cells).healths
   stepped w Work1 = tidy.healths
   stepped w Work2 = tidy.healths
-  stepped w Work3 = marked_lem (see d w.element) (hit_below d w.element)
+  stepped w Work3 = marked (see d w.element) (hit_below d w.element)
   stepped w Work4 = tidy.healths
   stepped w Work5 = tidy.healths
   stepped w Wind1 = tidy.healths
@@ -104,7 +104,7 @@ module _ (d : Device) (tidy : Tidy d) where
   stepped w Wind4 = tidy.healths
 
   tidied_shape : (k : Kind) (r : Ruled) → Shape d k r → Tidy (carried_out d r)
-  tidied_shape k r (quiet_lem n) = tidy
+  tidied_shape k r (quiet n) = tidy
   tidied_shape k r clears = record { slots = tidy.slots; healths = tidy.healths; rests = tidy.rests }
   tidied_shape k r (notes id lba n s) = record { slots = tidy.slots; healths = tidy.healths; rests = λ _. refl }
   tidied_shape k r (advances w n) = record { slots = tidy.slots; healths = stepped w d.position; rests = resting d w n d.position }
@@ -112,7 +112,7 @@ module _ (d : Device) (tidy : Tidy d) where
 
   tidied_grading : (id : ElementId) (h : ℕ) (r : Ruled) → Grading d id h r → Tidy (carried_out d r)
   tidied_grading id h r refuses = tidy
-  tidied_grading id h r (grades s g) = record { slots = tidy.slots; healths = stored_lem (see d id).place h (hit_below d id s.hit); rests = tidy.rests }
+  tidied_grading id h r (grades s g) = record { slots = tidy.slots; healths = stored (see d id).place h (hit_below d id s.hit); rests = tidy.rests }
 
 pub keeps_tidy : KeepsTidy
 keeps_tidy d e tidy = every d (λ (r : Ruled). Tidy (carried_out d r)) (tidied_shape d tidy) (tidied_grading d tidy) e
@@ -129,7 +129,7 @@ ends_at_rest d e w full = every d Rested shape grading e
     still_full q = full_not (sym full ∙ q)
 
     shape : (k : Kind) (r : Ruled) → Shape d k r → (carried_out d r).cells.note ≡ Empty → (carried_out d r).position ≡ Work1
-    shape k r (quiet_lem n) q = still_full q
+    shape k r (quiet n) q = still_full q
     shape k r clears q = still_full q
     shape k r (notes id lba n s) q = still_full n
     shape k r (advances v n) q = resting d v n d.position q

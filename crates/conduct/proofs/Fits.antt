@@ -31,7 +31,7 @@ use Rattle.table.specs.Search.{place, sight_in}
 use Rattle.table.specs.declared.Part.{Part}
 use Rattle.conduct.specs.Fits.{PartFits, Fits}
 use Rattle.conduct.specs.Promises.{KeepsFit}
-use Rattle.conduct.proofs.Shapes.{Kind, Shape, quiet_lem, clears, notes, advances, winds, Grading, refuses, grades, every}
+use Rattle.conduct.proofs.Shapes.{Kind, Shape, quiet, clears, notes, advances, winds, Grading, refuses, grades, every}
 
 -- the cells' part of it: the healths and the note
 pub record CellsFit (hs : List ℕ) (n : Note) : Type 0 where
@@ -59,8 +59,8 @@ module _ (d : Device) (fits : Fits d) where
   emptied : CellsFit d.cells.healths Empty
   emptied = record { celled = fits.celled; healths = fits.healths; noted = λ w q. absurd (let z : ◌≡◌ {A = ℕ} 0 1 = cc in omega arith) }
 
-  stored_lem : (at h : ℕ) → h < 2 ^ 8 → CellsFit (set d.cells.healths at h) d.cells.note
-  stored_lem at h low =
+  stored : (at h : ℕ) → h < 2 ^ 8 → CellsFit (set d.cells.healths at h) d.cells.note
+  stored at h low =
       record {
         celled = length-set d.cells.healths at h ∙ fits.celled;
         healths = every_set (λ (x : ℕ). x < 2 ^ 8) d.cells.healths at h fits.healths low;
@@ -85,17 +85,17 @@ module _ (d : Device) (fits : Fits d) where
         noted = λ v q. subst (λ (u : Removal). u.element.0 < 2 ^ 32) (one_removal q) (hit_fits w.element hit);
       }
 
-  marked_lem : (s : Seen) → After (marking s)
-  marked_lem s = go s.hit
+  marked : (s : Seen) → After (marking s)
+  marked s = go s.hit
     where
       go : (b : Bool) → After (cond b (Marked s.place) Nothing)
-      go true = stored_lem s.place 0xFF (omega arith)
+      go true = stored s.place 0xFF (omega arith)
       go false = as_it_was
 
   stepped : (w : Removal) (p : Position) → After (store_at d w p)
   stepped w Work1 = as_it_was
   stepped w Work2 = as_it_was
-  stepped w Work3 = marked_lem (see d w.element)
+  stepped w Work3 = marked (see d w.element)
   stepped w Work4 = as_it_was
   stepped w Work5 = emptied
   stepped w Wind1 = as_it_was
@@ -104,7 +104,7 @@ module _ (d : Device) (fits : Fits d) where
   stepped w Wind4 = emptied
 
   fit_shape : (k : Kind) (r : Ruled) → Shape d k r → Fits (carried_out d r)
-  fit_shape k r (quiet_lem n) = fits
+  fit_shape k r (quiet n) = fits
   fit_shape k r clears = with_cells r as_it_was
   fit_shape k r (notes id lba n s) = with_cells r (noting _ s.hit)
   fit_shape k r (advances w n) = with_cells r (stepped w d.position)
@@ -112,7 +112,7 @@ module _ (d : Device) (fits : Fits d) where
 
   fit_grading : (id : ElementId) (h : ℕ) (r : Ruled) → Grading d id h r → Fits (carried_out d r)
   fit_grading id h r refuses = fits
-  fit_grading id h r (grades s g) = with_cells r (stored_lem (see d id).place h (let low = leb-true h 0xCF g in omega (arith, low)))
+  fit_grading id h r (grades s g) = with_cells r (stored (see d id).place h (let low = leb-true h 0xCF g in omega (arith, low)))
 
 pub keeps-fit : KeepsFit
 keeps-fit d e fits = every d (λ (r : Ruled). Fits (carried_out d r)) (fit_shape d fits) (fit_grading d fits) e

@@ -33,49 +33,49 @@ module _ (d : Device) (n : ℕ) (p : Position) where
   elsewhere : (place h i : ℕ) → (health i ≡ health place → ⊥) → cell_of (after (Graded place h)) (health i) ≡ cell_of d (health i)
   elsewhere place h i ne = ap health_is (get_or-set_other d.cells.healths place i h 0 (λ e. ne (ap health e)))
 
-  others_lem : (s : Store) (c : Cell) → (c ≡ written s → ⊥) → cell_of (after s) c ≡ cell_of d c
-  others_lem Nothing native_max ne = refl
-  others_lem Nothing accessible_max ne = refl
-  others_lem Nothing failed_mark ne = refl
-  others_lem Nothing note ne = refl
-  others_lem Nothing (health i) ne = refl
-  others_lem (NativeTo v) native_max ne = own ne
-  others_lem (NativeTo v) accessible_max ne = refl
-  others_lem (NativeTo v) failed_mark ne = refl
-  others_lem (NativeTo v) note ne = refl
-  others_lem (NativeTo v) (health i) ne = refl
-  others_lem (AccessibleTo v) native_max ne = refl
-  others_lem (AccessibleTo v) accessible_max ne = own ne
-  others_lem (AccessibleTo v) failed_mark ne = refl
-  others_lem (AccessibleTo v) note ne = refl
-  others_lem (AccessibleTo v) (health i) ne = refl
-  others_lem (Marked place) native_max ne = refl
-  others_lem (Marked place) accessible_max ne = refl
-  others_lem (Marked place) failed_mark ne = refl
-  others_lem (Marked place) note ne = refl
-  others_lem (Marked place) (health i) ne = elsewhere place 0xFF i ne
-  others_lem (Graded place h) native_max ne = refl
-  others_lem (Graded place h) accessible_max ne = refl
-  others_lem (Graded place h) failed_mark ne = refl
-  others_lem (Graded place h) note ne = refl
-  others_lem (Graded place h) (health i) ne = elsewhere place h i ne
-  others_lem (FailedTo m) native_max ne = refl
-  others_lem (FailedTo m) accessible_max ne = refl
-  others_lem (FailedTo m) failed_mark ne = own ne
-  others_lem (FailedTo m) note ne = refl
-  others_lem (FailedTo m) (health i) ne = refl
-  others_lem (Noted w) native_max ne = refl
-  others_lem (Noted w) accessible_max ne = refl
-  others_lem (Noted w) failed_mark ne = refl
-  others_lem (Noted w) note ne = own ne
-  others_lem (Noted w) (health i) ne = refl
-  others_lem NoteEmptied native_max ne = refl
-  others_lem NoteEmptied accessible_max ne = refl
-  others_lem NoteEmptied failed_mark ne = refl
-  others_lem NoteEmptied note ne = own ne
-  others_lem NoteEmptied (health i) ne = refl
+  others : (s : Store) (c : Cell) → (c ≡ written s → ⊥) → cell_of (after s) c ≡ cell_of d c
+  others Nothing native_max ne = refl
+  others Nothing accessible_max ne = refl
+  others Nothing failed_mark ne = refl
+  others Nothing note ne = refl
+  others Nothing (health i) ne = refl
+  others (NativeTo v) native_max ne = own ne
+  others (NativeTo v) accessible_max ne = refl
+  others (NativeTo v) failed_mark ne = refl
+  others (NativeTo v) note ne = refl
+  others (NativeTo v) (health i) ne = refl
+  others (AccessibleTo v) native_max ne = refl
+  others (AccessibleTo v) accessible_max ne = own ne
+  others (AccessibleTo v) failed_mark ne = refl
+  others (AccessibleTo v) note ne = refl
+  others (AccessibleTo v) (health i) ne = refl
+  others (Marked place) native_max ne = refl
+  others (Marked place) accessible_max ne = refl
+  others (Marked place) failed_mark ne = refl
+  others (Marked place) note ne = refl
+  others (Marked place) (health i) ne = elsewhere place 0xFF i ne
+  others (Graded place h) native_max ne = refl
+  others (Graded place h) accessible_max ne = refl
+  others (Graded place h) failed_mark ne = refl
+  others (Graded place h) note ne = refl
+  others (Graded place h) (health i) ne = elsewhere place h i ne
+  others (FailedTo m) native_max ne = refl
+  others (FailedTo m) accessible_max ne = refl
+  others (FailedTo m) failed_mark ne = own ne
+  others (FailedTo m) note ne = refl
+  others (FailedTo m) (health i) ne = refl
+  others (Noted w) native_max ne = refl
+  others (Noted w) accessible_max ne = refl
+  others (Noted w) failed_mark ne = refl
+  others (Noted w) note ne = own ne
+  others (Noted w) (health i) ne = refl
+  others NoteEmptied native_max ne = refl
+  others NoteEmptied accessible_max ne = refl
+  others NoteEmptied failed_mark ne = refl
+  others NoteEmptied note ne = own ne
+  others NoteEmptied (health i) ne = refl
 
 pub at_most_one_cell : AtMostOneCell
 at_most_one_cell d e =
     let r : Ruled = rule d e in
-    record { cell = written r.store; others_lem = others_lem d r.number r.next r.store; table = refl }
+    record { cell = written r.store; others = others d r.number r.next r.store; table = refl }

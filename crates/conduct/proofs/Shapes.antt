@@ -39,7 +39,7 @@ pub record Standing (d : Device) (id : ElementId) : Type 0 where
 
 pub data Shape (d : Device) : Kind → Ruled → Type 0 where
   -- a number, and nothing changes
-  quiet_lem : {k : Kind} (n : ℕ) → Shape d k (says n d)
+  quiet : {k : Kind} (n : ℕ) → Shape d k (says n d)
   -- a command for an element at FFh
   clears : Shape d still (goes (FailedTo Clear) d.position)
   -- an accepted removal
@@ -92,33 +92,33 @@ module _ (d : Device) where
     shape_room : Standing d id → Shape d still (judge_room d.position d.cells.native id lba (see d id).part.blocks)
     unfolding judge_room
     shape_room standing =
-        choose (Shape d still) (too_small d.cells.native.0 (see d id).part.blocks) (λ _. quiet_lem 4)
-        (λ _. choose (Shape d still) (too_high d.cells.native.0 (see d id).part.blocks lba.0) (λ _. quiet_lem 4)
+        choose (Shape d still) (too_small d.cells.native.0 (see d id).part.blocks) (λ _. quiet 4)
+        (λ _. choose (Shape d still) (too_high d.cells.native.0 (see d id).part.blocks lba.0) (λ _. quiet 4)
         (λ _. notes id lba empty standing))
 
     shape_found : Shape d still (judge_found d.table d.cells d.position id lba (see d id))
     unfolding judge_found
     shape_found =
-        choose (Shape d still) (not ((see d id).hit && is_storage (see d id).part)) (λ _. quiet_lem 4)
+        choose (Shape d still) (not ((see d id).hit && is_storage (see d id).part)) (λ _. quiet 4)
         (λ there. choose (Shape d still) (removed_health (see d id).health) (λ _. clears)
-        (λ stands. choose (Shape d still) (limit_met d.table.limit (removed_number d)) (λ _. quiet_lem 4)
+        (λ stands. choose (Shape d still) (limit_met d.table.limit (removed_number d)) (λ _. quiet 4)
         (λ _. shape_room (record { hit = both (see d id).hit _ there; health = stands }))))
 
-  idle_lem : (n : Note) → is_full n ≡ false → n ≡ Empty
-  idle_lem Empty e = refl
-  idle_lem (Full w) e = absurd (true≢false e)
+  idle : (n : Note) → is_full n ≡ false → n ≡ Empty
+  idle Empty e = refl
+  idle (Full w) e = absurd (true≢false e)
 
   shape_remove : (s : Security) (x : Registers) → Shape d still (rule_remove d.table d.cells d.position s x)
   shape_remove s x =
-      choose (Shape d still) (aborts Remove s) (λ _. quiet_lem 1)
-      (λ _. choose (Shape d still) (under_way d) (λ _. quiet_lem 2) (λ e. shape_found (idle_lem d.cells.note e) (identifier_of x) (low48 x.lba)))
+      choose (Shape d still) (aborts Remove s) (λ _. quiet 1)
+      (λ _. choose (Shape d still) (under_way d) (λ _. quiet 2) (λ e. shape_found (idle d.cells.note e) (identifier_of x) (low48 x.lba)))
 
   shape_step : (n : Note) → d.cells.note ≡ n → Shape d moving (rule_step d.table d.cells d.position n)
-  shape_step Empty e = quiet_lem 10
+  shape_step Empty e = quiet 10
   shape_step (Full w) e = advances w e
 
   shape_stop : (answer : ℕ) (n : Note) → d.cells.note ≡ n → Shape d stopping (rule_stop d.position answer n)
-  shape_stop answer Empty e = quiet_lem answer
+  shape_stop answer Empty e = quiet answer
   shape_stop answer (Full w) e = winds w e
 
   shape_grade : (id : ElementId) (h : ℕ) → Grading d id h (rule_grade d.table d.cells d.position id h)
@@ -129,13 +129,13 @@ module _ (d : Device) where
 
   pub each : (e : Event) → Shaped d e (rule d e)
   each (command s x room) =
-      choose (Shape d still) (eqb x.code 0x7C) (λ _. shape_remove s x) (λ _. quiet_lem _)
+      choose (Shape d still) (eqb x.code 0x7C) (λ _. shape_remove s x) (λ _. quiet _)
   each step = shape_step d.cells.note refl
   each media_error = shape_stop 10 d.cells.note refl
   each power_cut = shape_stop 0 d.cells.note refl
-  each comreset = quiet_lem 0
-  each hardware_reset = quiet_lem 0
-  each software_reset = quiet_lem 0
+  each comreset = quiet 0
+  each hardware_reset = quiet 0
+  each software_reset = quiet 0
   each (grade id h) = shape_grade id h
 
 -- what holds of every shape holds of every ruling

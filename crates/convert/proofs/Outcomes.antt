@@ -25,7 +25,7 @@ use Rattle.reader.specs.Judgement as page·spec
 use Rattle.reader.specs.Page.{page_offence}
 use Rattle.reader.specs.declared.Judgement.TheVariants as page·judgement
 use Rattle.reader.specs.declared.Judgement as page·declared
-use Rattle.request.proofs.Requests.{accepted_lem}
+use Rattle.request.proofs.Requests.{accepted}
 use Rattle.request.specs.Requests.{pages_of}
 use Rattle.request.specs.declared.Request.{Request}
 use Rattle.scsi.proofs.LayoutTheorem as scsi
@@ -97,13 +97,13 @@ length-turned from to s = length-laid to (header_in from s) (list_in from s (hea
 
 -- ## What is not refused
 
-place_of_lem : Offence → ℕ
-place_of_lem Clean = 0
-place_of_lem (At p) = 1
+place_of : Offence → ℕ
+place_of Clean = 0
+place_of (At p) = 1
 
 clean_not : (p : ℕ) → At p ≡ Clean → ⊥
-unfolding place_of_lem
-clean_not p e = let no : ◌≡◌ {A = ℕ} 1 0 = ap place_of_lem e in omega arith
+unfolding place_of
+clean_not p e = let no : ◌≡◌ {A = ℕ} 1 0 = ap place_of e in omega arith
 
 pub unless_clean : (b : Bool) (p : ℕ) → unless b p ≡ Clean → b ≡ true
 unless_clean true p e = refl
@@ -121,7 +121,7 @@ page_whole s q clean =
     let asked = or_clean _ _ both.0 in
     let sized = or_clean _ _ asked.1 in
     let counted = or_clean _ _ sized.1 in
-    let some : 1 ≤ pages_of q = (accepted_lem q (not-true _ (unless_clean _ 0 asked.0))).2 in
+    let some : 1 ≤ pages_of q = (accepted q (not-true _ (unless_clean _ 0 asked.0))).2 in
     let long : length s ≡ 512 * pages_of q = eqb-true _ _ (unless_clean _ 0 sized.0) in
     let cut : (header_in Little s).returned ≡ returned_of n (pages_of q) = eqb-true _ _ (unless_clean _ 4 counted.0) in
     let all : (header_in Little s).returned ≡ n = eqb-true _ _ (unless_clean _ 4 both.1) in
@@ -130,18 +130,18 @@ page_whole s q clean =
 -- ## To SCSI
 
 module _ (s : List ℕ) (q : Request) (buf : List ℕ) (f : Offence) (is_f : f ≡ scsi_offence s q) where
-  told_lem : (t : Told Outcome) → t ≡ outcome f (turned Little Big s) buf → t ≡ to_scsi s q buf
-  told_lem t so = so ∙ ap (λ (x : Offence). outcome x (turned Little Big s) buf) is_f
+  told : (t : Told Outcome) → t ≡ outcome f (turned Little Big s) buf → t ≡ to_scsi s q buf
+  told t so = so ∙ ap (λ (x : Offence). outcome x (turned Little Big s) buf) is_f
 
   pub scsi_refused : (p : ℕ) → f ≡ At p → heard (Refused p) buf ≡ to_scsi s q buf
-  scsi_refused p e = told_lem _ (refused_at buf (turned Little Big s) buf f p e)
+  scsi_refused p e = told _ (refused_at buf (turned Little Big s) buf f p e)
 
   module _ (clean : f ≡ Clean) (h : Header) (is_h : h ≡ header_in Little s) where
-    size_lem : 32 + 32 * h.number ≡ length (turned Little Big s)
-    size_lem = ap (λ (x : Header). base_of x.number) is_h ∙ sym (length-turned Little Big s)
+    size : 32 + 32 * h.number ≡ length (turned Little Big s)
+    size = ap (λ (x : Header). base_of x.number) is_h ∙ sym (length-turned Little Big s)
 
     pub scsi_short : length buf < 32 + 32 * h.number → heard SmallBuffer buf ≡ to_scsi s q buf
-    scsi_short less = told_lem _ (too_short buf (turned Little Big s) buf f clean (32 + 32 * h.number) size_lem less)
+    scsi_short less = told _ (too_short buf (turned Little Big s) buf f clean (32 + 32 * h.number) size less)
 
     pub page_there : 32 + 32 * h.number ≤ length s
     page_there = rw is_h (page_whole s q (sym is_f ∙ clean))
@@ -149,7 +149,7 @@ module _ (s : List ℕ) (q : Request) (buf : List ℕ) (f : Offence) (is_f : f �
     pub scsi_done : 32 + 32 * h.number ≤ length buf → (g : List ℕ) → g ≡ stored buf 0 (laid Big (header_in Little s) (list_in Little s h.number))
         → heard (Done (32 + 32 * h.number)) g ≡ to_scsi s q buf
     scsi_done room g is_g =
-        told_lem _ (all_put g (turned Little Big s) buf f clean (32 + 32 * h.number) size_lem room
+        told _ (all_put g (turned Little Big s) buf f clean (32 + 32 * h.number) size room
         (is_g ∙ ap (λ (x : Header). stored buf 0 (laid Big (header_in Little s) (list_in Little s x.number))) is_h ∙ ap (stored buf 0) (turned-laid Little Big s)))
 
 -- ## To ATA
@@ -164,11 +164,11 @@ fits_clean s q p clean =
     (both.0, eqb-true _ _ fits.0, leb-true (n + 1) (16 * p) fits.1)
 
 module _ (s : List ℕ) (q : Query) (p : ℕ) (buf : List ℕ) (f : Offence) (is_f : f ≡ ata_offence s q p) where
-  answered_lem : (t : Told Outcome) → t ≡ outcome f (paged p s) buf → t ≡ to_ata s q p buf
-  answered_lem t so = so ∙ ap (λ (x : Offence). outcome x (paged p s) buf) is_f
+  answered : (t : Told Outcome) → t ≡ outcome f (paged p s) buf → t ≡ to_ata s q p buf
+  answered t so = so ∙ ap (λ (x : Offence). outcome x (paged p s) buf) is_f
 
   pub ata_refused : (r : ℕ) → f ≡ At r → heard (Refused r) buf ≡ to_ata s q p buf
-  ata_refused r e = answered_lem _ (refused_at buf (paged p s) buf f r e)
+  ata_refused r e = answered _ (refused_at buf (paged p s) buf f r e)
 
   module _ (clean : f ≡ Clean) where
     abbrev n : ℕ
@@ -187,17 +187,17 @@ module _ (s : List ℕ) (q : Query) (p : ℕ) (buf : List ℕ) (f : Offence) (is
     page_size = sym (length-append (turned Big Little s) (replicate (512 * p - base_of n) 0) ∙ rw (length-turned Big Little s, length-replicate) (omega (arith, few)))
 
     pub ata_short : length buf < 512 * p → heard SmallBuffer buf ≡ to_ata s q p buf
-    ata_short less = answered_lem _ (too_short buf (paged p s) buf f clean (512 * p) page_size less)
+    ata_short less = answered _ (too_short buf (paged p s) buf f clean (512 * p) page_size less)
 
     module _ (room : 512 * p ≤ length buf) (h : Header) (is_h : h ≡ header_in Big s) where
-      same_lem : h.number ≡ n
-      same_lem = ap (λ (x : Header). x.number) is_h
+      same : h.number ≡ n
+      same = ap (λ (x : Header). x.number) is_h
 
       pub data_there : 32 + 32 * h.number ≤ length s
-      data_there = omega (arith, whole, same_lem)
+      data_there = omega (arith, whole, same)
 
       pub list_fits : 32 + 32 * h.number ≤ length buf
-      list_fits = omega (arith, few, same_lem)
+      list_fits = omega (arith, few, same)
 
       pub ata_done : (x y : List ℕ) → x ≡ stored buf 0 (laid Little (header_in Big s) (list_in Big s h.number))
           → y ≡ stored x (32 + 32 * h.number) (replicate (512 * p - (32 + 32 * h.number)) 0) → heard (Done (512 * p)) y ≡ to_ata s q p buf
@@ -207,13 +207,13 @@ module _ (s : List ℕ) (q : Query) (p : ℕ) (buf : List ℕ) (f : Offence) (is
           let z : List ℕ = replicate (512 * p - base_of n) 0 in
           let place : base_of n ≡ 0 + length t = omega (arith, length-turned Big Little s) in
           let first : x ≡ stored buf 0 t =
-          is_x ∙ ap (λ (m : ℕ). stored buf 0 (laid Little (header_in Big s) (list_in Big s m))) same_lem ∙ ap (stored buf 0) (turned-laid Big Little s) in
+          is_x ∙ ap (λ (m : ℕ). stored buf 0 (laid Little (header_in Big s) (list_in Big s m))) same ∙ ap (stored buf 0) (turned-laid Big Little s) in
           let both : y ≡ stored buf 0 (t ++ z) =
           is_y
-          ∙ (λ i. stored (first i) (base_of (same_lem i)) (replicate (512 * p - base_of (same_lem i)) 0))
+          ∙ (λ i. stored (first i) (base_of (same i)) (replicate (512 * p - base_of (same i)) 0))
           ∙ ap (λ (m : ℕ). stored (stored buf 0 t) m z) place
           ∙ stored_more buf 0 t z (omega (arith, page_size, room)) in
-          answered_lem _ (all_put y (paged p s) buf f clean (512 * p) page_size room both)
+          answered _ (all_put y (paged p s) buf f clean (512 * p) page_size room both)
 
 -- ## What holds of every outcome (specs/Promises)
 

@@ -12,7 +12,7 @@ use Rattle.layout.specs.declared.Descriptor.{Descriptor}
 use Rattle.layout.specs.declared.Header.{Header}
 use Rattle.offences.proofs.Laid.{laid_at}
 use Rattle.offences.specs.Checks.{base_of, descriptor_at}
-use Rattle.slices.proofs.Lists.{after_lem}
+use Rattle.slices.proofs.Lists.{after}
 use Rattle.slices.specs.Lists.{flat}
 use Rattle.words.specs.declared.Order.{Order}
 use Rattle.convert.specs.Convert.{list_in, turned}
@@ -39,7 +39,7 @@ module _ (from to : Order) (s : List ℕ) where
       sym (get_or-drop (base_of k) (turned from to s) at 0)
       ∙ ap (λ (t : List ℕ). get_or (drop (base_of k) t) at 0) (sym (append-nil (turned from to s)))
       ∙ ap (λ (t : List ℕ). get_or t at 0) (laid_at to h l [] k (descriptor_at from s 0) (omega (arith, length_list from s h.number)))
-      ∙ get_or-append (descriptor_bytes to (element k)) (after_lem (descriptor_bytes to) 32 (wide to) l k []) 0 at (omega (arith, wide to (element k)))
+      ∙ get_or-append (descriptor_bytes to (element k)) (after (descriptor_bytes to) 32 (wide to) l k []) 0 at (omega (arith, wide to (element k)))
 
 pub reserved_zeroed : ReservedZeroed
 reserved_zeroed from to s = (

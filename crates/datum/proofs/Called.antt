@@ -26,8 +26,8 @@ use denote.Steps.{heard, facts, nothing}
 use denote.Triple.Call.{calls_from, calls_from_last}
 use denote.Triple.Statement.{Contract, Triple}
 use Rattle.datum.proofs.Datum.{Datum, Denot, Fact, fact, is_val}
-use Rattle.datum.proofs.Lent.{ref_own, lent_lem, buffer_own}
-use Rattle.datum.proofs.Parameters.{Params, Args, Lasts, Exits, Values, Facts, none, ◌▹◌, values, reading, listing, filling, args, given, others_lem, others_out, others_last, given_args, others_args, out_last, flats, Owns, Leaves, exits, all_own, others-left}
+use Rattle.datum.proofs.Lent.{ref_own, lent, buffer_own}
+use Rattle.datum.proofs.Parameters.{Params, Args, Lasts, Exits, Values, Facts, none, ◌▹◌, values, reading, listing, filling, args, given, others, others_out, others_last, given_args, others_args, out_last, flats, Owns, Leaves, exits, all_own, others-left}
 use Rattle.datum.proofs.Promise.{tokens, tokens_out, Promise, Ensures, bound}
 
 -- ## Any function with a promise
@@ -85,15 +85,15 @@ passed Ds Es x y = args (values Es none) tt Ds x (args none tt Es y tt)
 
 module _ (Ds Es : List Datum) (R : Datum) (P : Values Ds → Values Es → Denot R → Type 0) where
   abbrev Tells : (κs : Lfts 0) → Args (valued Ds Es) κs → Exits (valued Ds Es) κs → Denot R → Type 0
-  Tells κs a e r = P (given (values Es none) κs Ds a) (given none κs Es (others_lem (values Es none) κs Ds a)) r
+  Tells κs a e r = P (given (values Es none) κs Ds a) (given none κs Es (others (values Es none) κs Ds a)) r
 
   abbrev pub ValuedTwo : {M : Type 1} {𝓤 : Ura M} (𝓛 : Logic 𝓤) → Contract 𝓤
   ValuedTwo {𝓤 = 𝓤} 𝓛 = Promise (valued Ds Es) R Tells 𝓤 𝓛
 
   module _ (x : Values Ds) (y : Values Es) where
-    tells_lem : (r : Denot R)
-        → P (given (values Es none) tt Ds (passed Ds Es x y)) (given none tt Es (others_lem (values Es none) tt Ds (passed Ds Es x y))) r → P x y r
-    tells_lem r e =
+    tells : (r : Denot R)
+        → P (given (values Es none) tt Ds (passed Ds Es x y)) (given none tt Es (others (values Es none) tt Ds (passed Ds Es x y))) r → P x y r
+    tells r e =
         rw (
           given_args {n = 0} (values Es none) tt Ds x (args none tt Es y tt),
           others_args {n = 0} (values Es none) tt Ds x (args none tt Es y tt),
@@ -118,7 +118,7 @@ module _ {M : Type 1} {𝓤 : Ura M} {𝓛 : Logic 𝓤} {K : Type 0} {Γ : List
       → ((r : Denot R) → P x y r → Fact R r → Seq K 𝓛 Γ (lands C Λ E d (R.val r) rest q)) → Seq K 𝓛 Γ (runs C Λ E (seq (call g os d) rest) q)
   calls_value_two t fm Ds Es R P met x fs y gs reads k =
       nothing t $ calls_promised t fm (valued Ds Es) R (Tells Ds Es R P) met tt tt (passed Ds Es x y) (‵ ftrue) (value_pre Ds Es R P x y 𝓛 fs gs) reads
-      (λ r w e is. drop t $ drop t $ k r (tells_lem Ds Es R P x y r e) is)
+      (λ r w e is. drop t $ drop t $ k r (tells Ds Es R P x y r e) is)
 
 -- no more data
 module _ (Ds : List Datum) (R : Datum) (P : Values Ds → Denot R → Type 0) where
@@ -145,7 +145,7 @@ with_buffer Ds = values Ds buffer
 -- P: of the data, the bytes before, the result, the bytes after
 module _ (Ds : List Datum) (R : Datum) (P : Values Ds → List ℕ → Denot R → List ℕ → Type 0) where
   abbrev TellsWith : (κs : Lfts 1) → Args (with_buffer Ds) κs → Exits (with_buffer Ds) κs → Denot R → Type 0
-  TellsWith κs a e r = P (given buffer κs Ds a) (others_lem buffer κs Ds a).0.now r (others_out buffer κs Ds e).0.now
+  TellsWith κs a e r = P (given buffer κs Ds a) (others buffer κs Ds a).0.now r (others_out buffer κs Ds e).0.now
 
   abbrev pub Filling : {M : Type 1} {𝓤 : Ura M} (𝓛 : Logic 𝓤) → Contract 𝓤
   Filling {𝓤 = 𝓤} 𝓛 = Promise (with_buffer Ds) R TellsWith 𝓤 𝓛
@@ -201,32 +201,32 @@ both_own D κs qs y z = ‵ (ref_own D κs.0 y) ⊛ ‵ (flft κs.0 qs.0) ⊛ �
 -- P: of the value, the data, the bytes before, the result, the bytes after
 module _ (D : Datum) (Ds : List Datum) (R : Datum) (P : Denot D → Values Ds → List ℕ → Denot R → List ℕ → Type 0) where
   abbrev showing : Params 2
-  showing = reading D 0 tt ▹ values Ds lent_lem
+  showing = reading D 0 tt ▹ values Ds lent
 
   abbrev TellsShown : (κs : Lfts 2) → Args showing κs → Exits showing κs → Denot R → Type 0
   TellsShown κs a e r =
-      P a.0.now (given lent_lem κs Ds a.1) (others_lem lent_lem κs Ds a.1).0.now r (others_out lent_lem κs Ds e.1).0.now
+      P a.0.now (given lent κs Ds a.1) (others lent κs Ds a.1).0.now r (others_out lent κs Ds e.1).0.now
 
   abbrev pub Showing : {M : Type 1} {𝓤 : Ura M} (𝓛 : Logic 𝓤) → Contract 𝓤
   Showing {𝓤 = 𝓤} 𝓛 = Promise showing R TellsShown 𝓤 𝓛
 
   module _ (x : Values Ds) (κs : Lfts 2) (y : Bor (Denot D)) (z : Bor (List ℕ)) where
     abbrev passed_shown : Args showing κs
-    passed_shown = (y, args lent_lem κs Ds x (z, tt))
+    passed_shown = (y, args lent κs Ds x (z, tt))
 
     abbrev last_shown : Lasts showing κs passed_shown → List ℕ
-    last_shown w = (others_last lent_lem κs Ds x (z, tt) w.1).0
+    last_shown w = (others_last lent κs Ds x (z, tt) w.1).0
 
     tells-shown : (r : Denot R) (w : Lasts showing κs passed_shown)
         → TellsShown κs passed_shown (exits showing κs passed_shown w) r → P y.now x z.now r (last_shown w)
-    tells-shown r w e = rw (given_args lent_lem κs Ds x (z, tt), others_args lent_lem κs Ds x (z, tt), out_last lent_lem κs Ds x (z, tt) w.1) at e
+    tells-shown r w e = rw (given_args lent κs Ds x (z, tt), others_args lent κs Ds x (z, tt), out_last lent κs Ds x (z, tt) w.1) at e
 
     showing_pre : {M : Type 1} {𝓤 : Ura M} (𝓛 : Logic 𝓤) (qs : Shares 2) → Facts Ds x
         → ent 𝓤 (mean 𝓛 (both_own D κs qs y z))
         (sep 𝓤 (toks 𝓛 2 κs qs) (sem 𝓛 (Owns showing κs passed_shown)))
     showing_pre 𝓛 qs fs =
         qed 𝓛 (‵ (ref_own D κs.0 y) ∷ ‵ (flft κs.0 qs.0) ∷ ‵ (buffer_own κs.1.0 z) ∷ ‵ (flft κs.1.0 qs.1.0) ∷ []) ∵
-        nothing ! $ move ! (3 ∷ 0 ∷ []) $ fjoin ! $ use1 𝓛 (‵ (Owns (values Ds lent_lem) κs (args lent_lem κs Ds x (z, tt)))) (all_own lent_lem κs 𝓛 Ds x (z, tt) fs) $
+        nothing ! $ move ! (3 ∷ 0 ∷ []) $ fjoin ! $ use1 𝓛 (‵ (Owns (values Ds lent) κs (args lent κs Ds x (z, tt)))) (all_own lent κs 𝓛 Ds x (z, tt) fs) $
         move ! (1 ∷ 0 ∷ []) $ fjoin ! $ nothing ! $ move ! (2 ∷ 3 ∷ 0 ∷ []) $ group ! 3 $ frame ! $ done !
 
 module _ {M : Type 1} {𝓤 : Ura M} {𝓛 : Logic 𝓤} {K : Type 0} {Γ : List (Item 𝓤)} {E : Env 𝓤 𝓛.H} {C : Calls 𝓤 𝓛.H}
@@ -246,8 +246,8 @@ module _ {M : Type 1} {𝓤 : Ura M} {𝓛 : Logic 𝓤} {K : Type 0} {Γ : List
       (enters (showing D Ds R P) R (TellsShown D Ds R P) 𝓛 κs qs (passed_shown D Ds R P x κs y z) (C g) met (both_own D κs qs y z)
       (showing_pre D Ds R P x κs y z 𝓛 qs fs)) reads
       (hears t (showing D Ds R P) R (TellsShown D Ds R P) κs qs (passed_shown D Ds R P x κs y z) (λ (v : Val). settles E d v q) (λ v. tt) (λ r w e is.
-      move t (1 ∷ []) $ fsplit t $ drop t $ use1 𝓛 (‵ (Leaves lent_lem κs (z, tt) (others_last lent_lem κs Ds x (z, tt) w.1)))
-      (others-left lent_lem κs 𝓛 Ds x (z, tt) w.1) $
+      move t (1 ∷ []) $ fsplit t $ drop t $ use1 𝓛 (‵ (Leaves lent κs (z, tt) (others_last lent κs Ds x (z, tt) w.1)))
+      (others-left lent κs 𝓛 Ds x (z, tt) w.1) $
       fsplit t $ fsplit t $ move t (1 ∷ []) $ feq_l t (λ l. move t (2 ∷ []) $ split t $ move t (1 ∷ []) $ split t $
       move t (1 ∷ 4 ∷ 3 ∷ 2 ∷ 0 ∷ []) $ drop t $ drop t $ k r (last_shown D Ds R P x κs y z w) (tells-shown D Ds R P x κs y z r w e) l is)))
 

@@ -22,7 +22,7 @@ use Rattle.datum.proofs.Called.{Valued, calls_value}
 use Rattle.datum.proofs.Datum.{Datum, Denot, ty}
 use Rattle.datum.proofs.Handed.{Handed}
 use Rattle.datum.proofs.Lent.{ref, copying, handing, copies_out, hands_back}
-use Rattle.datum.proofs.Locals.{var, locals, after_lem, up, copies, beyond, knowing, allocs_all, pass_all, free_cell, free_all, from_at, reads_all}
+use Rattle.datum.proofs.Locals.{var, locals, after, up, copies, beyond, knowing, allocs_all, pass_all, free_cell, free_all, from_at, reads_all}
 use Rattle.datum.proofs.Parameters.{Param, Values, Facts, none, changing}
 use Rattle.datum.proofs.Thin.{Promised, ThinWalk, begins, finishes, Thin, thin}
 
@@ -36,12 +36,12 @@ module _ (D B : Datum) (S : Handed D B) (Ds : List Datum) where
       record {
         lifetimes = 1;
         outlives = [];
-        params = after_lem 1 Ds;
+        params = after 1 Ds;
         locals = var (ty B) ∷ var (ref D mut) ∷ locals Ds (var (ty S.both) ∷ var (ty D) ∷ []);
         body =
-            seq (copying D 1 (up (after_lem 2 Ds) 1))
-            (seq (call g (copy (place (up (after_lem 2 Ds) 1) []) ∷ copies 2 Ds []) (place (up (after_lem 2 Ds) 0) []))
-            (handing D 1 (up (after_lem 2 Ds) 0) return));
+            seq (copying D 1 (up (after 2 Ds) 1))
+            (seq (call g (copy (place (up (after 2 Ds) 1) []) ∷ copies 2 Ds []) (place (up (after 2 Ds) 0) []))
+            (handing D 1 (up (after 2 Ds) 0) return));
       }
 
   -- P: of what lay there, the data, the answer, what lies there afterwards
@@ -59,9 +59,9 @@ module _ (D B : Datum) (S : Handed D B) (Ds : List Datum) where
       abbrev tail : ℕ → ℕ → Env 𝓤 H
       tail l₂ l₃ = (ty S.both, l₂) ∷ (ty D, l₃) ∷ []
 
-      walk_lem : (κs : Lfts 1) (qs : Shares 1) (y : Bor (Denot D)) (x : Values Ds) → Facts Ds x
+      walk : (κs : Lfts 1) (qs : Shares 1) (y : Bor (Denot D)) (x : Values Ds) → Facts Ds x
           → ThinWalk first Ds none B Changes 𝓛 κs qs y x tt C Λ (function g)
-      walk_lem κs qs y x fs = begins first Ds none B Changes 𝓛 κs qs y x tt C Λ (function g) (
+      walk κs qs y x fs = begins first Ds none B Changes 𝓛 κs qs y x tt C Λ (function g) (
           split ! $ move ! (2 ∷ []) $ fsplit3 ! $ keep ! (1 ∷ 2 ∷ 3 ∷ []) $
           alloc1 ! (λ l₀. alloc1 ! (λ l₁. allocs_all ! Ds (λ bs. alloc1 ! (λ l₂. alloc1 ! (λ l₃. alloc0 ! $ params1 ! $
           knowing (beyond 𝓤 H ((ty B, l₀) ∷ (ref D mut, l₁) ∷ []) Ds bs (tail l₂ l₃)) (λ at.
@@ -78,6 +78,6 @@ module _ (D B : Datum) (S : Handed D B) (Ds : List Datum) where
           nothing ! $ move ! (3 ∷ 0 ∷ []) $ join ! $ frame ! $ feq_i ! (List Val) (shr_vals y) (shr_vals y) refl $ fjoin3 ! $ frame ! $
           done !)))))))))))
 
-    pub changed_lem : Thin first Ds none B Changes function (λ M 𝓤 𝓛. Valued (D ∷ Ds) S.both ByValue 𝓛)
-    changed_lem = thin first Ds none B Changes function (λ M 𝓤 𝓛. Valued (D ∷ Ds) S.both ByValue 𝓛)
-        (λ M 𝓤 𝓛 C Λ fm g met κs qs y x z fs ps. walk_lem 𝓛 C Λ fm g met κs qs y x fs)
+    pub changed : Thin first Ds none B Changes function (λ M 𝓤 𝓛. Valued (D ∷ Ds) S.both ByValue 𝓛)
+    changed = thin first Ds none B Changes function (λ M 𝓤 𝓛. Valued (D ∷ Ds) S.both ByValue 𝓛)
+        (λ M 𝓤 𝓛 C Λ fm g met κs qs y x z fs ps. walk 𝓛 C Λ fm g met κs qs y x fs)

@@ -38,13 +38,13 @@ use denote.Slice.{Room, shr_slice_vals, finally}
 use denote.Steps.{nothing, only}
 use denote.Triple.Statement.{Triple}
 use Rattle.datum.proofs.Called.{Valued, ValuedTwo, calls_value, calls_value_two, Showing, calls_showing}
-use Rattle.datum.proofs.Datum.{Datum, Denot, ty, typed, number_lem}
+use Rattle.datum.proofs.Datum.{Datum, Denot, ty, typed, number}
 use Rattle.datum.proofs.Handed.{Handed}
-use Rattle.datum.proofs.Lent.{ref, lent_lem, copying, keeping, answering, lending, Closed, copies_out, keeps_state, answers, shares_on, comes_back, buffer_own, pointer, bytes, lends_on, lets_be}
-use Rattle.datum.proofs.Locals.{Blocks, var, locals, after_lem, up, copies, empty_lem, full, env, cells, beyond, knowing, allocs_all, pass_all, free_cell, free_all, from_at, look_at, reads_all}
-use Rattle.datum.proofs.Parameters.{Param, Values, Facts, none, value_lem, ◌▹◌, changing}
+use Rattle.datum.proofs.Lent.{ref, lent, copying, keeping, answering, lending, Closed, copies_out, keeps_state, answers, shares_on, comes_back, buffer_own, pointer, bytes, lends_on, lets_be}
+use Rattle.datum.proofs.Locals.{Blocks, var, locals, after, up, copies, empty, full, env, cells, beyond, knowing, allocs_all, pass_all, free_cell, free_all, from_at, look_at, reads_all}
+use Rattle.datum.proofs.Parameters.{Param, Values, Facts, none, value, ◌▹◌, changing}
 use Rattle.datum.proofs.Promise.{known, machines}
-use Rattle.datum.proofs.Thin.{Promised, ThinWalk, begins, finishes, Met, walked_lem}
+use Rattle.datum.proofs.Thin.{Promised, ThinWalk, begins, finishes, Met, walked}
 
 -- F and Rs: the data before the code and after it. Q: what is asked for
 module _ (D B : Datum) (S : Handed D B) (F : Datum) (c : ℕ) (Rs : List Datum) (Q : Datum) where
@@ -52,7 +52,7 @@ module _ (D B : Datum) (S : Handed D B) (F : Datum) (c : ℕ) (Rs : List Datum) 
   first = changing D 0 tt
 
   abbrev Ds : List Datum
-  Ds = F ∷ number_lem w8 ∷ Rs
+  Ds = F ∷ number w8 ∷ Rs
 
   abbrev shared : Ty
   shared = ty_ref erased imm (pointee D.row.written)
@@ -60,7 +60,7 @@ module _ (D B : Datum) (S : Handed D B) (F : Datum) (c : ℕ) (Rs : List Datum) 
   -- _1 is the reference, _2 and _3 the first data; after the rest: 0 the buffer, 1 what is handed back, 2 the copy, 3 the length, 4 the test,
   -- and for the page 5 its answer, 6 the reference lent on, 7 what is asked for, 8 a pointer, 9 the slice lent on
   abbrev local : ℕ → ℕ
-  local j = up (after_lem 4 Rs) j
+  local j = up (after 4 Rs) j
 
   abbrev page : Name → Name → Body
   page asked show =
@@ -74,7 +74,7 @@ module _ (D B : Datum) (S : Handed D B) (F : Datum) (c : ℕ) (Rs : List Datum) 
       record {
         lifetimes = 2;
         outlives = [];
-        params = up (after_lem 1 Ds) 1;
+        params = up (after 1 Ds) 1;
         locals =
             var (ty B) ∷ var (ref D mut)
             ∷ locals Ds
@@ -94,10 +94,10 @@ module _ (D B : Datum) (S : Handed D B) (F : Datum) (c : ℕ) (Rs : List Datum) 
   -- `show` promise
   module _ (P : Denot D → Values Ds → List ℕ → Denot B → Denot D → List ℕ → Type 0) (G : Denot D → Values Ds → ℕ → Denot B → Denot D → Type 0)
       (O : Values Rs → Denot Q → Type 0) (Z : Denot D → Denot F → Denot Q → List ℕ → Denot B → List ℕ → Type 0) where
-    abbrev Changes : Promised first Ds lent_lem B
+    abbrev Changes : Promised first Ds lent B
     Changes κs y x z r e o = P y.now x z.0.now r e.now o.0.now
 
-    abbrev ByValue : Values (D ∷ Ds) → Values (number_lem w64 ∷ []) → Denot S.both → Type 0
+    abbrev ByValue : Values (D ∷ Ds) → Values (number w64 ∷ []) → Denot S.both → Type 0
     ByValue x n r = G x.0 x.1 n.0 (S.answer r) (S.state r)
 
     abbrev Shows : Denot D → Values (F ∷ Q ∷ []) → List ℕ → Denot B → List ℕ → Type 0
@@ -112,11 +112,11 @@ module _ (D B : Datum) (S : Handed D B) (F : Datum) (c : ℕ) (Rs : List Datum) 
       is_code : (n : ℕ) → T (eqb n c) → n ≡ c
       is_code n h = eqb→eq n c h
 
-      is_other_lem : (n : ℕ) → T (not (eqb n c)) → n ≡ c → ⊥
-      is_other_lem n h e = T_not (eqb n c) h (subst (λ (m : ℕ). T (eqb n m)) e (eqb_refl n))
+      is_other : (n : ℕ) → T (not (eqb n c)) → n ≡ c → ⊥
+      is_other n h e = T_not (eqb n c) h (subst (λ (m : ℕ). T (eqb n m)) e (eqb_refl n))
 
       module _ {M : Type 1} {𝓤 : Ura M} (𝓛 : Logic 𝓤) (C : Calls 𝓤 𝓛.H) (Λ : Loops 𝓤 𝓛.H) (fm : FmC 𝓤 𝓛.H 𝓛.laws C)
-          (g asked show : Name) (met : Triple 𝓤 (C g) (ValuedTwo (D ∷ Ds) (number_lem w64 ∷ []) S.both ByValue 𝓛))
+          (g asked show : Name) (met : Triple 𝓤 (C g) (ValuedTwo (D ∷ Ds) (number w64 ∷ []) S.both ByValue 𝓛))
           (asks : Triple 𝓤 (C asked) (Valued Rs Q O 𝓛)) (shows : Triple 𝓤 (C show) (Showing D (F ∷ Q ∷ []) B Shows 𝓛)) where
         -- the locals after the data
         open 𝓛 use {H}
@@ -138,10 +138,10 @@ module _ (D B : Datum) (S : Handed D B) (F : Datum) (c : ℕ) (Rs : List Datum) 
               abbrev held : List (Item 𝓤)
               held =
                   cells 𝓤 H Rs bs x.1.1
-                  ∷ empty_lem (bytes erased) l₁₃ (empty_lem (pointer erased) l₁₂ (empty_lem (ty Q) l₁₁ (empty_lem shared l₁₀ (empty_lem (ty B) l₉
+                  ∷ empty (bytes erased) l₁₃ (empty (pointer erased) l₁₂ (empty (ty Q) l₁₁ (empty shared l₁₀ (empty (ty B) l₉
                   (full ty_bool l₈ (vbool (eqb x.1.0 c)) (full (ty_int w64) l₇ (vint w64 (length z.now)) (full (ty D) l₆ (D.val y.now)
                   (full (ty S.both) l₅ (S.both.val r) (full (bytes (named 1)) l₄ (only (shr_slice_vals z)) (full (ty_int w8) l₃ (vint w8 x.1.0)
-                  (full (ty F) l₂ (F.val x.0) (full (ref D mut) l₁ (only (shr_vals y)) (empty_lem (ty B) l₀ [])))))))))))))
+                  (full (ty F) l₂ (F.val x.0) (full (ref D mut) l₁ (only (shr_vals y)) (empty (ty B) l₀ [])))))))))))))
 
               shows_page : G y.now x (length z.now) (S.answer r) (S.state r) → {rest : Body} {q : Post 𝓤 H}
                   → ((zs : List ℕ) → length zs ≡ length z.now → P y.now x z.now (S.answer r) (S.state r) zs
@@ -170,26 +170,26 @@ module _ (D B : Datum) (S : Handed D B) (F : Datum) (c : ℕ) (Rs : List Datum) 
                   k zs long (shown y.now x z.now (S.answer r) (S.state r) e (is_code x.1.0 yes) o is_o a zs is_a)))))
                   (λ no.
                   skips ! $ exec ! C Λ Es rest q $ move ! (3 ∷ []) $ lets_be ! κs.1.0 z $ move ! (1 ∷ 2 ∷ 3 ∷ 0 ∷ []) $
-                  k z.now refl (left y.now x z.now (S.answer r) (S.state r) e (is_other_lem x.1.0 no))))
+                  k z.now refl (left y.now x z.now (S.answer r) (S.state r) e (is_other x.1.0 no))))
 
-            walk_lem : ThinWalk first Ds lent_lem B Changes 𝓛 κs qs y x (z, tt) C Λ (function g asked show)
-            walk_lem = begins first Ds lent_lem B Changes 𝓛 κs qs y x (z, tt) C Λ (function g asked show) (
+            walk : ThinWalk first Ds lent B Changes 𝓛 κs qs y x (z, tt) C Λ (function g asked show)
+            walk = begins first Ds lent B Changes 𝓛 κs qs y x (z, tt) C Λ (function g asked show) (
                 split ! $ move ! (1 ∷ []) $ split ! $ move ! (3 ∷ []) $ fsplit3 ! $ move ! (6 ∷ []) $ fsplit ! $ keep ! (3 ∷ 4 ∷ 7 ∷ 0 ∷ 5 ∷ []) $
                 alloc1 ! (λ l₀. alloc1 ! (λ l₁. alloc1 ! (λ l₂. alloc1 ! (λ l₃. allocs_all ! Rs (λ bs. alloc1 ! (λ l₄. alloc1 ! (λ l₅. alloc1 ! (λ l₆.
                 alloc1 ! (λ l₇. alloc1 ! (λ l₈. alloc1 ! (λ l₉. alloc1 ! (λ l₁₀. alloc1 ! (λ l₁₁. alloc1 ! (λ l₁₂. alloc1 ! (λ l₁₃. alloc0 ! $ params1 ! $
                 knowing (beyond 𝓤 H ((ty B, l₀) ∷ (ref D mut, l₁) ∷ (ty F, l₂) ∷ (ty_int w8, l₃) ∷ []) Rs bs (tail l₄ l₅ l₆ l₇ l₈ l₉ l₁₀ l₁₁ l₁₂ l₁₃)) (λ at.
                 pass1 ! (init ! 25 refl (tt, tt)) $ pass1 ! (init ! 23 refl (typed F 𝓛 x.0 fs.0)) $
-                pass1 ! (init ! 21 refl (typed (number_lem w8) 𝓛 x.1.0 fs.1.0)) $ move ! (20 ∷ []) $
-                pass_all lent_lem κs ! Rs bs x.1.1 (z, tt) fs.1.1 (tail l₄ l₅ l₆ l₇ l₈ l₉ l₁₀ l₁₁ l₁₂ l₁₃) (
+                pass1 ! (init ! 21 refl (typed (number w8) 𝓛 x.1.0 fs.1.0)) $ move ! (20 ∷ []) $
+                pass_all lent κs ! Rs bs x.1.1 (z, tt) fs.1.1 (tail l₄ l₅ l₆ l₇ l₈ l₉ l₁₀ l₁₁ l₁₂ l₁₃) (
                 pass1 ! (init ! 19 refl (tt, (tt, (record { fits = fits.0 }, tt)))) $ pass0 ! $ move ! (29 ∷ 30 ∷ 31 ∷ []) $
                 -- [what the reference owns; its token; the rest; 9; 8; 7; 6; 5; 4; 3; 2; 1; 0; _3; _2; _1; _0, each with what frees it; the buffer; its token]
                 copies_out ! D y.now y.ref_ptr.0 y.ref_ptr.1 refl (at 2) 25 15 refl refl (λ was.
                 assigns ! (of_opd ! (load ! (from_at ! (at 0) (fld ! refl (stop !))) (look_at ! 23 refl (sub ! 1 refl (whole !)))))
                 (from_at ! (at 3) (stop !)) (init ! 17 refl (tt, record { fits = fits.0 })) $
-                calls_value_two ! fm (D ∷ Ds) (number_lem w64 ∷ []) S.both ByValue met (y.now, x) (was, fs) (length z.now, tt) ((refl, fits.0), tt)
+                calls_value_two ! fm (D ∷ Ds) (number w64 ∷ []) S.both ByValue met (y.now, x) (was, fs) (length z.now, tt) ((refl, fits.0), tt)
                 (and_then ! (load ! (from_at ! (at 2) (stop !)) (look ! 20 refl)) (and_then ! (load ! (from ! (stop !)) (look ! 28 refl))
                 (and_then ! (load ! (from ! (stop !)) (look ! 26 refl))
-                (reads_all (value_lem (number_lem w64) ▹ none) tt (length z.now, tt) (and_then ! (load ! (from_at ! (at 3) (stop !)) (look ! 18 refl)) (no_more !))
+                (reads_all (value (number w64) ▹ none) tt (length z.now, tt) (and_then ! (load ! (from_at ! (at 3) (stop !)) (look ! 18 refl)) (no_more !))
                 ! 5 Rs bs x.1.1 4 (tail l₄ l₅ l₆ l₇ l₈ l₉ l₁₀ l₁₁ l₁₂ l₁₃) refl refl)))) (λ r e is.
                 keeps_state ! D B S r y.ptr.0 y.ptr.1 is refl (at 1) 25 17 refl refl refl $
                 assigns ! (bin ! (load ! (from ! (stop !)) (look ! 24 refl)) (lit ! small) tt) (from_at ! (at 4) (stop !)) (init ! 14 refl (tt, tt)) $
@@ -201,21 +201,21 @@ module _ (D B : Datum) (S : Handed D B) (F : Datum) (c : ℕ) (Rs : List Datum) 
                 free_all ! Rs bs x.1.1 (move ! (23 ∷ 24 ∷ []) $ free_cell ! $ move ! (21 ∷ 22 ∷ []) $ free_cell ! $ move ! (19 ∷ 20 ∷ []) $ free_cell ! $
                 move ! (17 ∷ 18 ∷ []) $ free_cell ! $ move ! (15 ∷ 16 ∷ []) $ free_cell ! $ move ! (13 ∷ 14 ∷ []) $ free1 ! $ move ! (11 ∷ 12 ∷ []) $ free1 ! $
                 move ! (9 ∷ 10 ∷ []) $ free1 ! $ move ! (7 ∷ 8 ∷ []) $ free1 ! $ move ! (5 ∷ 6 ∷ []) $ free1 ! $ free0 ! $
-                suffices ! _ (finishes first Ds lent_lem B Changes 𝓛 κs qs y x (z, tt) (S.state r) (zs, tt) (S.answer r) fs tt (long, tt)
+                suffices ! _ (finishes first Ds lent B Changes 𝓛 κs qs y x (z, tt) (S.state r) (zs, tt) (S.answer r) fs tt (long, tt)
                 (S.fits r is).1 p) $
                 nothing ! $ move ! (3 ∷ 5 ∷ 0 ∷ []) $ group ! 3 $ frame ! $ feq_i ! (List Val) (shr_vals y) (shr_vals y) refl $ fjoin3 ! $ frame ! $
                 nothing ! $ move ! (1 ∷ 0 ∷ []) $ fjoin ! $ done !))))))))))))))))))))))
 
       pub changed-shown : (M : Type 1) (𝓤 : Ura M) (𝓛 : Logic 𝓤) (𝓜 : Model 𝓤 𝓛.H) (𝓡 : Running 𝓤 𝓛.H 𝓜) (γ : REnv) (f g asked show : Name)
           → Unfolded 𝓤 𝓛.H (tables 𝓤 𝓛.H 𝓜 𝓡 γ).C (tables 𝓤 𝓛.H 𝓜 𝓡 γ).Λ f (function g asked show)
-          → (r : Routine) → γ g ≡ r → Triple 𝓤 (𝓡.run r) (ValuedTwo (D ∷ Ds) (number_lem w64 ∷ []) S.both ByValue 𝓛)
+          → (r : Routine) → γ g ≡ r → Triple 𝓤 (𝓡.run r) (ValuedTwo (D ∷ Ds) (number w64 ∷ []) S.both ByValue 𝓛)
           → (s : Routine) → γ asked ≡ s → Triple 𝓤 (𝓡.run s) (Valued Rs Q O 𝓛)
           → (t : Routine) → γ show ≡ t → Triple 𝓤 (𝓡.run t) (Showing D (F ∷ Q ∷ []) B Shows 𝓛)
-          → Met first Ds lent_lem B Changes 𝓛 𝓜 𝓡 γ f
+          → Met first Ds lent B Changes 𝓛 𝓜 𝓡 γ f
       changed-shown M 𝓤 𝓛 𝓜 𝓡 γ f g asked show unfolded r calls_r met_r s calls_s met_s t calls_t met_t =
           let 𝓣 : Tables 𝓤 𝓛.H = machines 𝓛 𝓜 𝓡 γ in
-          walked_lem first Ds lent_lem B Changes 𝓛 𝓜 𝓡 γ f (function g asked show) unfolded (λ κs qs y x z fs _ ps.
-          walk_lem 𝓛 𝓣.C 𝓣.Λ (fm_of 𝓤 𝓛.H 𝓛.laws 𝓣) g asked show
-          (known 𝓛 𝓜 𝓡 γ (ValuedTwo (D ∷ Ds) (number_lem w64 ∷ []) S.both ByValue 𝓛) g r calls_r met_r)
+          walked first Ds lent B Changes 𝓛 𝓜 𝓡 γ f (function g asked show) unfolded (λ κs qs y x z fs _ ps.
+          walk 𝓛 𝓣.C 𝓣.Λ (fm_of 𝓤 𝓛.H 𝓛.laws 𝓣) g asked show
+          (known 𝓛 𝓜 𝓡 γ (ValuedTwo (D ∷ Ds) (number w64 ∷ []) S.both ByValue 𝓛) g r calls_r met_r)
           (known 𝓛 𝓜 𝓡 γ (Valued Rs Q O 𝓛) asked s calls_s met_s)
           (known 𝓛 𝓜 𝓡 γ (Showing D (F ∷ Q ∷ []) B Shows 𝓛) show t calls_t met_t) κs qs y x z.0 fs ps.0.0.1)

@@ -37,12 +37,12 @@ use denote.Slice.{shr_slice_vals, Room}
 use denote.Steps.{nothing, only}
 use denote.Triple.Statement.{Triple}
 use Rattle.datum.proofs.Called.{Valued, calls_value, list_own, list_twice}
-use Rattle.datum.proofs.Datum.{Datum, Denot, ty, vals, typed, copies, number_lem, array}
-use Rattle.datum.proofs.Locals.{empty_lem, full, var, cell, free_cell}
+use Rattle.datum.proofs.Datum.{Datum, Denot, ty, vals, typed, copies, number, array}
+use Rattle.datum.proofs.Locals.{empty, full, var, cell, free_cell}
 use Rattle.datum.proofs.Parameters.{Param, Values, none, listing}
 use Rattle.datum.proofs.Promise.{Post}
-use Rattle.datum.proofs.Rows.{apart, together, element_lem, back, put}
-use Rattle.datum.proofs.SoFar.{held_lem, At, begun, goes_lem, in_list, in_held, next, ends, all_held, all_long}
+use Rattle.datum.proofs.Rows.{apart, together, element, back, put}
+use Rattle.datum.proofs.SoFar.{held, At, begun, goes, in_list, in_held, next, ends, all_held, all_long}
 use Rattle.datum.proofs.Taken.{slice}
 use Rattle.datum.proofs.Thin.{Promised, params, Tells, ThinWalk, begins, finishes, ThinTwo, thin_two}
 
@@ -99,7 +99,7 @@ module _ (E : Datum) (N : ℕ) (blank : Denot E) where
 
   -- ## The walk
 
-  abbrev Bounded : Values (number_lem w64 ∷ []) → ℕ → Type 0
+  abbrev Bounded : Values (number w64 ∷ []) → ℕ → Type 0
   Bounded x r = r ≡ min x.0 N
 
   abbrev Blanks : Values [] → List (Denot E) → Type 0
@@ -107,12 +107,12 @@ module _ (E : Datum) (N : ℕ) (blank : Denot E) where
 
   -- copy_of is what is promised, and an element's size is a number of 64 bits
   module _ (copy_of : List (Denot E) → List (Denot E))
-      (is_copy : (ys : List (Denot E)) (n : ℕ) → n ≡ min (length ys) N → held_lem N blank ys n ≡ copy_of ys) (small : T (ltb (size (ty E)) (2 ^ 64))) where
+      (is_copy : (ys : List (Denot E)) (n : ℕ) → n ≡ min (length ys) N → held N blank ys n ≡ copy_of ys) (small : T (ltb (size (ty E)) (2 ^ 64))) where
     abbrev Copies : Promised lent [] none (array E N)
     Copies κs y x z r e o = r ≡ copy_of y.now
 
     module _ {M : Type 1} {𝓤 : Ura M} (𝓛 : Logic 𝓤) (𝓣 : Tables 𝓤 𝓛.H) (fm : FmC 𝓤 𝓛.H 𝓛.laws 𝓣.C)
-        (bounded blanks : Name) (bounds : Triple 𝓤 (𝓣.C bounded) (Valued (number_lem w64 ∷ []) (number_lem w64) Bounded 𝓛))
+        (bounded blanks : Name) (bounds : Triple 𝓤 (𝓣.C bounded) (Valued (number w64 ∷ []) (number w64) Bounded 𝓛))
         (clears : Triple 𝓤 (𝓣.C blanks) (Valued [] (array E N) Blanks 𝓛))
         (κs : Lfts 1) (qs : Shares 1) (y : Bor (List (Denot E))) (fits : Room E.row (length y.now)) where
       open 𝓛 use {H}
@@ -164,9 +164,9 @@ module _ (E : Datum) (N : ℕ) (blank : Denot E) where
         abbrev I : ℕ → List (Item 𝓤)
         I t =
             Now t ∷ looked_at q (‵ list
-            ∷ empty_lem ty_ptr l₁₃ (empty_lem ty_ptr l₁₂ (empty_lem num l₁₁ (empty_lem (ty E) l₁₀ (empty_lem ty_ptr l₉ (empty_lem num l₈ (empty_lem ty_bool l₇
+            ∷ empty ty_ptr l₁₃ (empty ty_ptr l₁₂ (empty num l₁₁ (empty (ty E) l₁₀ (empty ty_ptr l₉ (empty num l₈ (empty ty_bool l₇
             (full arr l₆ ((array E N).val cleared) (full num l₅ (vint w64 (length ys)) (‵ (fdies num l₄) ∷ ‵ (fdies arr l₃)
-            ∷ full num l₂ (vint w64 n) (full (slice E (named 0)) l₁ (only (shr_slice_vals y)) (empty_lem arr l₀ []))))))))))))
+            ∷ full num l₂ (vint w64 n) (full (slice E (named 0)) l₁ (only (shr_slice_vals y)) (empty arr l₀ []))))))))))))
 
         abbrev En : Env 𝓤 H
         En =
@@ -182,9 +182,9 @@ module _ (E : Datum) (N : ℕ) (blank : Denot E) where
         abbrev Turn : ℕ → Type 1
         Turn t = Sq 𝓛 (I t) (runs 𝓣.C 𝓣.Λ En turn (any_q (after_turn 𝓤 H (Below 𝓛 ◌<◌ I t) Left)))
 
-        leaves_lem : Turn 0
+        leaves : Turn 0
         unfolding after_turn
-        leaves_lem = pick ! (λ i. pick ! (λ xs. learn ! (λ at. split ! $
+        leaves = pick ! (λ i. pick ! (λ xs. learn ! (λ at. split ! $
             -- [the array's row; _4; the list's row; the open borrow; the borrow; the list; room for _13 to _7; _6; _5; what frees _4, _3; _2;
             -- _1; room for _0]
             assigns ! (bin ! (load ! (from ! (stop !)) (look ! 1 refl)) (load ! (from ! (stop !)) (look ! 26 refl)) tt) (from ! (stop !))
@@ -208,7 +208,7 @@ module _ (E : Datum) (N : ℕ) (blank : Denot E) where
         goes_on t = pick ! (λ i. pick ! (λ xs. learn ! (λ at. split ! $
             assigns ! (bin ! (load ! (from ! (stop !)) (look ! 1 refl)) (load ! (from ! (stop !)) (look ! 26 refl)) tt) (from ! (stop !))
             (init ! 18 refl (tt, tt)) $
-            rewrite ! 18 (λ (t : Bool). cell ty_bool l₇ (vbool t)) (goes_lem N blank ys n t i xs at) refl $
+            rewrite ! 18 (λ (t : Bool). cell ty_bool l₇ (vbool t)) (goes N blank ys n t i xs at) refl $
             stays ! (load ! (from ! (stop !)) (look ! 18 refl)) $
             assigns ! (bin ! (load ! (from ! (stop !)) (look ! 1 refl)) (lit ! small) (record { fits = offset_fits n t i xs at })) (from ! (stop !))
             (init ! 16 refl (tt, record { fits = offset_fits n t i xs at })) $
@@ -216,7 +216,7 @@ module _ (E : Datum) (N : ℕ) (blank : Denot E) where
             (bin ! (load ! (from ! (fld ! refl (stop !))) (look_in ! 28 (sub ! 0 refl (whole !)))) (load ! (from ! (stop !)) (look ! 16 refl)) tt)
             (from ! (stop !)) (init ! 14 refl (tt, tt)) $
             rewrite ! 14 (λ (p : ℕ). cell ty_ptr l₉ (vptr b p)) (sym (place_is (size (ty E)) o i)) refl $
-            move ! (2 ∷ []) $ element_lem ! E q ys i blank b o (in_list N blank ys n t i xs at) (λ is.
+            move ! (2 ∷ []) $ element ! E q ys i blank b o (in_list N blank ys n t i xs at) (λ is.
             -- [the element; the others of the list; the array's row; _4; ..]
             assigns ! (of_opd ! (load ! (from ! (hop ! (look ! 15 refl) (stop !))) (look_raw ! 0 refl))) (from ! (stop !))
             (init ! 13 refl (typed E 𝓛 (get_or ys i blank) is)) $
@@ -228,7 +228,7 @@ module _ (E : Datum) (N : ℕ) (blank : Denot E) where
             assigns ! (bin ! (load ! (from ! (stop !)) (look ! 8 refl)) (load ! (from ! (stop !)) (look ! 10 refl)) tt) (from ! (stop !))
             (init ! 6 refl (tt, tt)) $
             rewrite ! 6 (λ (p : ℕ). cell ty_ptr l₁₃ (vptr l₃ p)) (sym (place_is (size (ty E)) 0 i)) refl $
-            move ! (1 ∷ []) $ element_lem ! E full_share xs i blank l₃ 0 (in_held N blank ys n t i xs at) (λ _.
+            move ! (1 ∷ []) $ element ! E full_share xs i blank l₃ 0 (in_held N blank ys n t i xs at) (λ _.
             -- [the element; the others of the array; the list's row; _4; ..]
             assigns ! (of_opd ! (load ! (from ! (stop !)) (look ! 13 refl))) (from ! (hop ! (look ! 7 refl) (stop !)))
             (store_raw ! 0 refl (typed E 𝓛 (get_or ys i blank) is)) $
@@ -241,11 +241,11 @@ module _ (E : Datum) (N : ℕ) (blank : Denot E) where
             again ! ◌<◌ I (suc t) t (lt-suc_self t))))))
 
         turns : (t : ℕ) → Turn t
-        turns zero = leaves_lem
+        turns zero = leaves
         turns (suc t) = goes_on t
 
-      walk_lem : ThinWalk lent [] none (array E N) Copies 𝓛 κs qs y tt tt 𝓣.C 𝓣.Λ (function bounded blanks)
-      walk_lem = begins lent [] none (array E N) Copies 𝓛 κs qs y tt tt 𝓣.C 𝓣.Λ (function bounded blanks) (
+      walk : ThinWalk lent [] none (array E N) Copies 𝓛 κs qs y tt tt 𝓣.C 𝓣.Λ (function bounded blanks)
+      walk = begins lent [] none (array E N) Copies 𝓛 κs qs y tt tt 𝓣.C 𝓣.Λ (function bounded blanks) (
           split ! $ keep ! (0 ∷ 2 ∷ []) $
           alloc1 ! (λ l₀. alloc1 ! (λ l₁. alloc1 ! (λ l₂. alloc1 ! (λ l₃. alloc1 ! (λ l₄. alloc1 ! (λ l₅. alloc1 ! (λ l₆.
           alloc1 ! (λ l₇. alloc1 ! (λ l₈. alloc1 ! (λ l₉. alloc1 ! (λ l₁₀. alloc1 ! (λ l₁₁. alloc1 ! (λ l₁₂. alloc1 ! (λ l₁₃. alloc0 ! $
@@ -253,9 +253,9 @@ module _ (E : Datum) (N : ℕ) (blank : Denot E) where
           -- [room for _13 to _2; _1; room for _0, each with what frees it; the token; the list]
           assigns ! (of_opd ! (load ! (from ! (fld ! refl (stop !))) (look_in ! 24 (sub ! 1 refl (whole !))))) (from ! (stop !))
           (init ! 16 refl (tt, record { fits = fits.0 })) $
-          calls_value ! fm (number_lem w64 ∷ []) (number_lem w64) Bounded bounds (length ys, tt) ((refl, fits.0), tt)
+          calls_value ! fm (number w64 ∷ []) (number w64) Bounded bounds (length ys, tt) ((refl, fits.0), tt)
           (and_then ! (load ! (from ! (stop !)) (look ! 17 refl)) (no_more !)) (λ n e is.
-          land ! (from ! (stop !)) (init ! 22 refl (typed (number_lem w64) 𝓛 n is)) $
+          land ! (from ! (stop !)) (init ! 22 refl (typed (number w64) 𝓛 n is)) $
           calls_value ! fm [] (array E N) Blanks clears tt tt (no_more !) (λ xs c long.
           land ! (from ! (stop !)) (init ! 14 refl (typed (array E N) 𝓛 xs long)) $
           assigns ! (of_opd ! (load ! (from ! (stop !)) (look ! 14 refl))) (from ! (stop !)) (init ! 20 refl (typed (array E N) 𝓛 xs long)) $
@@ -268,8 +268,8 @@ module _ (E : Datum) (N : ℕ) (blank : Denot E) where
           loops ! 𝓣 ◌<◌ lt-wf_rel.wf (I l₀ l₁ l₂ l₃ l₄ l₅ l₆ l₇ l₈ l₉ l₁₀ l₁₁ l₁₂ l₁₃ n xs q)
           (turns l₀ l₁ l₂ l₃ l₄ l₅ l₆ l₇ l₈ l₉ l₁₀ l₁₁ l₁₂ l₁₃ n xs q) n))))))))))))))))))
 
-    pub copied : ThinTwo lent [] none (array E N) Copies function (λ M 𝓤 𝓛. Valued (number_lem w64 ∷ []) (number_lem w64) Bounded 𝓛)
+    pub copied : ThinTwo lent [] none (array E N) Copies function (λ M 𝓤 𝓛. Valued (number w64 ∷ []) (number w64) Bounded 𝓛)
         (λ M 𝓤 𝓛. Valued [] (array E N) Blanks 𝓛)
-    copied = thin_two lent [] none (array E N) Copies function (λ M 𝓤 𝓛. Valued (number_lem w64 ∷ []) (number_lem w64) Bounded 𝓛)
+    copied = thin_two lent [] none (array E N) Copies function (λ M 𝓤 𝓛. Valued (number w64 ∷ []) (number w64) Bounded 𝓛)
         (λ M 𝓤 𝓛. Valued [] (array E N) Blanks 𝓛)
-        (λ M 𝓤 𝓛 𝓣 fm bounded blanks bounds clears κs qs y x z fs is ps. walk_lem 𝓛 𝓣 fm bounded blanks bounds clears κs qs y is.0.1)
+        (λ M 𝓤 𝓛 𝓣 fm bounded blanks bounds clears κs qs y x z fs is ps. walk 𝓛 𝓣 fm bounded blanks bounds clears κs qs y is.0.1)

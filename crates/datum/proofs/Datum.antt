@@ -24,21 +24,21 @@ use denote.Struct.Laws as SL
 use denote.Struct.Struct.{Plains}
 
 pub record Datum : Type 2 where
-  pub row_lem : RattleType
-  pub val : row_lem.Denot → Val
-  pub single : row_lem.mir ≡ lone row_lem.mir ∷ []
-  pub tells_lem : Tells row_lem (Is row_lem) (λ x. val x ∷ [])
-  pub lawful : {M : Type 1} {𝓤 : Ura M} (𝓛 : Logic 𝓤) → Lawful 𝓛 row_lem
-  pub makes : {M : Type 1} {𝓤 : Ura M} (𝓛 : Logic 𝓤) → Makes 𝓛 row_lem (Is row_lem)
-  pub still : row_lem.exit yes ≡ unchanged
+  pub row : RattleType
+  pub val : row.Denot → Val
+  pub single : row.mir ≡ lone row.mir ∷ []
+  pub tells : Tells row (Is row) (λ x. val x ∷ [])
+  pub lawful : {M : Type 1} {𝓤 : Ura M} (𝓛 : Logic 𝓤) → Lawful 𝓛 row
+  pub makes : {M : Type 1} {𝓤 : Ura M} (𝓛 : Logic 𝓤) → Makes 𝓛 row (Is row)
+  pub still : row.exit yes ≡ unchanged
 
 abbrev pub number : Width → Datum
 number w =
     record {
-      row_lem = UInt w;
+      row = UInt w;
       val = vint w;
       single = refl;
-      tells_lem = uint_Tells w;
+      tells = uint_Tells w;
       lawful = λ 𝓛. uint_Lawful 𝓛 w;
       makes = λ 𝓛. uint_Makes 𝓛 w;
       still = refl;
@@ -47,10 +47,10 @@ number w =
 abbrev pub struct : (T : SD.Declared) → SL.Laws T → Plains (SD.fields T) → SL.Copyables T.parts → Datum
 struct T laws plain copy =
     record {
-      row_lem = SD.row T;
+      row = SD.row T;
       val = SL.val T laws;
       single = refl;
-      tells_lem = SL.tells T laws;
+      tells = SL.tells T laws;
       lawful = λ 𝓛. SL.lawful T laws 𝓛;
       makes = λ 𝓛. SL.makes T plain 𝓛;
       still = SL.still T copy yes;
@@ -59,10 +59,10 @@ struct T laws plain copy =
 abbrev pub enum : (T : ED.Declared) → EL.Laws T → Plainss (ED.variants T) → EL.Copyabless T.parts → Few (ED.shape T) → Datum
 enum T laws plain copy few =
     record {
-      row_lem = ED.row T;
+      row = ED.row T;
       val = EL.val T laws;
       single = refl;
-      tells_lem = EL.tells T laws;
+      tells = EL.tells T laws;
       lawful = λ 𝓛. EL.lawful T laws 𝓛 few;
       makes = λ 𝓛. EL.makes T plain 𝓛;
       still = EL.still T copy yes;
@@ -72,10 +72,10 @@ enum T laws plain copy few =
 abbrev pub array : Datum → ℕ → Datum
 array D n =
     record {
-      row_lem = Array D.row n;
+      row = Array D.row n;
       val = λ xs. array_val (map D.val xs);
       single = refl;
-      tells_lem = Array-Tells D.row (λ x. D.val x ∷ []) D.tells n;
+      tells = Array-Tells D.row (λ x. D.val x ∷ []) D.tells n;
       lawful = λ 𝓛. Array-Lawful 𝓛 D.row (D.lawful 𝓛) n;
       makes = λ 𝓛. Array-Makes 𝓛 D.row (D.makes 𝓛) n;
       still = ap each_of D.still;

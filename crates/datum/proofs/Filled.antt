@@ -23,8 +23,8 @@ use denote.Steps.{nothing}
 use denote.Triple.Statement.{Triple}
 use Rattle.datum.proofs.Called.{buffer, Filling, calls_filling}
 use Rattle.datum.proofs.Datum.{Datum, Denot, ty, typed}
-use Rattle.datum.proofs.Lent.{ref, lent_lem, copying, lending, copies_shared, pointer, bytes, lends_on}
-use Rattle.datum.proofs.Locals.{var, locals, after_lem, up, copies, beyond, knowing, allocs_all, pass_all, free_cell, free_all, from_at, reads_all}
+use Rattle.datum.proofs.Lent.{ref, lent, copying, lending, copies_shared, pointer, bytes, lends_on}
+use Rattle.datum.proofs.Locals.{var, locals, after, up, copies, beyond, knowing, allocs_all, pass_all, free_cell, free_all, from_at, reads_all}
 use Rattle.datum.proofs.Parameters.{Param, Values, Facts, reading}
 use Rattle.datum.proofs.Thin.{Promised, ThinWalk, begins, finishes, Thin, thin}
 
@@ -38,19 +38,19 @@ module _ (D B : Datum) (Ds : List Datum) where
       record {
         lifetimes = 2;
         outlives = [];
-        params = up (after_lem 1 Ds) 1;
+        params = up (after 1 Ds) 1;
         locals =
             var (ty B) ∷ var (ref D imm)
             ∷ locals Ds (var (bytes (named 1)) ∷ var (ty D) ∷ var (pointer erased) ∷ var (bytes erased) ∷ []);
         body =
-            seq (copying D 1 (up (after_lem 2 Ds) 1))
-            (lending (up (after_lem 2 Ds) 0) (up (after_lem 2 Ds) 2) (up (after_lem 2 Ds) 3)
-            (seq (call g (copy (place (up (after_lem 2 Ds) 1) []) ∷ copies 2 Ds (copy (place (up (after_lem 2 Ds) 3) []) ∷ [])) (place 0 [])) return));
+            seq (copying D 1 (up (after 2 Ds) 1))
+            (lending (up (after 2 Ds) 0) (up (after 2 Ds) 2) (up (after 2 Ds) 3)
+            (seq (call g (copy (place (up (after 2 Ds) 1) []) ∷ copies 2 Ds (copy (place (up (after 2 Ds) 3) []) ∷ [])) (place 0 [])) return));
       }
 
   -- P: of what lies there, the data, the bytes, the result, the bytes afterwards
   module _ (P : Denot D → Values Ds → List ℕ → Denot B → List ℕ → Type 0) where
-    abbrev Fills : Promised first Ds lent_lem B
+    abbrev Fills : Promised first Ds lent B
     Fills κs y x z r e o = P y.now x z.0.now r o.0.now
 
     abbrev ByValue : Values (D ∷ Ds) → List ℕ → Denot B → List ℕ → Type 0
@@ -63,14 +63,14 @@ module _ (D B : Datum) (Ds : List Datum) where
       abbrev tail : ℕ → ℕ → ℕ → ℕ → Env 𝓤 H
       tail l₂ l₃ l₄ l₅ = (bytes (named 1), l₂) ∷ (ty D, l₃) ∷ (pointer erased, l₄) ∷ (bytes erased, l₅) ∷ []
 
-      walk_lem : (κs : Lfts 2) (qs : Shares 2) (y : Bor (Denot D)) (x : Values Ds) (z : Bor (List ℕ)) → Facts Ds x → Room u8 (length z.now)
-          → ThinWalk first Ds lent_lem B Fills 𝓛 κs qs y x (z, tt) C Λ (function g)
-      walk_lem κs qs y x z fs fits = begins first Ds lent_lem B Fills 𝓛 κs qs y x (z, tt) C Λ (function g) (
+      walk : (κs : Lfts 2) (qs : Shares 2) (y : Bor (Denot D)) (x : Values Ds) (z : Bor (List ℕ)) → Facts Ds x → Room u8 (length z.now)
+          → ThinWalk first Ds lent B Fills 𝓛 κs qs y x (z, tt) C Λ (function g)
+      walk κs qs y x z fs fits = begins first Ds lent B Fills 𝓛 κs qs y x (z, tt) C Λ (function g) (
           split ! $ move ! (1 ∷ []) $ split ! $ move ! (3 ∷ []) $ fsplit3 ! $ move ! (6 ∷ []) $ fsplit ! $ keep ! (4 ∷ 7 ∷ 3 ∷ 0 ∷ 5 ∷ []) $
           alloc1 ! (λ l₀. alloc1 ! (λ l₁. allocs_all ! Ds (λ bs. alloc1 ! (λ l₂. alloc1 ! (λ l₃. alloc1 ! (λ l₄. alloc1 ! (λ l₅. alloc0 ! $
           params1 ! $
           knowing (beyond 𝓤 H ((ty B, l₀) ∷ (ref D imm, l₁) ∷ []) Ds bs (tail l₂ l₃ l₄ l₅)) (λ at. pass1 ! (init ! 9 refl (tt, tt)) $ move ! (8 ∷ []) $
-          pass_all lent_lem κs ! Ds bs x (z, tt) fs (tail l₂ l₃ l₄ l₅) (
+          pass_all lent κs ! Ds bs x (z, tt) fs (tail l₂ l₃ l₄ l₅) (
           pass1 ! (init ! 7 refl (tt, (tt, (record { fits = fits.0 }, tt)))) $ pass0 ! $ move ! (13 ∷ 14 ∷ []) $
           -- [the shared borrow; its token; the data; _5; _4; _3; _2; _1; _0, each with what frees it; what says the value; the buffer; its token]
           copies_shared ! D y.now y.ref_ptr.0 y.ref_ptr.1 refl (at 1) 9 5 refl refl (λ was.
@@ -84,11 +84,11 @@ module _ (D B : Datum) (Ds : List Datum) where
           returns ! (look ! 15 refl) $ move ! (15 ∷ 16 ∷ []) $ free_cell ! $ move ! (13 ∷ 14 ∷ []) $ free_cell ! $ move ! (4 ∷ []) $
           free_all ! Ds bs x (move ! (10 ∷ 11 ∷ []) $ free_cell ! $ move ! (8 ∷ 9 ∷ []) $ free_cell ! $ move ! (6 ∷ 7 ∷ []) $ free_cell ! $
           move ! (4 ∷ 5 ∷ []) $ free_cell ! $ free0 ! $
-          suffices ! _ (finishes first Ds lent_lem B Fills 𝓛 κs qs y x (z, tt) tt (zs, tt) r fs tt (l, tt) is e) $
+          suffices ! _ (finishes first Ds lent B Fills 𝓛 κs qs y x (z, tt) tt (zs, tt) r fs tt (l, tt) is e) $
           nothing ! $ move ! (3 ∷ 2 ∷ 0 ∷ []) $ group ! 3 $ frame ! $ move ! (2 ∷ 1 ∷ []) $ feq_i ! (List Val) (shr_vals y) (shr_vals y) refl $
           fjoin3 ! $ frame ! $
           nothing ! $ move ! (1 ∷ 0 ∷ []) $ fjoin ! $ done !)))))))))))))
 
-    pub filled_lem : Thin first Ds lent_lem B Fills function (λ M 𝓤 𝓛. Filling (D ∷ Ds) B ByValue 𝓛)
-    filled_lem = thin first Ds lent_lem B Fills function (λ M 𝓤 𝓛. Filling (D ∷ Ds) B ByValue 𝓛)
-        (λ M 𝓤 𝓛 C Λ fm g met κs qs y x z fs ps. walk_lem 𝓛 C Λ fm g met κs qs y x z.0 fs ps.0.0.1)
+    pub filled : Thin first Ds lent B Fills function (λ M 𝓤 𝓛. Filling (D ∷ Ds) B ByValue 𝓛)
+    filled = thin first Ds lent B Fills function (λ M 𝓤 𝓛. Filling (D ∷ Ds) B ByValue 𝓛)
+        (λ M 𝓤 𝓛 C Λ fm g met κs qs y x z fs ps. walk 𝓛 C Λ fm g met κs qs y x z.0 fs ps.0.0.1)

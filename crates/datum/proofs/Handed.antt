@@ -11,4 +11,4 @@ pub record Handed (D B : Datum) : Type 2 where
   pub name : Sym
   pub as_type : ty both ≡ ty_struct name (tcons (ty D) (tcons (ty B) tnil))
   pub as_value : (r : Denot both) → both.val r ≡ vstruct (vcons (D.val (state r)) (vcons (B.val (answer r)) vnil))
-  pub fits_lem : (r : Denot both) → Fact both r → Fact D (state r) × Fact B (answer r)
+  pub fits : (r : Denot both) → Fact both r → Fact D (state r) × Fact B (answer r)

@@ -30,7 +30,7 @@ use denote.Steps.{opens, closes, looks, shuts, only}
 use Rattle.datum.proofs.Datum.{Datum, Denot, ty, vals, Fact, typed, copies}
 use Rattle.datum.proofs.Handed.{Handed}
 use Rattle.datum.proofs.Locals.{room, cell, from_at, look_at}
-use Rattle.datum.proofs.Memory.{lies, found_lem, left_there}
+use Rattle.datum.proofs.Memory.{lies, found, left_there}
 use Rattle.datum.proofs.Parameters.{Params, none, ◌▹◌, filling}
 
 -- ## The code
@@ -101,7 +101,7 @@ module _ {M : Type 1} {𝓤 : Ura M} {𝓛 : Logic 𝓤} {K : Type 0} {Γ : List
       → (Fact D h → Seq K 𝓛 (Opened D b o κ s γ h (put 𝓛 m (cell (ty D) l₂ (D.val h)) Γ)) (runs C Λ E rest q))
       → Seq K 𝓛 (Closed D b o κ s γ h Γ) (runs C Λ E (seq (copying D i j) rest) q)
   copies_out t D h b o at_i at_j n m has_n has_m k =
-      opens t tt D.row {h = h} b o (λ vs. found_lem t D full_share h vs b o (λ was.
+      opens t tt D.row {h = h} b o (λ vs. found t D full_share h vs b o (λ was.
       assigns t (of_opd t (load t (from_at t at_i (hop t (look t (suc (suc (suc (suc n)))) has_n) (stop t))) (look_raw t 0 refl)))
       (from_at t at_j (stop t)) (init t (suc (suc (suc (suc m)))) has_m (typed D 𝓛 h was)) $ k was))
 
@@ -112,7 +112,7 @@ module _ {M : Type 1} {𝓤 : Ura M} {𝓛 : Logic 𝓤} {K : Type 0} {Γ : List
       → (Fact D h → Seq K 𝓛 (‵ (flft κ s) ∷ ‵ (fshr_bor κ (shared D b o h)) ∷ put 𝓛 m (cell (ty D) l₂ (D.val h)) Γ) (runs C Λ E rest q))
       → Seq K 𝓛 (‵ (fshr_bor κ (shared D b o h)) ∷ ‵ (flft κ s) ∷ Γ) (runs C Λ E (seq (copying D i j) rest) q)
   copies_shared t D h b o at_i at_j n m has_n has_m k =
-      looks t tt D.row (Is D.row) (shows 𝓛 D.row) (vals D) D.tells (copies D 𝓛) h b o (λ z vs. found_lem t D z h vs b o (λ was.
+      looks t tt D.row (Is D.row) (shows 𝓛 D.row) (vals D) D.tells (copies D 𝓛) h b o (λ z vs. found t D z h vs b o (λ was.
       assigns t (of_opd t (load t (from_at t at_i (hop t (look t (suc (suc (suc n))) has_n) (stop t))) (look_raw t 0 refl))) (from_at t at_j (stop t))
       (init t (suc (suc (suc m))) has_m (typed D 𝓛 h was)) $ left_there t D z h b o was $ shuts t tt D.row z h (vals D h) b o $ k was))
 

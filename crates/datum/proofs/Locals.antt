@@ -109,16 +109,16 @@ module _ {M : Type 1} (𝓤 : Ura M) (H : Heap 𝓤) where
     from_next : drop_l (suc k) E ≡ drop_l 1 E'
     from_next = tail_at E k ∙ ap (drop_l 1) p
 
-  past_lem : (Ds : List Datum) (bs : Blocks Ds) (E E' : Env 𝓤 H) (k : ℕ) → drop_l k E ≡ env 𝓤 H Ds bs E' → drop_l (after k Ds) E ≡ E'
-  past_lem [] bs E E' k p = p
-  past_lem (D ∷ Ds) bs E E' k p = past_lem Ds bs.1 E E' (suc k) (from_next E (env 𝓤 H (D ∷ Ds) bs E') k p)
+  past : (Ds : List Datum) (bs : Blocks Ds) (E E' : Env 𝓤 H) (k : ℕ) → drop_l k E ≡ env 𝓤 H Ds bs E' → drop_l (after k Ds) E ≡ E'
+  past [] bs E E' k p = p
+  past (D ∷ Ds) bs E E' k p = past Ds bs.1 E E' (suc k) (from_next E (env 𝓤 H (D ∷ Ds) bs E') k p)
 
   -- after the first locals, here `front`, and the data stand those of E
   pub beyond : (front : Env 𝓤 H) (Ds : List Datum) (bs : Blocks Ds) (E : Env 𝓤 H) (j : ℕ)
       → spot_of 𝓤 H (front ++ env 𝓤 H Ds bs E) (up (after (length front) Ds) j) ≡ spot_of 𝓤 H E j
   beyond front Ds bs E =
       spot (front ++ env 𝓤 H Ds bs E) E (after (length front) Ds)
-      (past_lem Ds bs (front ++ env 𝓤 H Ds bs E) E (length front) (drop-append_seam front (env 𝓤 H Ds bs E)))
+      (past Ds bs (front ++ env 𝓤 H Ds bs E) E (length front) (drop-append_seam front (env 𝓤 H Ds bs E)))
 
 -- such a fact, named in what follows
 abbrev pub knowing : {X : Type 0} {Y : Type 1} → X → (X → Y) → Y

@@ -20,10 +20,10 @@ use denote.Slice.{Room}
 use denote.Steps.{nothing}
 use denote.Triple.Statement.{Triple}
 use Rattle.datum.proofs.Called.{Valued, calls_value, Reading, list_twice}
-use Rattle.datum.proofs.Datum.{Datum, Denot, Fact, ty, number_lem, array}
+use Rattle.datum.proofs.Datum.{Datum, Denot, Fact, ty, number, array}
 use Rattle.datum.proofs.Handed.{Handed}
 use Rattle.datum.proofs.Lent.{ref, copying, handing, copies_out, hands_back}
-use Rattle.datum.proofs.Locals.{var, locals, after_lem, up, copies, beyond, knowing, allocs_all, pass_all, free_cell, free_all, from_at, reads_all}
+use Rattle.datum.proofs.Locals.{var, locals, after, up, copies, beyond, knowing, allocs_all, pass_all, free_cell, free_all, from_at, reads_all}
 use Rattle.datum.proofs.Parameters.{Param, Params, Args, Values, Facts, none, ◌▹◌, values, changing, listing, args, given, given_args, each, lasts, Has, all_fit, all_had}
 use Rattle.datum.proofs.Taken.{slice, Copies, taking, takes}
 use Rattle.datum.proofs.Thin.{Promised, ThinWalk, begins, finishes, ThinTwo, thin_two}
@@ -42,17 +42,17 @@ module _ (D E : Datum) (N : ℕ) (B : Datum) (S : Handed D B) (Ds : List Datum) 
       record {
         lifetimes = 2;
         outlives = [];
-        params = after_lem 2 Ds;
+        params = after 2 Ds;
         locals =
             var (ty B) ∷ var (ref D mut) ∷ var (slice E (named 1))
             ∷ locals Ds (var (ty S.both) ∷ var (ty D) ∷ var (ty (array E N)) ∷ var (ty_int w64) ∷ []);
         body =
-            seq (copying D 1 (up (after_lem 3 Ds) 1))
-            (taking copied 2 (up (after_lem 3 Ds) 2) (up (after_lem 3 Ds) 3)
+            seq (copying D 1 (up (after 3 Ds) 1))
+            (taking copied 2 (up (after 3 Ds) 2) (up (after 3 Ds) 3)
             (seq
-            (call g (copy (place (up (after_lem 3 Ds) 1) []) ∷ copy (place (up (after_lem 3 Ds) 2) []) ∷ copy (place (up (after_lem 3 Ds) 3) []) ∷ copies 3 Ds [])
-            (place (up (after_lem 3 Ds) 0) []))
-            (handing D 1 (up (after_lem 3 Ds) 0) return)));
+            (call g (copy (place (up (after 3 Ds) 1) []) ∷ copy (place (up (after 3 Ds) 2) []) ∷ copy (place (up (after 3 Ds) 3) []) ∷ copies 3 Ds [])
+            (place (up (after 3 Ds) 0) []))
+            (handing D 1 (up (after 3 Ds) 0) return)));
       }
 
   -- P: of what lay there, the list, the data, the answer, what lies there afterwards. Q: the same of the array that was copied and the list's length
@@ -63,21 +63,21 @@ module _ (D E : Datum) (N : ℕ) (B : Datum) (S : Handed D B) (Ds : List Datum) 
     abbrev Makes : Promised first [] more B
     Makes κs y _ z r e o = P y.now z.0.now (given none κs Ds z.1) r e.now
 
-    abbrev ByValue : Values (D ∷ array E N ∷ number_lem w64 ∷ Ds) → Denot S.both → Type 0
+    abbrev ByValue : Values (D ∷ array E N ∷ number w64 ∷ Ds) → Denot S.both → Type 0
     ByValue x r = Q x.0 x.1.0 x.1.1.0 x.1.1.1 (S.answer r) (S.state r)
 
     module _ {M : Type 1} {𝓤 : Ura M} (𝓛 : Logic 𝓤) (𝓣 : Tables 𝓤 𝓛.H) (fm : FmC 𝓤 𝓛.H 𝓛.laws 𝓣.C) (copied g : Name)
         (copies_list : Triple 𝓤 (𝓣.C copied) (Reading E (array E N) (Copies E copy_of) 𝓛))
-        (met : Triple 𝓤 (𝓣.C g) (Valued (D ∷ array E N ∷ number_lem w64 ∷ Ds) S.both ByValue 𝓛)) where
+        (met : Triple 𝓤 (𝓣.C g) (Valued (D ∷ array E N ∷ number w64 ∷ Ds) S.both ByValue 𝓛)) where
       open 𝓛 use {H}
 
       abbrev tail : ℕ → ℕ → ℕ → ℕ → Env 𝓤 H
       tail l₃ l₄ l₅ l₆ = (ty S.both, l₃) ∷ (ty D, l₄) ∷ (ty (array E N), l₅) ∷ (ty_int w64, l₆) ∷ []
 
-      walk_lem : (κs : Lfts 2) (qs : Shares 2) (y : Bor (Denot D)) (z : Bor (List (Denot E))) (x : Values Ds) → Facts Ds x
+      walk : (κs : Lfts 2) (qs : Shares 2) (y : Bor (Denot D)) (z : Bor (List (Denot E))) (x : Values Ds) → Facts Ds x
           → Room E.row (length z.now)
           → ThinWalk first [] more B Makes 𝓛 κs qs y tt (z, args none κs Ds x tt) 𝓣.C 𝓣.Λ (function copied g)
-      walk_lem κs qs y z x fs fits = begins first [] more B Makes 𝓛 κs qs y tt (z, args none κs Ds x tt) 𝓣.C 𝓣.Λ (function copied g) (
+      walk κs qs y z x fs fits = begins first [] more B Makes 𝓛 κs qs y tt (z, args none κs Ds x tt) 𝓣.C 𝓣.Λ (function copied g) (
           split ! $ move ! (1 ∷ []) $ split ! $ move ! (3 ∷ []) $ fsplit3 ! $ move ! (6 ∷ []) $ fsplit ! $
           list_twice ! E κs.1.0 z $ keep ! (4 ∷ 5 ∷ 8 ∷ 0 ∷ 6 ∷ 1 ∷ []) $
           alloc1 ! (λ l₀. alloc1 ! (λ l₁. alloc1 ! (λ l₂. allocs_all ! Ds (λ bs. alloc1 ! (λ l₃. alloc1 ! (λ l₄. alloc1 ! (λ l₅. alloc1 ! (λ l₆.
@@ -88,7 +88,7 @@ module _ (D E : Datum) (N : ℕ) (B : Datum) (S : Handed D B) (Ds : List Datum) 
           -- [what the reference owns; its token; the data; _6; _5; _4; _3; _2; _1; _0, each with what frees it; the list; its token; the list]
           copies_out ! D y.now y.ref_ptr.0 y.ref_ptr.1 refl (at 1) 11 5 refl refl (λ was. move ! (19 ∷ 20 ∷ []) $
           takes ! fm E N copy_of copies_list fits refl (at 2) (at 3) 13 7 5 refl refl (λ zs. refl) (λ zs. refl) (λ zs c long.
-          calls_value ! fm (D ∷ array E N ∷ number_lem w64 ∷ Ds) S.both ByValue met (y.now, (zs, (length z.now, x)))
+          calls_value ! fm (D ∷ array E N ∷ number w64 ∷ Ds) S.both ByValue met (y.now, (zs, (length z.now, x)))
           (was, (long, ((refl, fits.0), fs)))
           (and_then ! (load ! (from_at ! (at 1) (stop !)) (look ! 11 refl)) (and_then ! (load ! (from_at ! (at 2) (stop !)) (look ! 9 refl))
           (and_then ! (load ! (from_at ! (at 3) (stop !)) (look ! 7 refl))
@@ -108,10 +108,10 @@ module _ (D E : Datum) (N : ℕ) (B : Datum) (S : Handed D B) (Ds : List Datum) 
           move ! (1 ∷ 0 ∷ []) $ fjoin ! $ done !)))))))))))))))
 
     pub made : ThinTwo first [] more B Makes function (λ M 𝓤 𝓛. Reading E (array E N) (Copies E copy_of) 𝓛)
-        (λ M 𝓤 𝓛. Valued (D ∷ array E N ∷ number_lem w64 ∷ Ds) S.both ByValue 𝓛)
+        (λ M 𝓤 𝓛. Valued (D ∷ array E N ∷ number w64 ∷ Ds) S.both ByValue 𝓛)
     made = thin_two first [] more B Makes function (λ M 𝓤 𝓛. Reading E (array E N) (Copies E copy_of) 𝓛)
-        (λ M 𝓤 𝓛. Valued (D ∷ array E N ∷ number_lem w64 ∷ Ds) S.both ByValue 𝓛)
+        (λ M 𝓤 𝓛. Valued (D ∷ array E N ∷ number w64 ∷ Ds) S.both ByValue 𝓛)
         (λ M 𝓤 𝓛 𝓣 fm copied g copies_list met κs qs y _ z _ _ ps.
         each none κs Ds (λ (b : Args (values Ds none) κs). ThinWalk first [] more B Makes 𝓛 κs qs y tt (z.0, b) 𝓣.C 𝓣.Λ
         (function copied g))
-        (λ x _ fs _. walk_lem 𝓛 𝓣 fm copied g copies_list met κs qs y z.0 x fs ps.0.0.1) z.1 ps.1)
+        (λ x _ fs _. walk 𝓛 𝓣 fm copied g copies_list met κs qs y z.0 x fs ps.0.0.1) z.1 ps.1)

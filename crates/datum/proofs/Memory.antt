@@ -25,9 +25,9 @@ module _ {M : Type 1} {𝓤 : Ura M} {𝓛 : Logic 𝓤} {K : Type 0} {Γ : List
   owns t D x is = owned t D.row (Is D.row) (D.makes 𝓛) x (vals D x) is
 
 module _ {M : Type 1} {𝓤 : Ura M} {𝓛 : Logic 𝓤} {K : Type 0} {Γ : List (Item 𝓤)} {G : Goal 𝓤 𝓛.H} where
-  pub found_lem : K → (D : Datum) (s : Share) (x : Denot D) (vs : List Val) (b o : ℕ) → (Fact D x → Seq K 𝓛 (‵ (lies D s b o x) ∷ Γ) G)
+  pub found : K → (D : Datum) (s : Share) (x : Denot D) (vs : List Val) (b o : ℕ) → (Fact D x → Seq K 𝓛 (‵ (lies D s b o x) ∷ Γ) G)
       → Seq K 𝓛 (‵ (cell_at s D.row.mir vs b o) ∷ ‵ (D.row.own_val x vs) ∷ Γ) G
-  found_lem t D s x vs b o k =
+  found t D s x vs b o k =
       spelt t D.row (Is D.row) (shows 𝓛 D.row) (vals D) D.tells s x vs b o $ move t (1 ∷ []) $
       facts t D.row (Is D.row) (shows 𝓛 D.row) x (vals D x) (λ is.
       rewrite t 0 (λ (τs : List Ty). ‵ (cell_at s τs (vals D x) b o)) D.single refl $ k is)

@@ -28,21 +28,21 @@ pub record Param (n : ℕ) : Type 2 where
   pub kept : Kept
   pub stay : Stay slot kept
   pub spell : (κs : Lfts n) → (slot.row κs).Denot → List Val
-  pub tells_lem : (κs : Lfts n) → Tells (slot.row κs) (Is (slot.row κs)) (spell κs)
-  pub goes_lem : {M : Type 1} {𝓤 : Ura M} (𝓛 : Logic 𝓤) → Goes 𝓛 n slot kept stay
+  pub tells : (κs : Lfts n) → Tells (slot.row κs) (Is (slot.row κs)) (spell κs)
+  pub goes : {M : Type 1} {𝓤 : Ura M} (𝓛 : Logic 𝓤) → Goes 𝓛 n slot kept stay
 
 pub record Params (n : ℕ) : Type 2 where
   pub slots : List (Slot n)
   pub kept : Kepts slots
   pub stay : Stays slots kept
   pub spells : (κs : Lfts n) → Spells (types_at slots κs)
-  pub tells_lem : (κs : Lfts n) → Tellss (types_at slots κs) (Ises (types_at slots κs)) (spells κs)
-  pub goes_lem : {M : Type 1} {𝓤 : Ura M} (𝓛 : Logic 𝓤) → AllGo 𝓛 n slots kept stay
+  pub tells : (κs : Lfts n) → Tellss (types_at slots κs) (Ises (types_at slots κs)) (spells κs)
+  pub goes : {M : Type 1} {𝓤 : Ura M} (𝓛 : Logic 𝓤) → AllGo 𝓛 n slots kept stay
 
 module _ {n : ℕ} where
   infixr 5 ◌▹◌
   abbrev pub none : Params n
-  none = record { slots = []; kept = tt; stay = tt; spells = λ κs. tt; tells_lem = λ κs. tt; goes_lem = λ 𝓛. tt }
+  none = record { slots = []; kept = tt; stay = tt; spells = λ κs. tt; tells = λ κs. tt; goes = λ 𝓛. tt }
 
   abbrev pub ◌▹◌ : Param n → Params n → Params n
   h ▹ p =
@@ -51,8 +51,8 @@ module _ {n : ℕ} where
         kept = (h.kept, p.kept);
         stay = (h.stay, p.stay);
         spells = λ κs. (h.spell κs, p.spells κs);
-        tells_lem = λ κs. (h.tells κs, p.tells κs);
-        goes_lem = λ 𝓛. (h.goes 𝓛, p.goes 𝓛);
+        tells = λ κs. (h.tells κs, p.tells κs);
+        goes = λ 𝓛. (h.goes 𝓛, p.goes 𝓛);
       }
 
   -- `D`
@@ -63,8 +63,8 @@ module _ {n : ℕ} where
         kept = yes;
         stay = stay_none (λ _. D.row) yes;
         spell = λ κs x. D.val x ∷ [];
-        tells_lem = λ κs. D.tells;
-        goes_lem = λ 𝓛.
+        tells = λ κs. D.tells;
+        goes = λ 𝓛.
             Goes-none 𝓛 n (λ _. D.row) yes (λ κs x.
             subst (λ (e : Exit (Denot D)). (f : Last e x) → left e x f ≡ ftrue) (sym D.still) (λ f. refl));
       }
@@ -81,8 +81,8 @@ module _ {n : ℕ} where
         kept = yes;
         stay = stay_ref (j ∷ []) ok (plain (λ _. D.row));
         spell = λ κs. mut_vals;
-        tells_lem = λ κs. mut_Tells (name_of (j ∷ [])) (meet_at n (j ∷ []) ok κs) D.row;
-        goes_lem = λ 𝓛. Goes-ref 𝓛 n j ok (plain (λ _. D.row));
+        tells = λ κs. mut_Tells (name_of (j ∷ [])) (meet_at n (j ∷ []) ok κs) D.row;
+        goes = λ 𝓛. Goes-ref 𝓛 n j ok (plain (λ _. D.row));
       }
 
   -- `&D`
@@ -93,8 +93,8 @@ module _ {n : ℕ} where
         kept = yes;
         stay = stay_none_ref (j ∷ []) ok (plain (λ _. D.row)) yes;
         spell = λ κs. shr_vals;
-        tells_lem = λ κs. shr_Tells (name_of (j ∷ [])) (meet_at n (j ∷ []) ok κs) D.row;
-        goes_lem = λ 𝓛. Goes-none_ref 𝓛 n (j ∷ []) ok (plain (λ _. D.row)) yes;
+        tells = λ κs. shr_Tells (name_of (j ∷ [])) (meet_at n (j ∷ []) ok κs) D.row;
+        goes = λ 𝓛. Goes-none_ref 𝓛 n (j ∷ []) ok (plain (λ _. D.row)) yes;
       }
 
   -- `&[D]`
@@ -105,8 +105,8 @@ module _ {n : ℕ} where
         kept = yes;
         stay = stay_none_slice (j ∷ []) ok (plain (λ _. D.row)) yes;
         spell = λ κs. shr_slice_vals;
-        tells_lem = λ κs. shr_slice_Tells (name_of (j ∷ [])) (meet_at n (j ∷ []) ok κs) D.row;
-        goes_lem = λ 𝓛. Goes-none_slice 𝓛 n (j ∷ []) ok (plain (λ _. D.row)) yes;
+        tells = λ κs. shr_slice_Tells (name_of (j ∷ [])) (meet_at n (j ∷ []) ok κs) D.row;
+        goes = λ 𝓛. Goes-none_slice 𝓛 n (j ∷ []) ok (plain (λ _. D.row)) yes;
       }
 
   -- `&mut [u8]`, passed on for good
@@ -117,8 +117,8 @@ module _ {n : ℕ} where
         kept = yes;
         stay = gave_slice (j ∷ []) ok (plain (λ _. u8));
         spell = λ κs. mut_slice_vals;
-        tells_lem = λ κs. mut_slice_Tells (name_of (j ∷ [])) (meet_at n (j ∷ []) ok κs) u8;
-        goes_lem = λ 𝓛. Goes-gave_slice 𝓛 n j ok (plain (λ _. u8));
+        tells = λ κs. mut_slice_Tells (name_of (j ∷ [])) (meet_at n (j ∷ []) ok κs) u8;
+        goes = λ 𝓛. Goes-gave_slice 𝓛 n j ok (plain (λ _. u8));
       }
 
 -- ## Their values

@@ -19,7 +19,7 @@ use denote.Laws.{Is, shows}
 use denote.Memory.{cell_at, part_at, part_of, shares}
 use Rattle.datum.proofs.Datum.{Datum, Denot, ty, vals, Fact, array}
 use Rattle.datum.proofs.Locals.{cell}
-use Rattle.datum.proofs.Memory.{lies, found_lem, left_there}
+use Rattle.datum.proofs.Memory.{lies, found, left_there}
 
 -- ## An element
 
@@ -32,12 +32,12 @@ module _ (D : Datum) (s : Share) (ys : List (Denot D)) (i b o : ℕ) where
   others = others_of (shares D.row) s ys i b o
 
 module _ {M : Type 1} {𝓤 : Ura M} {𝓛 : Logic 𝓤} {K : Type 0} {Γ : List (Item 𝓤)} {G : Goal 𝓤 𝓛.H} where
-  pub element_lem : K → (D : Datum) (s : Share) (ys : List (Denot D)) (i : ℕ) (d : Denot D) (b o : ℕ) → i < length ys
+  pub element : K → (D : Datum) (s : Share) (ys : List (Denot D)) (i : ℕ) (d : Denot D) (b o : ℕ) → i < length ys
       → (Fact D (get_or ys i d) → Seq K 𝓛 (‵ (lies_in D s ys i b o (get_or ys i d)) ∷ ‵ (others D s ys i b o) ∷ Γ) G)
       → Seq K 𝓛 (‵ (row D.row s ys b o) ∷ Γ) G
-  element_lem t D s ys i d b o inside k =
+  element t D s ys i d b o inside k =
       elem_out t D.row (Is D.row) (shows 𝓛 D.row) (vals D) D.tells s ys i d b o inside (λ _.
-      found_lem t D s (get_or ys i d) (vals D (get_or ys i d)) b (place (size (ty D)) o i) k)
+      found t D s (get_or ys i d) (vals D (get_or ys i d)) b (place (size (ty D)) o i) k)
 
   pub back : K → (D : Datum) (s : Share) (ys : List (Denot D)) (i : ℕ) (d : Denot D) (b o : ℕ) → i < length ys → Fact D (get_or ys i d)
       → Step K 𝓛 (‵ (row D.row s ys b o) ∷ Γ) G (‵ (lies_in D s ys i b o (get_or ys i d)) ∷ ‵ (others D s ys i b o) ∷ Γ) G
@@ -71,5 +71,5 @@ module _ {M : Type 1} {𝓤 : Ura M} {𝓛 : Logic 𝓤} {K : Type 0} {Γ : List
   together t D n xs l long k =
       feq_i t ℕ (length xs) n long $ fjoin t $
       use1 𝓛 (‵ (part_at (Array D.row n) full_share xs l 0)) (Array-whole 𝓛 D.row full_share n xs l 0) $
-      fpick t (λ vs. fsplit t $ found_lem t (array D n) full_share xs vs l 0 (λ is.
+      fpick t (λ vs. fsplit t $ found t (array D n) full_share xs vs l 0 (λ is.
       use1 𝓛 (cell (ty (array D n)) l ((array D n).val xs)) (𝓛.laws.raw_at full_share (ty (array D n)) l 0 ((array D n).val xs)) $ k is))

@@ -10,9 +10,9 @@ use lib.Dec.{T, ltb, lt→ltb, ltb→lt}
 use lib.ListN.{length, get_or, set, take, replicate, length-append, length-take, length-replicate}
 use lib.Seq.{take-suc, set_at}
 
-holds_lem : (t : Bool) → T t → t ≡ true
-holds_lem true _ = refl
-holds_lem false h = absurd h
+holds : (t : Bool) → T t → t ≡ true
+holds true _ = refl
+holds false h = absurd h
 
 fails : (t : Bool) → (T t → ⊥) → t ≡ false
 fails true h = absurd (h tt)
@@ -34,18 +34,18 @@ module _ {X : Type 0} (N : ℕ) (blank : X) (ys : List X) where
 
   -- t turns before the end, where n is how many are copied: the next is i, and the array is xs
   pub record At (n t i : ℕ) (xs : List X) : Type 0 where
-    pub left_lem : i + t ≡ n
+    pub left : i + t ≡ n
     pub bound : n ≡ min (length ys) N
     pub so_far : xs ≡ held i
 
   pub begun : (n : ℕ) (xs : List X) → n ≡ min (length ys) N → xs ≡ replicate N blank → At n n 0 xs
   begun n xs e c =
       let none_less : N ≡ N - 0 = omega arith in
-      record { left_lem = omega arith; bound = e; so_far = c ∙ ap (λ (k : ℕ). replicate k blank) none_less }
+      record { left = omega arith; bound = e; so_far = c ∙ ap (λ (k : ℕ). replicate k blank) none_less }
 
   module _ (n t i : ℕ) (xs : List X) (at : At n (suc t) i xs) where
-    pub goes_lem : ltb i n ≡ true
-    goes_lem = holds_lem (ltb i n) (lt→ltb i n (omega (arith, at.left)))
+    pub goes : ltb i n ≡ true
+    goes = holds (ltb i n) (lt→ltb i n (omega (arith, at.left)))
 
     pub in_list : i < length ys
     in_list = omega (arith, at.left, at.bound, min-le_left (length ys) N)
@@ -60,7 +60,7 @@ module _ {X : Type 0} (N : ℕ) (blank : X) (ys : List X) where
 
     pub next : At n t (i + 1) (set xs i (get_or ys i blank))
     next = record {
-      left_lem = omega (arith, at.left);
+      left = omega (arith, at.left);
       bound = at.bound;
       so_far = ap (λ (l : List X). set l i (get_or ys i blank)) at.so_far ∙ held_next i in_array in_list;
     }

@@ -24,8 +24,8 @@ use denote.Triple.Spec.{Meets}
 use denote.Triple.Statement.{Contract, Triple}
 use Rattle.datum.proofs.Datum.{Datum, Denot, Fact}
 use Rattle.datum.proofs.Memory.{owns}
-use Rattle.datum.proofs.Parameters.{Param, Params, Args, Exits, Lasts, Values, Facts, ◌▹◌, values, args, given, others_lem, others_out, given_args, others_args, out_lasts, each, lasts, exits, flats, Passed, Fits, Owns, Has, others_own, all_fit, all_had}
-use Rattle.datum.proofs.Promise.{tokens, tokens_out, ended_lem, clauses, Post, Walk, ends, stands, known, machines}
+use Rattle.datum.proofs.Parameters.{Param, Params, Args, Exits, Lasts, Values, Facts, ◌▹◌, values, args, given, others, others_out, given_args, others_args, out_lasts, each, lasts, exits, flats, Passed, Fits, Owns, Has, others_own, all_fit, all_had}
+use Rattle.datum.proofs.Promise.{tokens, tokens_out, ended, clauses, Post, Walk, ends, stands, known, machines}
 
 module _ {n : ℕ} (h : Param n) (κs : Lfts n) where
   abbrev pub Arg : Type 0
@@ -53,7 +53,7 @@ module _ {n : ℕ} (h : Param n) (Ds : List Datum) (p : Params n) (B : Datum) wh
 
   module _ (P : Promised) where
     abbrev pub Tells : (κs : Lfts n) → Args params κs → Exits params κs → Denot B → Type 0
-    Tells κs a e r = P κs a.0 (given p κs Ds a.1) (others_lem p κs Ds a.1) r e.0 (others_out p κs Ds e.1)
+    Tells κs a e r = P κs a.0 (given p κs Ds a.1) (others p κs Ds a.1) r e.0 (others_out p κs Ds e.1)
 
     module _ {M : Type 1} {𝓤 : Ura M} (𝓛 : Logic 𝓤) (κs : Lfts n) (qs : Shares n) (y : Arg h κs) (x : Values Ds) (z : Args p κs) where
       open 𝓛 use {H}
@@ -77,15 +77,15 @@ module _ {n : ℕ} (h : Param n) (Ds : List Datum) (p : Params n) (B : Datum) wh
 
       -- and ends with the tokens and what is had of these parameters
       module _ (w₀ : Bound h κs y) (w : Lasts p κs z) (r : Denot B) where
-        told_lem : P κs y x z r (exit h κs y w₀) (exits p κs z w) → Tells κs all (exits params κs all (w₀, lasts p κs Ds x z w)) r
-        told_lem e = rw (given_args p κs Ds x z, others_args p κs Ds x z, out_lasts p κs Ds x z w) e
+        told : P κs y x z r (exit h κs y w₀) (exits p κs z w) → Tells κs all (exits params κs all (w₀, lasts p κs Ds x z w)) r
+        told e = rw (given_args p κs Ds x z, others_args p κs Ds x z, out_lasts p κs Ds x z w) e
 
         pub finishes : Facts Ds x → h.stay.fit κs y w₀ → Fits p κs z w → Fact B r → P κs y x z r (exit h κs y w₀) (exits p κs z w)
             → ent 𝓤 (sep 𝓤 (toks 𝓛 n κs qs) (sep 𝓤 (sem 𝓛 (has h κs y w₀)) (sem 𝓛 (Has p κs z w))))
             (Post params B Tells 𝓤 𝓛 κs qs all (B.val r))
         finishes fs fit fits is e =
             qed 𝓛 (raw (toks 𝓛 n κs qs) ∷ ‵ (has h κs y w₀) ∷ ‵ (Has p κs z w) ∷ []) ∵
-            suffices ! _ (ends params B Tells 𝓤 𝓛 κs qs all (w₀, lasts p κs Ds x z w) (fit, all_fit p κs Ds x z w fits) r (B.val r) (told_lem e)) $
+            suffices ! _ (ends params B Tells 𝓤 𝓛 κs qs all (w₀, lasts p κs Ds x z w) (fit, all_fit p κs Ds x z w fits) r (B.val r) (told e)) $
             frame ! $ move ! (1 ∷ []) $
             use1 𝓛 (‵ (Has (values Ds p) κs (args p κs Ds x z) (lasts p κs Ds x z w))) (all_had p κs 𝓛 Ds x z w fs) $
             move ! (1 ∷ 0 ∷ []) $ fjoin ! $ frame ! $ owns ! B r is $ done !
@@ -95,13 +95,13 @@ module _ {n : ℕ} (h : Param n) (Ds : List Datum) (p : Params n) (B : Datum) wh
       open 𝓛 use {H}
 
       abbrev pub Met : Name → Type 1
-      Met f = Meets 𝓛 (ended_lem params B).signature (𝓡.run (γ f)) (closing 𝓛 (ended_lem params B) (clauses params B Tells 𝓤))
+      Met f = Meets 𝓛 (ended params B).signature (𝓡.run (γ f)) (closing 𝓛 (ended params B) (clauses params B Tells 𝓤))
 
-      pub walked_lem : (f : Name) (function : Fn) → Closed 𝓤 H (tables 𝓤 H 𝓜 𝓡 γ).C (tables 𝓤 H 𝓜 𝓡 γ).Λ f function
+      pub walked : (f : Name) (function : Fn) → Closed 𝓤 H (tables 𝓤 H 𝓜 𝓡 γ).C (tables 𝓤 H 𝓜 𝓡 γ).Λ f function
           → ((κs : Lfts n) (qs : Shares n) (y : Arg h κs) (x : Values Ds) (z : Args p κs) → Facts Ds x → Is (h.slot.row κs) y (h.spell κs y)
           → Passed p κs z
           → ThinWalk 𝓛 κs qs y x z (machines 𝓛 𝓜 𝓡 γ).C (machines 𝓛 𝓜 𝓡 γ).Λ function) → Met f
-      walked_lem f function unfolded walk =
+      walked f function unfolded walk =
           let 𝓣 : Tables 𝓤 H = machines 𝓛 𝓜 𝓡 γ in
           stands 𝓛 𝓜 𝓡 γ params B Tells f function unfolded (λ κs qs a are.
           each p κs Ds (λ (b : Args (values Ds p) κs). Walk params B Tells 𝓤 𝓛 𝓣.C 𝓣.Λ function κs qs (a.0, b))
@@ -121,7 +121,7 @@ module _ {n : ℕ} (h : Param n) (Ds : List Datum) (p : Params n) (B : Datum) wh
           → ThinWalk 𝓛 κs qs y x z C Λ (function g)) → Thin
       thin walk M 𝓤 𝓛 𝓜 𝓡 γ f g unfolded r calls met =
           let 𝓣 : Tables 𝓤 𝓛.H = machines 𝓛 𝓜 𝓡 γ in
-          walked_lem 𝓛 𝓜 𝓡 γ f (function g) unfolded (λ κs qs y x z fs is ps.
+          walked 𝓛 𝓜 𝓡 γ f (function g) unfolded (λ κs qs y x z fs is ps.
           walk M 𝓤 𝓛 𝓣.C 𝓣.Λ (fm_of 𝓤 𝓛.H 𝓛.laws 𝓣) g (known 𝓛 𝓜 𝓡 γ (G M 𝓤 𝓛) g r calls met) κs qs y x z fs ps)
 
     -- the same of a call over two functions
@@ -139,6 +139,6 @@ module _ {n : ℕ} (h : Param n) (Ds : List Datum) (p : Params n) (B : Datum) wh
           → Passed p κs z → ThinWalk 𝓛 κs qs y x z 𝓣.C 𝓣.Λ (function g k)) → ThinTwo
       thin_two walk M 𝓤 𝓛 𝓜 𝓡 γ f g k unfolded r calls_r met_r s calls_s met_s =
           let 𝓣 : Tables 𝓤 𝓛.H = machines 𝓛 𝓜 𝓡 γ in
-          walked_lem 𝓛 𝓜 𝓡 γ f (function g k) unfolded
+          walked 𝓛 𝓜 𝓡 γ f (function g k) unfolded
           (walk M 𝓤 𝓛 𝓣 (fm_of 𝓤 𝓛.H 𝓛.laws 𝓣) g k (known 𝓛 𝓜 𝓡 γ (G M 𝓤 𝓛) g r calls_r met_r)
           (known 𝓛 𝓜 𝓡 γ (K M 𝓤 𝓛) k s calls_s met_s))

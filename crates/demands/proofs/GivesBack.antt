@@ -15,7 +15,7 @@ use Rattle.listing.specs.Listing.{judged}
 use Rattle.paper.specs.Told.{tells}
 use Rattle.reader.proofs.Ignored.{ignored_unread}
 use Rattle.reader.specs.Judgement.{header, read_of}
-use Rattle.request.proofs.Requests.{accepted_lem}
+use Rattle.request.proofs.Requests.{accepted}
 use Rattle.request.specs.Requests.{SameFields, filter_of, report_type_of, pages_of, start_of, sets_reserved, refused, request_of}
 use Rattle.request.specs.declared.Request.{Request}
 use Rattle.status.proofs.EveryPage.{whole_pages}
@@ -48,7 +48,7 @@ page_given d q fits asc ok =
     record {
       taken = both.0;
       elements = both.1;
-      listed = λ f t z few. listing_takes (page_of d q) q (header_of d q) f t z few (accepted_lem q ok).3 (whole_pages d q (accepted_lem q ok).2) both.0;
+      listed = λ f t z few. listing_takes (page_of d q) q (header_of d q) f t z few (accepted q ok).3 (whole_pages d q (accepted q ok).2) both.0;
     }
 
 pub gives_back : GivesBack

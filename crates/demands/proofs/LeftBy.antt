@@ -16,7 +16,7 @@ use Rattle.paper.specs.Told.{Told, tells}
 use Rattle.paper.specs.declared.Answer.TheVariants.{Done}
 use Rattle.paper.specs.declared.Security.TheVariants.{Unlocked}
 use Rattle.paper.specs.declared.Security.{Security}
-use Rattle.request.proofs.Requests.{accepted_lem}
+use Rattle.request.proofs.Requests.{accepted}
 use Rattle.request.specs.Requests.{asked, pages_of, refused}
 use Rattle.request.specs.declared.Request.{Request}
 use Rattle.status.proofs.EveryPage.{three_answers, shown-alike, whole_pages}
@@ -37,7 +37,7 @@ module _ (d : Device) (s : Security) (q : Request) (buf : List ℕ) (zero : (sho
   shown-front : take (512 * pages_of q) (shown d s q buf).state ≡ page_of d q
   shown-front =
       ap (λ (n : ℕ). take (512 * pages_of q) (cond (eqb n 0) (page_of d q ++ drop (512 * pages_of q) buf) buf)) zero
-      ∙ take_at (page_of d q) _ (512 * pages_of q) (whole_pages d q (accepted_lem q shown-accepted).2)
+      ∙ take_at (page_of d q) _ (512 * pages_of q) (whole_pages d q (accepted q shown-accepted).2)
 
 module _ (d : Device) (s : Security) (r : Registers) (buf : List ℕ) (is_12 : r.code ≡ 0x12) (done : (told d (command s r (length buf))).number ≡ 0) where
   abbrev q : Request
@@ -86,8 +86,8 @@ module _ (x : Device) (q : Request) (ok : refused q ≡ false) where
   tells_0 : told x (command Unlocked r (length room)) ≡ tells 0 x
   tells_0 = (shown-alike x Unlocked r room refl).0 ∙ ap (λ (n : ℕ). tells n x) answers
 
-  pub leaves_lem : LeftBy x q (page_of x q)
-  leaves_lem =
+  pub leaves : LeftBy x q (page_of x q)
+  leaves =
       record {
         security = Unlocked;
         registers = r;

@@ -44,15 +44,15 @@ module _ (there : Image) (es : List Element) (limit : ℕ) where
       ap (λ (t : Told Image). tells t.number (device_of t.state)) (is ∙ sym (made_in_lem there es limit)) ∙ (λ k. tells (both.0 k) (both.1 k))
       ∙ sym (made_alike (device_of there) es limit)
 
-accepted_lem : (d : Device) (es : List Element) (limit : ℕ) → good (length es) es limit ≡ true → (made_from d es limit).number ≡ 0
+accepted : (d : Device) (es : List Element) (limit : ℕ) → good (length es) es limit ≡ true → (made_from d es limit).number ≡ 0
 unfolding made_from
-accepted_lem d es limit g = rw g refl
+accepted d es limit g = rw g refl
 
 pub library_starts : LibraryStarts
 library_starts there es limit n i is =
     let made = made_read there es limit n i is in (
       λ z. (listed_starts (device_of there) es limit Done (device_of i) (ap (λ (m : ℕ). tells m (device_of i)) (sym z) ∙ made)).0 refl,
-      λ g. ap (λ (t : Told Device). t.number) made ∙ accepted_lem (device_of there) es limit g,
+      λ g. ap (λ (t : Told Device). t.number) made ∙ accepted (device_of there) es limit g,
     )
 
 pub library_after : LibraryAfter

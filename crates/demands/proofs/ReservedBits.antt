@@ -22,8 +22,8 @@ use Rattle.walk.specs.Next.{next_of}
 use Rattle.demands.specs.ReservedBits.{FourRefused, ReservedBitsRefused}
 
 module _ (q : Request) (due : refused q ≡ true) (d : Device) (s : Security) where
-  shows_lem : (buf : List ℕ) → shown d s q buf ≡ tells 4 buf
-  shows_lem buf =
+  shows : (buf : List ℕ) → shown d s q buf ≡ tells 4 buf
+  shows buf =
       let four : (shown d s q buf).number ≡ 4 = three_answers d s q buf ∙ ap (λ (b : Bool). cond b 4 (cond (ltb (length buf) (512 * pages_of q)) 7 0)) due in
       let stays = refusal_leaves_bytes d s q buf (λ z. omega (arith, four, z)) in
       λ i. tells (four i) (stays i)
@@ -31,14 +31,14 @@ module _ (q : Request) (due : refused q ≡ true) (d : Device) (s : Security) wh
   answers : (r : Registers) (buf : List ℕ) → r.code ≡ 0x12 → asked r ≡ q → (told d (command s r (length buf)) ≡ tells 4 d) × (lent d s r buf ≡ buf)
   answers r buf code same =
       let (said, left) = shown-alike d s r buf code in
-      let refused_so : shown d s (asked r) buf ≡ tells 4 buf = ap (λ (p : Request). shown d s p buf) same ∙ shows_lem buf in
+      let refused_so : shown d s (asked r) buf ≡ tells 4 buf = ap (λ (p : Request). shown d s p buf) same ∙ shows buf in
       (said ∙ ap (λ (t : Told (List ℕ)). tells t.number d) refused_so, left ∙ ap (λ (t : Told (List ℕ)). t.state) refused_so)
 
 pub four_refused : FourRefused
 unfolding accepted next_of
 four_refused q due =
     record {
-      show = λ d s. shows_lem q due d s;
+      show = λ d s. shows q due d s;
       front = λ d s. answers q due d s;
       read = λ o s. rw due;
       next = λ s. rw due;

@@ -29,14 +29,14 @@ use Rattle.demands.proofs.Runs.{run-leaves}
 -- ## What is left, answered 0
 
 -- 0 is no refusal, and the bytes stand at the front
-left_lem : (due small : Bool) (bytes buf out : List ℕ) (number count : ℕ)
+left : (due small : Bool) (bytes buf out : List ℕ) (number count : ℕ)
     → tells number (output count out)
     ≡ cond due (tells 4 (output 0 buf)) (cond small (tells 7 (output 0 buf)) (tells 0 (output (length bytes) (bytes ++ drop (length bytes) buf))))
     → number ≡ 0
     → (due ≡ false) × (count ≡ length bytes) × (take count out ≡ bytes)
-left_lem true small bytes buf out number count so z = absurd (let four : number ≡ 4 = ap (λ (t : Told Output). t.number) so in omega (arith, z, four))
-left_lem false true bytes buf out number count so z = absurd (let seven : number ≡ 7 = ap (λ (t : Told Output). t.number) so in omega (arith, z, seven))
-left_lem false false bytes buf out number count so z = (
+left true small bytes buf out number count so z = absurd (let four : number ≡ 4 = ap (λ (t : Told Output). t.number) so in omega (arith, z, four))
+left false true bytes buf out number count so z = absurd (let seven : number ≡ 7 = ap (λ (t : Told Output). t.number) so in omega (arith, z, seven))
+left false false bytes buf out number count so z = (
   refl,
   ap (λ (t : Told Output). t.state.count) so,
   ap (λ (t : Told Output). take t.state.count t.state.buffer) so ∙ take_at bytes (drop (length bytes) buf) (length bytes) refl,
@@ -65,6 +65,6 @@ pub sends_back : SendsBack
 sends_back there es limit a d made z s ns x ran q allocation buf out b count so done whole =
     let (fits, asc) = run-leaves there es limit a d made z s ns x ran in
     let bytes : List ℕ = take allocation (data_of Big x q) in
-    let (ok, long, front) = left_lem (due_four q) (ltb (length buf) (length bytes)) bytes buf out _ count so done in
+    let (ok, long, front) = left (due_four q) (ltb (length buf) (length bytes)) bytes buf out _ count so done in
     let least : 32 ≤ allocation = omega (arith, whole, long, sends_the_smaller Big x q allocation) in
     subst⁻¹ (SentBack x q) front (sent_back x q allocation fits asc ok least)

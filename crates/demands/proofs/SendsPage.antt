@@ -13,7 +13,7 @@ use Rattle.convert.specs.Convert.{scsi_offence, heard, outcome, to_scsi}
 use Rattle.device.specs.declared.Device.{Device}
 use Rattle.exchange.proofs.Device.{sends_its_page}
 use Rattle.exchange.proofs.Exchange.{or_both}
-use Rattle.exchange.proofs.Lent.{laid-front, front_lem, fits_in, converts}
+use Rattle.exchange.proofs.Lent.{laid-front, front, fits_in, converts}
 use Rattle.offences.specs.declared.Offence.TheVariants.{Clean}
 use Rattle.paper.proofs.Output.{one-output}
 use Rattle.paper.specs.Answers.{number_of}
@@ -28,7 +28,7 @@ use Rattle.query.specs.declared.Query.{Query}
 use Rattle.reader.proofs.LayoutTheorem.{heard_clean}
 use Rattle.reader.specs.Judgement.{header, read_of}
 use Rattle.reader.specs.Page.{page_offence}
-use Rattle.request.proofs.Requests.{accepted_lem}
+use Rattle.request.proofs.Requests.{accepted}
 use Rattle.request.specs.Requests.{SameFields, refused}
 use Rattle.request.specs.declared.Request.{Request}
 use Rattle.sender.proofs.Sending.{sends_the_smaller}
@@ -50,31 +50,31 @@ module _ (bytes buf : List ℕ) (size : ℕ) (long : size ≡ length bytes) (roo
   sends due ok b count out so =
       let told = so ∙ ap (λ (t : Bool). cond t (tells 4 (output 0 buf)) (written bytes buf)) ok in
       let one = one-output _ b Done count size out (laid-front bytes buf) told (fits_in bytes buf size long room) in
-      (ap number_of one.0, one.1, ap (take size) one.2 ∙ front_lem bytes buf size long)
+      (ap number_of one.0, one.1, ap (take size) one.2 ∙ front bytes buf size long)
 
 -- ## The page of a SCSI request with the same fields
 
 module _ (d : Device) (r : Request) (asks : refused r ≡ false) (p : ℕ) (q : Query) (alike : SameAsked p q r) where
   low : (q.filter ≤ 1) × (q.report ≤ 1)
   low =
-      let in_range = accepted_lem r asks in
+      let in_range = accepted r asks in
       (omega (arith, in_range.0, alike.filter), omega (arith, in_range.1, alike.report))
 
   not_four : due_four q ≡ false
   not_four = due_not q low.0 low.1
 
-  same_lem : SameFields r (asked_for p q)
-  same_lem =
+  same : SameFields r (asked_for p q)
+  same =
       record {
         filter = alike.filter ∙ sym (filter_asked p q low.0 low.1);
         report = alike.report ∙ sym (report_asked p q low.0 low.1);
         pages = alike.pages;
         start = omega (arith, alike.start);
-        reserved = (accepted_lem r asks).3 ∙ sym (unset_asked p q);
+        reserved = (accepted r asks).3 ∙ sym (unset_asked p q);
       }
 
   page_asked : page_of d r ≡ page_of d (asked_for p q)
-  page_asked = page_same r (asked_for p q) same_lem d
+  page_asked = page_same r (asked_for p q) same d
 
   module _ (fits : Fits d) (asc : ascending 0 (identifiers d.table) ≡ true) where
     clean_too : scsi_offence (page_of d (asked_for p q)) (asked_for p q) ≡ Clean → scsi_offence (page_of d (asked_for p q)) r ≡ Clean
@@ -98,4 +98,4 @@ sends_page there es limit a d made z s ns x ran r page left p q alike few room o
     ∙ ap (λ (v : List ℕ). outcome (scsi_offence (page_of x (asked_for p q)) r) v room) is_bytes in
     let turns = converts bytes room (whole_size x q) long wide _ (clean_too x r asks p q alike fits asc clean) c out is_turned in
     let goes = sends bytes free (whole_size x q) long space (due_four q) ok b count sent is_b in
-    record { turns = turns.0; sends = (goes.0, goes.1); same_lem = turns.1 ∙ sym goes.2 }
+    record { turns = turns.0; sends = (goes.0, goes.1); same = turns.1 ∙ sym goes.2 }

@@ -16,12 +16,12 @@ use Rattle.tour.specs.Tour.{Shows, requests_for, ShowsThen}
 use Rattle.walk.specs.Walk.{Round, ended, walk}
 use Rattle.demands.specs.Runs.{LeftBy}
 use Rattle.demands.specs.Walks.{LeavesPage, AskingLeaves, WalkedWhole, LeftThen, WalkedToEnd}
-use Rattle.demands.proofs.LeftBy.{left-asked, left_page, left_device, leaves_lem}
+use Rattle.demands.proofs.LeftBy.{left-asked, left_page, left_device, leaves}
 use Rattle.demands.proofs.Runs.{run-leaves}
 use Rattle.demands.proofs.Starts.{listed_starts}
 
 pub leaves_page : LeavesPage
-leaves_page = leaves_lem
+leaves_page = leaves
 
 pub asking_leaves : AskingLeaves
 asking_leaves = left_device

@@ -5,7 +5,7 @@ use mathlib.Core.Path.{◌≡◌, refl, sym, ap, ◌∙◌}
 use lib.Dec.{eqb}
 use Rattle.convert.specs.declared.Converted.TheVariants.{Done, SmallBuffer, Refused}
 use Rattle.convert.specs.declared.Converted.{Converted}
-use Rattle.paper.proofs.Once.{answer_of_lem, answer_number}
+use Rattle.paper.proofs.Once.{answer_of, answer_number}
 use Rattle.docking.specs.Dock.{Kind, scsi, toscsi, toata, Answered, heard_in, heard}
 use Rattle.docking.specs.Promises.{OneDocked}
 use Rattle.docking.specs.declared.Docked.{Docked}
@@ -16,7 +16,7 @@ abbrev converted_of : Answered → Converted
 converted_of a = cond (eqb a.number 0) (Done a.count) (cond (eqb a.number 7) SmallBuffer (Refused a.place))
 
 abbrev said_as : Kind → Answered → Said
-said_as scsi a = Sent (record { answer = answer_of_lem a.number; count = a.count })
+said_as scsi a = Sent (record { answer = answer_of a.number; count = a.count })
 said_as toscsi a = ToScsi (converted_of a)
 said_as toata a = ToAta (converted_of a)
 

@@ -19,7 +19,7 @@ use Rattle.sheet.specs.Sheet.{sheet_of}
 use Rattle.tally.specs.Tally.{tally_line}
 use Rattle.words.specs.declared.Order.TheVariants.{Big}
 use Rattle.docklist.specs.Docklist.{judged, text_for, listing_of, listed}
-use Rattle.docklist.proofs.EveryListing.{line_count_lem, there}
+use Rattle.docklist.proofs.EveryListing.{line_count, there}
 
 -- ## The input
 
@@ -44,7 +44,7 @@ module _ (s out : List ℕ) (answer : Judgement) (is_answer : heard answer ≡ j
   pub accepted-listed : (r : Reading) → answer ≡ Accepted r → t ≡ written (sheet_of Big s r.header r.whole r.header.number r.torn) out → t ≡ listed s out
   unfolding sheet_of
   accepted-listed r e so =
-      let all : 1 ≤ r.whole → base_of r.whole ≤ length s = subst (λ (v : Values). 1 ≤ line_count_lem v → base_of (line_count_lem v) ≤ length s) (was_judged (Accepted r) e) (there s).0 in
+      let all : 1 ≤ r.whole → base_of r.whole ≤ length s = subst (λ (v : Values). 1 ≤ line_count v → base_of (line_count v) ≤ length s) (was_judged (Accepted r) e) (there s).0 in
       text_listed (Accepted r) e
       (so ∙ ap (λ (l : List ℕ). written (header_line r.header ++ l ++ tally_line r.whole r.header.number r.torn) out) (lines_there Big s r.whole all))
 

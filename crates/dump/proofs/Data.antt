@@ -72,11 +72,11 @@ unfolding rows_below
 one_more w rest n is_rest short = rw (← is_rest, take_all 32 rest short)
 
 module _ (w rest : List ℕ) (n : ℕ) (is_n : n ≡ length w / 32) (is_rest : rest ≡ drop (32 * n) w) where
-  left_lem : length rest ≡ length w - 32 * n
-  left_lem = ap length is_rest ∙ length-drop (32 * n) w
+  left : length rest ≡ length w - 32 * n
+  left = ap length is_rest ∙ length-drop (32 * n) w
 
   pub rest_short : length rest < 32
-  rest_short = omega (arith, left_lem)
+  rest_short = omega (arith, left)
 
   each_row : rows_below w ((length w + 31) / 32) ≡ rows_below w n ++ last_line rest
   each_row = by_test (eqb (length rest) 0) refl
@@ -84,11 +84,11 @@ module _ (w rest : List ℕ) (n : ℕ) (is_n : n ≡ length w / 32) (is_rest : r
       by_test : (t : Bool) → eqb (length rest) 0 ≡ t → rows_below w ((length w + 31) / 32) ≡ rows_below w n ++ last_line rest
       by_test true e =
           let none : length rest ≡ 0 = eqb-true (length rest) 0 e in
-          let all : (length w + 31) / 32 ≡ n = omega (arith, left_lem) in
+          let all : (length w + 31) / 32 ≡ n = omega (arith, left) in
           rw (all, e) (sym (append-nil (rows_below w n)))
       by_test false e =
           let some : (length rest ≡ 0 → ⊥) = eqb-false (length rest) 0 e in
-          let more : (length w + 31) / 32 ≡ suc n = omega (arith, left_lem) in
+          let more : (length w + 31) / 32 ≡ suc n = omega (arith, left) in
           rw (more, e) (one_more w rest n is_rest (omega (arith, rest_short)))
 
   pub lines_puts : (d x y z : List ℕ) (at m k r : ℕ) → x ≡ stored d at (number_line (ascii "bytes ") (length w))

@@ -41,14 +41,14 @@ module _ (s : List ℕ) (long : 32 ≤ length s) where
       is_x ∙ rw all (stored-front (replicate 65 10) (flat (digits 16 2) (take 32 s)) (rw wide (omega arith)) ∙ rw wide)
 
   module _ (k : ℕ) (less : k < 32) (so : is_zero (drop k (take 32 s)) ≡ is_zero (take 32 s)) where
-    ahead_lem : drop k (take 32 s) ≡ get_or s k 0 ∷ drop (k + 1) (take 32 s)
-    ahead_lem = rw (drop-cons (take 32 s) k 0 (simp length-take (omega arith)), get_or-take 32 s k 0 less, add-one k)
+    ahead : drop k (take 32 s) ≡ get_or s k 0 ∷ drop (k + 1) (take 32 s)
+    ahead = rw (drop-cons (take 32 s) k 0 (simp length-take (omega arith)), get_or-take 32 s k 0 less, add-one k)
 
     pub zero-not : (get_or s k 0 ≡ 0 → ⊥) → false ≡ is_zero (take 32 s)
-    zero-not other = sym (ap is_zero ahead_lem ∙ rw (ne_eqb (get_or s k 0) 0 other)) ∙ so
+    zero-not other = sym (ap is_zero ahead ∙ rw (ne_eqb (get_or s k 0) 0 other)) ∙ so
 
     pub zero_next : get_or s k 0 ≡ 0 → is_zero (drop (k + 1) (take 32 s)) ≡ is_zero (take 32 s)
-    zero_next e = sym (ap is_zero ahead_lem ∙ rw (eq-eqb (get_or s k 0) 0 e)) ∙ so
+    zero_next e = sym (ap is_zero ahead ∙ rw (eq-eqb (get_or s k 0) 0 e)) ∙ so
 
   pub zero-all : (k : ℕ) → 32 ≤ k → is_zero (drop k (take 32 s)) ≡ is_zero (take 32 s) → true ≡ is_zero (take 32 s)
   zero-all k low so = sym (ap is_zero (drop_of_length-le (take 32 s) {i = k} (simp length-take (omega arith)))) ∙ so

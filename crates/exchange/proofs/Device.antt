@@ -58,21 +58,21 @@ module _ (d : Device) (q : Query) (p : ℕ) (fits : Fits d) (asc : ascending 0 (
   taken : refused request ≡ false
   taken = not-refused p q (not_due q ok).0 (not_due q ok).1 (omega arith)
 
-  number_lem : length (list_of d request) ≡ n
-  number_lem = ap length (one_list d q p)
+  number : length (list_of d request) ≡ n
+  number = ap length (one_list d q p)
 
-  all_lem : returned_of (length (list_of d request)) p ≡ n
-  all_lem = ap (λ (m : ℕ). returned_of m p) number_lem ∙ omega arith
+  all : returned_of (length (list_of d request)) p ≡ n
+  all = ap (λ (m : ℕ). returned_of m p) number ∙ omega arith
 
   one_header : header_of d request ≡ sent_header d q
-  one_header = λ i. headed (number_lem i) (all_lem i) d.cells.note d.table.limit (removed_number d)
+  one_header = λ i. headed (number i) (all i) d.cells.note d.table.limit (removed_number d)
 
   header : header_in Little page ≡ sent_header d q
   header = header_here d request fits asc taken ∙ one_header
 
   descriptor : (k : ℕ) → k < n → descriptor_at Little page k ≡ get_or list k none
   descriptor k l =
-      descriptor_here d request fits asc taken k (omega (arith, all_lem)) ∙ ap (λ (x : List Descriptor). get_or x k none) (one_list d q p)
+      descriptor_here d request fits asc taken k (omega (arith, all)) ∙ ap (λ (x : List Descriptor). get_or x k none) (one_list d q p)
 
   one-list_in : list_in Little page n ≡ list
   one-list_in =

@@ -86,8 +86,8 @@ module _ (s : List ℕ) (q : Request) (r : Query) (n : ℕ) (is_n : (header_in L
       data_list (asked r) (filter_asked 0 r fields.0 fields.1 ∙ sym alike.filter) (report_asked 0 r fields.0 fields.1 ∙ sym alike.report)
       (omega (arith, alike.start))
 
-  keeps_lem : scsi·taken.Taken Big data_of r
-  keeps_lem =
+  keeps : scsi·taken.Taken Big data_of r
+  keeps =
       record {
         there = omega (arith, long);
         fields = fields;
@@ -103,7 +103,7 @@ module _ (s : List ℕ) (q : Request) (r : Query) (n : ℕ) (is_n : (header_in L
   as_data =
       record {
         taken =
-            scsi·taken.takes Big data_of r keeps_lem
+            scsi·taken.takes Big data_of r keeps
             ∙ (λ i. tells 0 (scsi.reading (data_header i) (whole_of (data_number i) (length data_of)) (torn_of (data_number i) (length data_of))))
             ∙ (λ i. tells 0 (scsi.reading (header_in Little s) (whole i) (torn i)))
             ∙ ap (λ (m : ℕ). tells 0 (scsi.reading (header_in Little s) m false)) (sym is_n);
@@ -125,13 +125,13 @@ page_to_data s q r bytes alike clean = as_data s q r (header_in Little s).number
 -- ## Data as a page
 
 module _ (s : List ℕ) (r : Query) (p n : ℕ) (is_n : (header_in Big s).number ≡ n) (fits : FitsIn Big s n) (clean : ata_offence s r p ≡ Clean) where
-  abbrev page_of_lem : List ℕ
-  page_of_lem = paged p s
+  abbrev page_of : List ℕ
+  page_of = paged p s
 
   abbrev zeros : List ℕ
   zeros = replicate (512 * p - base_of n) 0
 
-  page_laid : laid Little (header_in Big s) (list_in Big s n) ++ zeros ≡ page_of_lem
+  page_laid : laid Little (header_in Big s) (list_in Big s n) ++ zeros ≡ page_of
   unfolding paged
   page_laid =
       ap (λ (m : ℕ). laid Little (header_in Big s) (list_in Big s m) ++ replicate (512 * p - base_of m) 0) (sym is_n)
@@ -149,65 +149,65 @@ module _ (s : List ℕ) (r : Query) (p n : ℕ) (is_n : (header_in Big s).number
   front_long : length (laid Little (header_in Big s) (list_in Big s n)) ≡ base_of n
   front_long = ap (λ (m : ℕ). length (laid Little (header_in Big s) (list_in Big s m))) (sym is_n) ∙ ap length (turned-laid Big Little s) ∙ length-turned Big Little s ∙ ap base_of is_n
 
-  page_long : length page_of_lem ≡ 512 * p
+  page_long : length page_of ≡ 512 * p
   page_long =
       ap length (sym page_laid) ∙ length-append (laid Little (header_in Big s) (list_in Big s n)) zeros ∙ rw (front_long, length-replicate) (omega (arith, few))
 
-  page_header : header_in Little page_of_lem ≡ header_in Big s
+  page_header : header_in Little page_of ≡ header_in Big s
   page_header = ap (header_in Little) (sym page_laid) ∙ header_kept Big Little s n fits zeros
 
-  page_returned : (header_in Little page_of_lem).returned ≡ n
+  page_returned : (header_in Little page_of).returned ≡ n
   page_returned = ap (λ (h : Header). h.returned) page_header ∙ data_was.returned ∙ is_n
 
-  pub page_number : (header_in Little page_of_lem).number ≡ n
+  pub page_number : (header_in Little page_of).number ≡ n
   page_number = ap (λ (h : Header). h.number) page_header ∙ is_n
 
-  page_descriptor : (k : ℕ) → k < n → descriptor_at Little page_of_lem k ≡ descriptor_at Big s k
+  page_descriptor : (k : ℕ) → k < n → descriptor_at Little page_of k ≡ descriptor_at Big s k
   page_descriptor k l = ap (λ (t : List ℕ). descriptor_at Little t k) (sym page_laid) ∙ descriptor_kept Big Little s n fits zeros k l
 
-  padding : (i : ℕ) → i < length page_of_lem - base_of n → get_or page_of_lem (base_of n + i) 0 ≡ 0
+  padding : (i : ℕ) → i < length page_of - base_of n → get_or page_of (base_of n + i) 0 ≡ 0
   padding i l =
       ap (λ (t : List ℕ). get_or t (base_of n + i) 0) (sym page_laid)
       ∙ subst (λ (m : ℕ). get_or (laid Little (header_in Big s) (list_in Big s n) ++ zeros) (m + i) 0 ≡ 0) front_long
       (get_or-append-add (laid Little (header_in Big s) (list_in Big s n)) zeros i 0 ∙ get_or-replicate (512 * p - base_of n) i 0 0 (omega (arith, page_long)))
 
-  page_fits : FitsIn Little page_of_lem n
+  page_fits : FitsIn Little page_of n
   page_fits = subst (λ (t : List ℕ). FitsIn Little t n) page_laid (fits_kept Big Little s n fits zeros)
 
   -- for a request whose rules the list keeps
   module _ (q : Request) (pages : pages_of q ≡ p) (asks : Asked q)
       (list : (k : ℕ) → k < n → Listed q (last_before Big s k) (descriptor_at Big s k)) where
-    page_list : (k : ℕ) → k < n → Listed q (last_before Little page_of_lem k) (descriptor_at Little page_of_lem k)
+    page_list : (k : ℕ) → k < n → Listed q (last_before Little page_of k) (descriptor_at Little page_of k)
     page_list k l =
         subst (λ (t : List ℕ). Listed q (last_before Little t k) (descriptor_at Little t k)) page_laid
         (list_kept Big Little s n fits zeros q list k l)
 
-    page_keeps : page·taken.Taken Little page_of_lem q
+    page_keeps : page·taken.Taken Little page_of q
     page_keeps =
         record {
           asked = asks;
           long = page_long ∙ ap (λ (m : ℕ). 512 * m) (sym pages);
           returned = page_returned ∙ sym (ap (λ (m : ℕ). returned_of m (pages_of q)) page_number ∙ omega (arith, few, pages));
           list = λ k l. page_list k (rw page_returned at l);
-          padding = subst (λ (m : ℕ). (i : ℕ) → i < length page_of_lem - base_of m → get_or page_of_lem (base_of m + i) 0 ≡ 0) (sym page_returned) padding;
+          padding = subst (λ (m : ℕ). (i : ℕ) → i < length page_of - base_of m → get_or page_of (base_of m + i) 0 ≡ 0) (sym page_returned) padding;
         }
 
-    as_page : PageHolds page_of_lem q (header_in Big s) (scsi.slot_of Big s)
+    as_page : PageHolds page_of q (header_in Big s) (scsi.slot_of Big s)
     as_page =
         record {
-          taken = page·taken.takes Little page_of_lem q page_keeps ∙ ap (λ (h : Header). tells 0 (page.header h)) page_header;
+          taken = page·taken.takes Little page_of q page_keeps ∙ ap (λ (h : Header). tells 0 (page.header h)) page_header;
           elements = λ k.
-              slots_alike (header_in Little page_of_lem).returned n page_returned (descriptor_at Little page_of_lem k) (descriptor_at Big s k) k (page_descriptor k)
+              slots_alike (header_in Little page_of).returned n page_returned (descriptor_at Little page_of k) (descriptor_at Big s k) k (page_descriptor k)
               ∙ ap (λ (m : ℕ). cond (ltb k m) (Holds (descriptor_at Big s k)) Outside) (sym (ap (λ (m : ℕ). whole_of m (length s)) is_n ∙ data_whole));
         }
 
-  own_page : PageHolds page_of_lem (asked_for p r) (header_in Big s) (scsi.slot_of Big s)
+  own_page : PageHolds page_of (asked_for p r) (header_in Big s) (scsi.slot_of Big s)
   own_page =
       as_page (asked_for p r) refl (page·theorem.asked_to (asked_for p r) (not-refused p r data_was.fields.0 data_was.fields.1 (omega (arith, few))))
       (λ k l. listed_as (asked r) (asked_for p r) refl refl (omega arith) _ _ (data_was.list k (rw (is_n, data_whole) l)))
 
-  page_clean : page_offence Little page_of_lem (asked_for p r) ≡ Clean
-  page_clean = (page·theorem.heard_clean Little page_of_lem (asked_for p r) _ (sym own_page.taken)).0
+  page_clean : page_offence Little page_of (asked_for p r) ≡ Clean
+  page_clean = (page·theorem.heard_clean Little page_of (asked_for p r) _ (sym own_page.taken)).0
 
 pub data_to_page : DataToPage
 data_to_page s r p bytes clean = own_page s r p (header_in Big s).number refl (bytes_fit Big s (header_in Big s).number bytes) clean

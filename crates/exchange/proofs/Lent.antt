@@ -36,8 +36,8 @@ module _ (bytes buf : List ℕ) where
   laid-front = bytes ++ drop (length bytes) buf
 
   module _ (size : ℕ) (long : size ≡ length bytes) where
-    pub front_lem : take size laid-front ≡ bytes
-    front_lem = take_at bytes (drop (length bytes) buf) size (sym long)
+    pub front : take size laid-front ≡ bytes
+    front = take_at bytes (drop (length bytes) buf) size (sym long)
 
     module _ (room : size ≤ length buf) where
       pub fits_in : said answers.Done (output size laid-front) ≡ written bytes buf
@@ -48,7 +48,7 @@ module _ (bytes buf : List ℕ) where
           let here : heard (Done size) laid-front ≡ outcome f bytes buf =
           (λ i. tells (fits_in i).number (put (fits_in i).state)) ∙ ap (λ (x : Offence). outcome x bytes buf) (sym clean) in
           let one = one-outcome _ c (Done size) out laid-front so here in
-          (one.0, ap (take size) one.1 ∙ front_lem)
+          (one.0, ap (take size) one.1 ∙ front)
 
 -- ## What was answered 0
 
@@ -65,7 +65,7 @@ module _ (bytes buf out : List ℕ) (size : ℕ) where
   by_test true e = let no : ◌≡◌ {A = ℕ} 0 7 = ap (λ (t : Told Outcome). t.number) e in absurd (omega arith)
   by_test false e =
       let same : output size out ≡ output (length bytes) (laid-front bytes buf) = ap (λ (t : Told Outcome). put_in t.state) e in
-      (λ i. take (same i).count (same i).buffer) ∙ front_lem bytes buf (length bytes) refl
+      (λ i. take (same i).count (same i).buffer) ∙ front bytes buf (length bytes) refl
 
   converted : (f : Offence) → heard (Done size) out ≡ outcome f bytes buf → (f ≡ Clean) × (take size out ≡ bytes)
   converted (At p) so = let no : ◌≡◌ {A = ℕ} 0 9 = ap (λ (t : Told Outcome). t.number) so in absurd (omega arith)

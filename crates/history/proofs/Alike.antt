@@ -31,7 +31,7 @@ use Rattle.history.specs.Runs.{Script, begin, ◌▸◌, after, history, answers
 
 -- two rulings of one number and one store, after which the note is empty still, or the position is one
 pub record Same (c : Cells) (r s : Ruled) : Type 0 where
-  pub number_lem : r.number ≡ s.number
+  pub number : r.number ≡ s.number
   pub store : r.store ≡ s.store
   pub next : ((make r.store c).note ≡ Empty) ⊎ (r.next ≡ s.next)
 
@@ -44,7 +44,7 @@ module _ (t : Table) (c : Cells) (p q : Position) (empty : c.note ≡ Empty) whe
   either false f g = g
 
   still : {r s : Ruled} → r.number ≡ s.number → r.store ≡ s.store → (make r.store c).note ≡ Empty → Same c r s
-  still n e rests = record { number_lem = n; store = e; next = inl rests }
+  still n e rests = record { number = n; store = e; next = inl rests }
 
   same-found : (r : Registers) → Same c (judge_found t c p (identifier_of r) (low48 r.lba) (see_in t c (identifier_of r))) (judge_found t c q (identifier_of r) (low48 r.lba) (see_in t c (identifier_of r)))
   unfolding judge_found judge_room
@@ -55,7 +55,7 @@ module _ (t : Table) (c : Cells) (p q : Position) (empty : c.note ≡ Empty) whe
       (either (limit_met t.limit (removed_in t c)) (still refl refl empty)
       (either (too_small c.native.0 s.part.blocks) (still refl refl empty)
       (either (too_high c.native.0 s.part.blocks (low48 r.lba).0) (still refl refl empty)
-      (record { number_lem = refl; store = refl; next = inr refl })))))
+      (record { number = refl; store = refl; next = inr refl })))))
 
   same-remove : (s : Security) (r : Registers) → Same c (rule_remove t c p s r) (rule_remove t c q s r)
   same-remove s r = either (aborts Remove s) (still refl refl empty) (either (is_full c.note) (still refl refl empty) (same-found r))

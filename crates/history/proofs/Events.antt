@@ -14,7 +14,7 @@ use Rattle.cells.specs.declared.Position.{Position}
 use Rattle.cells.specs.declared.Removal.{Removal}
 use Rattle.cells.specs.declared.Store.TheVariants.{Nothing, NativeTo, AccessibleTo, Marked, Graded, FailedTo, Noted, NoteEmptied}
 use Rattle.cells.specs.declared.Store.{Store}
-use Rattle.conduct.proofs.Shapes.{still, moving, stopping, Shape, quiet_lem, clears, notes, advances, winds, Grading, refuses, grades, each, choose}
+use Rattle.conduct.proofs.Shapes.{still, moving, stopping, Shape, quiet, clears, notes, advances, winds, Grading, refuses, grades, each, choose}
 use Rattle.device.proofs.Stores.{store_at}
 use Rattle.device.specs.Machine.{Event, command, step, media_error, power_cut, comreset, hardware_reset, software_reset, grade, rule, told}
 use Rattle.device.specs.Record.{under_way, removed_number, see}
@@ -137,12 +137,12 @@ Tells d e next NoteEmptied = Unit {0}
 
 module _ (d : Device) where
   tells_still : (e : Event) (r : Ruled) → Shape d still r → Tells d e r.next r.store
-  tells_still e r (quiet_lem n) = tt
+  tells_still e r (quiet n) = tt
   tells_still e r clears = tt
   tells_still e r (notes id lba n s) = (refl, s.hit)
 
   tells_stop : (e : Event) (r : Ruled) → Shape d stopping r → Tells d e r.next r.store
-  tells_stop e r (quiet_lem n) = tt
+  tells_stop e r (quiet n) = tt
   tells_stop e r (winds w n) = tt
 
   tells_step : (w : Removal) → d.cells.note ≡ Full w → (p : Position) → d.position ≡ p → Tells d step (next_of p) (store_at d w p)
@@ -161,7 +161,7 @@ module _ (d : Device) where
   tells_step w n Wind4 e = tt
 
   tells_moving : (r : Ruled) → Shape d moving r → Tells d step r.next r.store
-  tells_moving r (quiet_lem n) = tt
+  tells_moving r (quiet n) = tt
   tells_moving r (advances w n) = tells_step w n d.position refl
 
   tells_grade : (e : Event) (id : ElementId) (h : ℕ) (r : Ruled) → Grading d id h r → Tells d e r.next r.store
@@ -203,11 +203,11 @@ module _ (d : Device) where
   step_none w Wind4 = refl
 
   moving_none : (r : Ruled) → Shape d moving r → is_note r.store ≡ false
-  moving_none r (quiet_lem n) = refl
+  moving_none r (quiet n) = refl
   moving_none r (advances w n) = step_none w d.position
 
   stopping_none : (r : Ruled) → Shape d stopping r → is_note r.store ≡ false
-  stopping_none r (quiet_lem n) = refl
+  stopping_none r (quiet n) = refl
   stopping_none r (winds w n) = refl
 
   grading_none : (id : ElementId) (h : ℕ) (r : Ruled) → Grading d id h r → is_note r.store ≡ false

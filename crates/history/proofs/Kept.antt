@@ -15,7 +15,7 @@ use Rattle.cells.specs.declared.Position.TheVariants.{Work1, Work2, Work3, Work4
 use Rattle.cells.specs.declared.Position.{Position}
 use Rattle.cells.specs.declared.Removal.{Removal}
 use Rattle.cells.specs.declared.Store.TheVariants.{Nothing, Marked}
-use Rattle.conduct.proofs.Shapes.{Kind, Standing, Shape, quiet_lem, clears, notes, advances, winds, Grading, refuses, grades, each}
+use Rattle.conduct.proofs.Shapes.{Kind, Standing, Shape, quiet, clears, notes, advances, winds, Grading, refuses, grades, each}
 use Rattle.device.proofs.Stores.{store_at}
 use Rattle.device.specs.Machine.{Event, command, step, media_error, power_cut, comreset, hardware_reset, software_reset, grade, rule}
 use Rattle.device.specs.Record.{health_at, carried_out, see, wound_up}
@@ -61,10 +61,10 @@ ledger_health start M G i = cond (M (identifier_at start.table i)) 0xFF (G (iden
 -- hs are the healths now
 pub record Kept (start : Device) (M : ℕ → Bool) (G : ℕ → ℕ → ℕ) (N A : ℕ) (hs : List ℕ) (n c : ℕ) (p : Position) (note : Note) : Type 0 where
   pub celled : size start.table ≤ length hs
-  pub same_lem : (i : ℕ) → i < size start.table → get_or hs i 0 ≡ ledger_health start M G i
+  pub same : (i : ℕ) → i < size start.table → get_or hs i 0 ≡ ledger_health start M G i
   pub low : (i : ℕ) → i < size start.table → M (identifier_at start.table i) ≡ false → G (identifier_at start.table i) (health_at start i) ≤ 0xCF
   pub only : (id : ℕ) → M id ≡ true → Present start.table id
-  pub held_lem : Held start.table M N A n c p note
+  pub held : Held start.table M N A n c p note
 
 abbrev pub Inv : Device → History → Device → Type 0
 Inv start h d =
@@ -82,9 +82,9 @@ is_mark : (m : Bool) (g : ℕ) → (m ≡ false → g ≤ 0xCF) → removed_heal
 is_mark true g k = refl
 is_mark false g k = ne_eqb g 0xFF (λ z. let y : g ≤ 0xCF = k refl in omega arith)
 
-pub wound_to_lem : (m : Bool) (x y : Lba) → (cond m x y).0 ≡ cond m x.0 y.0
-wound_to_lem true x y = refl
-wound_to_lem false x y = refl
+pub wound_to : (m : Bool) (x y : Lba) → (cond m x y).0 ≡ cond m x.0 y.0
+wound_to true x y = refl
+wound_to false x y = refl
 
 landed : (m : Bool) (a new old : ℕ) → a ≡ cond m new old → m ≡ true → a ≡ new
 landed true a new old e t = e
@@ -126,16 +126,16 @@ module _ (start : Device) (asc : ascending 0 (identifiers start.table) ≡ true)
 
   wound : (w : Removal) → address start h ≡ cond (M w.element.0) w.new.0 w.old.0 → (wound_up d w).0 ≡ address start h
   wound w e =
-      wound_to_lem (gone (see d w.element)) w.new w.old
+      wound_to (gone (see d w.element)) w.new w.old
       ∙ ap (λ (m : Bool). cond m w.new.0 w.old.0) (is_marked w.element) ∙ sym e
 
   -- the healths after one was stored at a place
-  stored_lem : (at v i : ℕ) → at < size t → i < size t → get_or (set d.cells.healths at v) i 0 ≡ cond (eqb (identifier_at t at) (identifier_at t i)) v (ledger_health start M G i)
-  stored_lem at v i b k = stored_health t asc d.cells.healths inv.celled at v i b k ∙ ap (cond (eqb (identifier_at t at) (identifier_at t i)) v) (inv.same i k)
+  stored : (at v i : ℕ) → at < size t → i < size t → get_or (set d.cells.healths at v) i 0 ≡ cond (eqb (identifier_at t at) (identifier_at t i)) v (ledger_health start M G i)
+  stored at v i b k = stored_health t asc d.cells.healths inv.celled at v i b k ∙ ap (cond (eqb (identifier_at t at) (identifier_at t i)) v) (inv.same i k)
 
   -- the invariant with another hold on the note
   hold : {N n c : ℕ} {p : Position} {note : Note} → Held t M N (address start h) n c p note → Kept start M G N (address start h) d.cells.healths n c p note
-  hold k = record { celled = inv.celled; same_lem = inv.same; low = inv.low; only = inv.only; held_lem = k }
+  hold k = record { celled = inv.celled; same = inv.same; low = inv.low; only = inv.only; held = k }
 
   -- ## The marking store
 
@@ -144,10 +144,10 @@ module _ (start : Device) (asc : ascending 0 (identifiers start.table) ≡ true)
     marked_at way at below is_id =
         record {
           celled = rw length-set inv.celled;
-          same_lem = λ i k. stored_lem at 0xFF i below k ∙ mark_one (eqb (identifier_at t at) (identifier_at t i)) (M (identifier_at t i)) _;
+          same = λ i k. stored at 0xFF i below k ∙ mark_one (eqb (identifier_at t at) (identifier_at t i)) (M (identifier_at t i)) _;
           low = λ i k z. inv.low i k (neither (eqb (identifier_at t at) (identifier_at t i)) (M (identifier_at t i)) z);
           only = λ i. mark_only i (eqb (identifier_at t at) i) refl;
-          held_lem = rw e (record { there = way.there; aim = rw self way.at.1; at = (self, way.at.2, way.at.3) });
+          held = rw e (record { there = way.there; aim = rw self way.at.1; at = (self, way.at.2, way.at.3) });
         }
       where
         self : (eqb (identifier_at t at) w.element.0 || M w.element.0) ≡ true
@@ -183,7 +183,7 @@ module _ (start : Device) (asc : ascending 0 (identifiers start.table) ≡ true)
   -- ## Every shape
 
   keep_shape : (k : Kind) (r : Ruled) → Shape d k r → After G r
-  keep_shape k r (quiet_lem n) = inv
+  keep_shape k r (quiet n) = inv
   keep_shape k r clears = hold inv.held
   keep_shape k r (notes id lba empty s) =
       hold (record { there = hit_present t d built id s.hit; aim = rw (unmarked id s) (sym (held_at start h d inv Empty empty).0); at = (unmarked id s, refl) })
@@ -207,21 +207,21 @@ module _ (start : Device) (asc : ascending 0 (identifiers start.table) ≡ true)
         let there = hit_there t d built id s.hit in
         record {
           celled = rw length-set inv.celled;
-          same_lem = λ i k.
-              rw there.1 at (stored_lem (see d id).place v i there.0 k)
+          same = λ i k.
+              rw there.1 at (stored (see d id).place v i there.0 k)
               ∙ grade_one (eqb id.0 (identifier_at t i)) (M (identifier_at t i)) _ (λ q. subst (λ (j : ℕ). M j ≡ false) (eqb-true id.0 (identifier_at t i) q) (unmarked id s));
           low = λ i k z. low_one (eqb id.0 (identifier_at t i)) _ (leb-true v 0xCF good) (inv.low i k z);
           only = inv.only;
-          held_lem = inv.held;
+          held = inv.held;
         }
 
   -- every event keeps it
-  pub keep_lem : (e : Event) → Inv start (h ▹ entry d e) (carried_out d (rule d e))
-  keep_lem (command s x room) = keep_shape _ _ (each d (command s x room))
-  keep_lem step = keep_shape _ _ (each d step)
-  keep_lem media_error = keep_shape _ _ (each d media_error)
-  keep_lem power_cut = keep_shape _ _ (each d power_cut)
-  keep_lem comreset = keep_shape _ _ (each d comreset)
-  keep_lem hardware_reset = keep_shape _ _ (each d hardware_reset)
-  keep_lem software_reset = keep_shape _ _ (each d software_reset)
-  keep_lem (grade id v) = keep_grade id v _ (each d (grade id v))
+  pub keep : (e : Event) → Inv start (h ▹ entry d e) (carried_out d (rule d e))
+  keep (command s x room) = keep_shape _ _ (each d (command s x room))
+  keep step = keep_shape _ _ (each d step)
+  keep media_error = keep_shape _ _ (each d media_error)
+  keep power_cut = keep_shape _ _ (each d power_cut)
+  keep comreset = keep_shape _ _ (each d comreset)
+  keep hardware_reset = keep_shape _ _ (each d hardware_reset)
+  keep software_reset = keep_shape _ _ (each d software_reset)
+  keep (grade id v) = keep_grade id v _ (each d (grade id v))

@@ -24,11 +24,11 @@ powered_up_rests start can s = go (after start s).cells.note refl
     d : Device
     d = after start s
 
-    idle_lem : d.cells.note ≡ Empty → (after start (s ▸▸ power_up)).cells.note ≡ Empty
-    idle_lem e =
+    idle : d.cells.note ≡ Empty → (after start (s ▸▸ power_up)).cells.note ≡ Empty
+    idle e =
         step_rests (after start (s ▸ power_cut ▸ step ▸ step ▸ step)) (step_rests (after start (s ▸ power_cut ▸ step ▸ step))
         (step_rests (after start (s ▸ power_cut ▸ step)) (step_rests (after start (s ▸ power_cut)) (cut_rests d e))))
 
     go : (n : Note) → (after start s).cells.note ≡ n → ((after start (s ▸▸ power_up)).cells.note ≡ Empty) × Promise start (history start (s ▸▸ power_up)) (after start (s ▸▸ power_up))
-    go Empty e = (idle_lem e, (demand_3.kept start can (s ▸▸ power_up)).at_rest (idle_lem e))
+    go Empty e = (idle e, (demand_3.kept start can (s ▸▸ power_up)).at_rest (idle e))
     go (Full w) e = demand_3.brought_about start can s w e power_cut refl (begin ▸ step ▸ step ▸ step) refl refl

@@ -12,7 +12,7 @@ use Rattle.cells.specs.declared.Position.{Position}
 use Rattle.cells.specs.declared.Removal.{Removal}
 use Rattle.cells.specs.declared.Store.TheVariants.{Marked, Noted}
 use Rattle.cells.specs.declared.Store.{Store}
-use Rattle.conduct.proofs.Shapes.{still, Shape, quiet_lem, clears, notes, Grading, refuses, grades, each, marking_note}
+use Rattle.conduct.proofs.Shapes.{still, Shape, quiet, clears, notes, Grading, refuses, grades, each, marking_note}
 use Rattle.device.proofs.Stores.{store_at}
 use Rattle.device.specs.Machine.{Event, command, step, media_error, power_cut, comreset, hardware_reset, software_reset, grade, rule, told}
 use Rattle.device.specs.Record.{carried_out, see, wound_up}
@@ -50,7 +50,7 @@ wind (suc (suc (suc n))) = Wind4
 module _ (w : Removal) where
   -- nothing but a step moves it on
   stay : (p : Position) (d : Device) → At p w d → (r : Ruled) → Shape d still r → At p w (carried_out d r)
-  stay p d o r (quiet_lem n) = o
+  stay p d o r (quiet n) = o
   stay p d o r clears = record { note = o.note; position = o.position }
   stay p d o r (notes id lba empty s) = empty_full (sym empty ∙ o.note)
 
@@ -99,8 +99,8 @@ module _ (w : Removal) where
 
   module _ (d : Device) (e : Event) (noted : (rule d e).store ≡ Noted w) where
     -- the acceptance of a removal: its element is there, and it leads to the first work step
-    made_by_lem : Tells d e (rule d e).next (Noted w)
-    made_by_lem = subst (Tells d e (rule d e).next) noted (store_tells d e)
+    made_by : Tells d e (rule d e).next (Noted w)
+    made_by = subst (Tells d e (rule d e).next) noted (store_tells d e)
 
     -- the element stays at its place
     work_store_lem : (k : ℕ) (x : Device) → x.table ≡ d.table → store_at x w (work k) ≡ work_store (see d w.element).place w k
@@ -108,14 +108,14 @@ module _ (w : Removal) where
     work_store_lem (suc zero) x q = refl
     work_store_lem (suc (suc zero)) x q =
         let same = see-same d.table x q w.element d refl in
-        rw (same.0 ∙ made_by_lem.1) (ap Marked same.1)
+        rw (same.0 ∙ made_by.1) (ap Marked same.1)
     work_store_lem (suc (suc (suc zero))) x q = refl
     work_store_lem (suc (suc (suc (suc n)))) x q = refl
 
     on_its_way : (s : Script) → calm s ≡ true → steps s ≤ 4 → OnItsWay (work_store (see d w.element).place w) w (steps s) (after d (begin ▸ e ▸▸ s))
     on_its_way s c l =
         let x : Device = after d (begin ▸ e) in
-        let o : At Work1 w x = record { note = ap (λ (y : Store). (make y d.cells).note) noted; position = made_by_lem.0 } in
+        let o : At Work1 w x = record { note = ap (λ (y : Store). (make y d.cells).note) noted; position = made_by.0 } in
         subst⁻¹ (OnItsWay (work_store (see d w.element).place w) w (steps s)) (after_join d (begin ▸ e) s)
         (arrives work 4 work_on (work_store (see d w.element).place w) x o s c l (work_store_lem (steps s) (after x s) (table_kept x s)))
 
@@ -139,9 +139,9 @@ module _ (w : Removal) where
   wind_store_lem (suc (suc (suc n))) d = refl
 
   -- a stop, whatever it answers at rest
-  stopped_lem : (d : Device) → d.cells.note ≡ Full w → (idle : ℕ)
+  stopped : (d : Device) → d.cells.note ≡ Full w → (idle : ℕ)
       → ((rule_stop d.position idle d.cells.note).number ≡ 0) × At Wind1 w (carried_out d (rule_stop d.position idle d.cells.note))
-  stopped_lem d n idle =
+  stopped d n idle =
       subst⁻¹ (λ (m : Note). ((rule_stop d.position idle m).number ≡ 0) × At Wind1 w (carried_out d (rule_stop d.position idle m))) n
       (refl, record { note = n; position = refl })
 
@@ -154,8 +154,8 @@ fifth_ends d e w = fifth w d e
 pub stop_winds : StopWinds
 stop_winds d w n (command s x room) q = absurd (false≢true q)
 stop_winds d w n step q = absurd (false≢true q)
-stop_winds d w n media_error q = stopped_lem w d n 10
-stop_winds d w n power_cut q = stopped_lem w d n 0
+stop_winds d w n media_error q = stopped w d n 10
+stop_winds d w n power_cut q = stopped w d n 0
 stop_winds d w n comreset q = absurd (false≢true q)
 stop_winds d w n hardware_reset q = absurd (false≢true q)
 stop_winds d w n software_reset q = absurd (false≢true q)

@@ -21,12 +21,12 @@ use Rattle.history.specs.Ledger.{marked, first_address, failed_by, failed_in}
 use Rattle.history.specs.Promise.{Promise, KeptByRuns}
 use Rattle.history.specs.Runs.{Script, begin, ◌▸◌, empty, after, history}
 use Rattle.history.specs.Starts.{fit, Begins, Startable, CutStarts}
-use Rattle.history.proofs.Kept.{Held, Inv, HeldAt, held_at, wound_to_lem, removed_marked, keep_lem}
+use Rattle.history.proofs.Kept.{Held, Inv, HeldAt, held_at, wound_to, removed_marked, keep}
 use Rattle.history.proofs.Places.{table_kept, gone_present, gone-place}
 
-other_lem : (a b : Bool) → (a || b) ≡ true → a ≡ false → b ≡ true
-other_lem true b e z = absurd (true≢false z)
-other_lem false b e z = e
+other : (a b : Bool) → (a || b) ≡ true → a ≡ false → b ≡ true
+other true b e z = absurd (true≢false z)
+other false b e z = e
 
 -- the failed mark is no part of the invariant
 failed_after : (s : Store) (c : Cells) → is_set (make s c).failed ≡ failed_by s (is_set c.failed)
@@ -42,8 +42,8 @@ failed_after NoteEmptied c = refl
 module _ (start : Device) (can : Startable start) where
   -- ## The start
 
-  first_lem : (i : ℕ) → i < size start.table → marked start empty (identifier_at start.table i) ≡ removed_health (health_at start i)
-  first_lem i h = gone-place start.table can.ids start refl i h
+  first : (i : ℕ) → i < size start.table → marked start empty (identifier_at start.table i) ≡ removed_health (health_at start i)
+  first i h = gone-place start.table can.ids start refl i h
 
   held_first : (n : Note) → Begins start n
       → Held start.table (marked start empty) 0 (first_address start n) start.cells.native.0 start.cells.accessible.0 start.position n
@@ -51,46 +51,46 @@ module _ (start : Device) (can : Startable start) where
   held_first (Full w) r =
       record {
         there = r.0;
-        aim = wound_to_lem (gone (see start w.element)) w.new w.old;
+        aim = wound_to (gone (see start w.element)) w.new w.old;
         at = rw r.1 tt;
       }
 
   inv_first : Inv start empty start
   inv_first = record {
     celled = can.celled;
-    same = λ i h. rw (first_lem i h) (healthy_lem (health_at start i) (removed_health (health_at start i)) refl);
-    low = λ i h z. leb-true (health_at start i) 0xCF (other_lem (removed_health (health_at start i)) (graded_health (health_at start i)) (can.healths i h) (sym (first_lem i h) ∙ z));
+    same = λ i h. rw (first i h) (healthy (health_at start i) (removed_health (health_at start i)) refl);
+    low = λ i h z. leb-true (health_at start i) 0xCF (other (removed_health (health_at start i)) (graded_health (health_at start i)) (can.healths i h) (sym (first i h) ∙ z));
     only = λ id. gone_present start.table start refl (record { 0 = id });
     held = held_first start.cells.note can.begins;
   }
     where
-      healthy_lem : (h : ℕ) (m : Bool) → removed_health h ≡ m → h ≡ cond m 0xFF h
-      healthy_lem h true q = eqb-true h 0xFF q
-      healthy_lem h false q = refl
+      healthy : (h : ℕ) (m : Bool) → removed_health h ≡ m → h ≡ cond m 0xFF h
+      healthy h true q = eqb-true h 0xFF q
+      healthy h false q = refl
 
   -- ## Any run
 
   inv : (s : Script) → Inv start (history start s) (after start s)
   inv begin = inv_first
-  inv (s ▸ e) = keep_lem start can.ids (history start s) (after start s) (table_kept start s) (inv s) e
+  inv (s ▸ e) = keep start can.ids (history start s) (after start s) (table_kept start s) (inv s) e
 
-  removed_in_lem : (s : Script) (i : ℕ) → i < size start.table → removed_health (health_at (after start s) i) ≡ marked start (history start s) (identifier_at start.table i)
-  removed_in_lem s = removed_marked start can.ids (history start s) (after start s) (table_kept start s) (inv s)
+  removed_in : (s : Script) (i : ℕ) → i < size start.table → removed_health (health_at (after start s) i) ≡ marked start (history start s) (identifier_at start.table i)
+  removed_in s = removed_marked start can.ids (history start s) (after start s) (table_kept start s) (inv s)
 
   failed_kept : (s : Script) → is_set (after start s).cells.failed ≡ failed_in start (history start s)
   failed_kept begin = refl
   failed_kept (s ▸ e) = failed_after (rule (after start s) e).store (after start s).cells ∙ ap (failed_by (rule (after start s) e).store) (failed_kept s)
 
-  holds_lem : (s : Script) (n : Note) → (after start s).cells.note ≡ n → HeldAt start (history start s) (after start s) (after start s).position n
-  holds_lem s = held_at start (history start s) (after start s) (inv s)
+  holds : (s : Script) (n : Note) → (after start s).cells.note ≡ n → HeldAt start (history start s) (after start s) (after start s).position n
+  holds s = held_at start (history start s) (after start s) (inv s)
 
   promised : (s : Script) → (after start s).cells.note ≡ Empty → Promise start (history start s) (after start s)
   promised s e =
       record {
-        removed = rw (table_kept start s) (removed_in_lem s);
+        removed = rw (table_kept start s) (removed_in s);
         there = rw (table_kept start s) (inv s).only;
-        native_max = (holds_lem s Empty e).0;
-        accessible_max = (holds_lem s Empty e).1;
+        native_max = (holds s Empty e).0;
+        accessible_max = (holds s Empty e).1;
         table = table_kept start s;
         healths = rw (table_kept start s) (inv s).same;
       }
@@ -101,16 +101,16 @@ module _ (start : Device) (can : Startable start) where
   cut_note s = ap (λ (c : Cells). c.note) (stop_keeps_cells (after start s)).0
 
   cut_begins : (s : Script) (n : Note) → (after start s).cells.note ≡ n → Begins (after start (s ▸ power_cut)) n
-  cut_begins s Empty e = let r = holds_lem (s ▸ power_cut) Empty (cut_note s ∙ e) in r.1 ∙ sym r.0
+  cut_begins s Empty e = let r = holds (s ▸ power_cut) Empty (cut_note s ∙ e) in r.1 ∙ sym r.0
   cut_begins s (Full w) e =
-      (rw (table_kept start s) (holds_lem s (Full w) e).there, ap (λ (n : Note). (rule_stop (after start s).position 0 n).next) e)
+      (rw (table_kept start s) (holds s (Full w) e).there, ap (λ (n : Note). (rule_stop (after start s).position 0 n).next) e)
 
   fit_in : (s : Script) (i : ℕ) → i < size start.table → fit (health_at (after start s) i) ≡ true
-  fit_in s i h = rw ((inv s).same i h) (healthy_lem (marked start (history start s) (identifier_at start.table i)) _ ((inv s).low i h))
+  fit_in s i h = rw ((inv s).same i h) (healthy (marked start (history start s) (identifier_at start.table i)) _ ((inv s).low i h))
     where
-      healthy_lem : (m : Bool) (g : ℕ) → (m ≡ false → g ≤ 0xCF) → fit (cond m 0xFF g) ≡ true
-      healthy_lem true g k = refl
-      healthy_lem false g k = rw (le-leb g 0xCF (k refl), or-true)
+      healthy : (m : Bool) (g : ℕ) → (m ≡ false → g ≤ 0xCF) → fit (cond m 0xFF g) ≡ true
+      healthy true g k = refl
+      healthy false g k = rw (le-leb g 0xCF (k refl), or-true)
 
 pub kept : (start : Device) → Startable start → (s : Script) → KeptByRuns start (history start s) (after start s)
 kept start can s = record { at_rest = promised start can s; failed = failed_kept start can s }

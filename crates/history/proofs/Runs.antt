@@ -11,11 +11,11 @@ use Rattle.history.specs.Runs.{Script, ◌▸◌, after, none, call, RunsAreScri
 pub then : (d : Device) (s : Script) (x : Device) (e : Event) (n : ℕ) (y : Device) → tells n y ≡ told x e → x ≡ after d s → y ≡ after d (s ▸ e)
 then d s x e n y p q = ap (λ (t : Told Device). t.state) p ∙ ap (λ (z : Device). (told z e).state) q
 
-answered_lem : (d : Device) (s : Script) (x : Device) (e : Event) (n : ℕ) (y : Device) → tells n y ≡ told x e → x ≡ after d s → n ≡ (told (after d s) e).number
-answered_lem d s x e n y p q = ap (λ (t : Told Device). t.number) p ∙ ap (λ (z : Device). (told z e).number) q
+answered : (d : Device) (s : Script) (x : Device) (e : Event) (n : ℕ) (y : Device) → tells n y ≡ told x e → x ≡ after d s → n ≡ (told (after d s) e).number
+answered d s x e n y p q = ap (λ (t : Told Device). t.number) p ∙ ap (λ (z : Device). (told z e).number) q
 
 pub runs_are_scripts : RunsAreScripts
 runs_are_scripts d _ _ _ none = (refl, refl)
 runs_are_scripts d _ _ _ (call {s} {ns} {x} ran e n y p) =
     let past = runs_are_scripts d s ns x ran in
-    (then d s x e n y p past.0, λ i. answered_lem d s x e n y p past.0 i ∷ past.1 i)
+    (then d s x e n y p past.0, λ i. answered d s x e n y p past.0 i ∷ past.1 i)

@@ -39,15 +39,15 @@ module _ (o : Offer) (full : length o.elements ≡ 128) (g : good o.count (offer
   sizes : size (fresh o).table ≡ length (offered o)
   sizes = ap length (built_ids o full few) ∙ length-map (offered o) (λ (e : Element). e.id.0)
 
-  graded_lem : (i : ℕ) → i < size (fresh o).table → graded_health (health_at (fresh o) i) ≡ true
-  graded_lem i h =
+  graded : (i : ℕ) → i < size (fresh o).table → graded_health (health_at (fresh o) i) ≡ true
+  graded i h =
       let inside : i < length (map health_of (offered o)) = rw (length-map (offered o) health_of, sym sizes) h in
       rw (get_or-append (map health_of (offered o)) (replicate (128 - o.count) 0) 0 i inside)
       (graded-all (offered o) (good-healthy o.count (offered o) o.limit g) i (rw sizes at h))
 
-  standing_lem : (i : ℕ) → i < size (fresh o).table → removed_health (health_at (fresh o) i) ≡ false
-  standing_lem i h =
-      ne_eqb (health_at (fresh o) i) 0xFF (λ q. let low : health_at (fresh o) i ≤ 0xCF = leb-true (health_at (fresh o) i) 0xCF (graded_lem i h) in omega arith)
+  standing : (i : ℕ) → i < size (fresh o).table → removed_health (health_at (fresh o) i) ≡ false
+  standing i h =
+      ne_eqb (health_at (fresh o) i) 0xFF (λ q. let low : health_at (fresh o) i ≤ 0xCF = leb-true (health_at (fresh o) i) 0xCF (graded i h) in omega arith)
 
   made_of_lem : MadeOf (offered o) o.limit (fresh o)
   unfolding is_set
@@ -55,7 +55,7 @@ module _ (o : Offer) (full : length o.elements ≡ 128) (g : good o.count (offer
     startable = record {
       ids = fresh_order o full g;
       celled = rw (sizes, length-append, length-map) (omega arith);
-      healths = λ i h. rw (graded_lem i h, or-true);
+      healths = λ i h. rw (graded i h, or-true);
       begins = refl;
     };
     parts = split_front o full few part_of blank_part;
@@ -66,7 +66,7 @@ module _ (o : Offer) (full : length o.elements ≡ 128) (g : good o.count (offer
     native_max = refl;
     accessible_max = refl;
     first = refl;
-    unmarked = λ id. gone-told (fresh o).table (fresh_order o full g) (fresh o) refl (λ _. false) standing_lem (record { 0 = id }) (λ q. absurd (false≢true q));
+    unmarked = λ id. gone-told (fresh o).table (fresh_order o full g) (fresh o) refl (λ _. false) standing (record { 0 = id }) (λ q. absurd (false≢true q));
     sound = refl;
   }
 

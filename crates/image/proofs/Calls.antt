@@ -8,7 +8,7 @@ use lib.Dec.{eqb}
 use Rattle.cells.specs.Rulings.{Ruled}
 use Rattle.cells.specs.declared.Cells.{Cells}
 use Rattle.conduct.proofs.EveryCall.{refusal_leaves}
-use Rattle.conduct.proofs.Shapes.{Kind, still, stopping, Shape, quiet_lem, clears, notes, advances, winds, Grading, refuses, grades, each}
+use Rattle.conduct.proofs.Shapes.{Kind, still, stopping, Shape, quiet, clears, notes, advances, winds, Grading, refuses, grades, each}
 use Rattle.device.specs.Machine.{Event, command, media_error, power_cut, comreset, hardware_reset, software_reset, grade, rule, told}
 use Rattle.device.specs.Record.{carried_out}
 use Rattle.device.specs.declared.Device.{Device}
@@ -41,14 +41,14 @@ module _ (i : Image) where
   -- a command stores neither an address nor a health
   commanded : (r : Ruled) → Shape d still r → with_note (carried_out d r).cells.note (at_position r.next (with_mark (carried_out d r).cells.failed i)) ≡ keeps i (carried_out d r)
   unfolding keeps device_of
-  commanded r (quiet_lem n) = refl
+  commanded r (quiet n) = refl
   commanded r clears = refl
   commanded r (notes id lba n s) = refl
 
   -- an error or a cut stores nothing
-  stopped_lem : (r : Ruled) → Shape d stopping r → at_position r.next i ≡ keeps i (carried_out d r)
-  stopped_lem r (quiet_lem n) = moved_kept i d.position
-  stopped_lem r (winds w n) = moved_kept i _
+  stopped : (r : Ruled) → Shape d stopping r → at_position r.next i ≡ keeps i (carried_out d r)
+  stopped r (quiet n) = moved_kept i d.position
+  stopped r (winds w n) = moved_kept i _
 
   -- a grade stores a health
   regraded : (id : ElementId) (h : ℕ) (r : Ruled) → Grading d id h r → with_healths (carried_out d r).cells.healths i ≡ keeps i (carried_out d r)
@@ -72,8 +72,8 @@ module _ (i : Image) (e : Event) (d x : Device) (is_d : d ≡ device_of i) (a : 
   pub kept : (r : Image) → r ≡ keeps i x → tells n r ≡ told_of i e
   kept r is_r = ends r (is_r ∙ ap (keeps i) state_told)
 
-  pub left_lem : (n ≡ 0 → ⊥) → tells n i ≡ told_of i e
-  left_lem z = ends i (sym (kept_stays i) ∙ ap (keeps i) (sym (refusal_leaves (device_of i) e (λ q. z (number-told ∙ q)))))
+  pub left : (n ≡ 0 → ⊥) → tells n i ≡ told_of i e
+  left z = ends i (sym (kept_stays i) ∙ ap (keeps i) (sym (refusal_leaves (device_of i) e (λ q. z (number-told ∙ q)))))
 
   -- what holds of the device that the call leaves holds of the one that it handed back
   told_of_lem : (f : Device → Image) → f (told (device_of i) e).state ≡ keeps i (told (device_of i) e).state → (r : Image) → r ≡ f x → tells n r ≡ told_of i e
@@ -84,10 +84,10 @@ module _ (i : Image) (e : Event) (d x : Device) (is_d : d ≡ device_of i) (a : 
 
 module _ (i : Image) (d x : Device) (is_d : d ≡ device_of i) (a : Answer) (n : ℕ) (is_n : n ≡ number_of a) where
   pub error_told : said a x ≡ told d media_error → (r : Image) → r ≡ at_position x.position i → tells n r ≡ told_of i media_error
-  error_told is_told = told_of_lem i media_error d x is_d a is_told n is_n (λ y. at_position y.position i) (stopped_lem i _ (each (device_of i) media_error))
+  error_told is_told = told_of_lem i media_error d x is_d a is_told n is_n (λ y. at_position y.position i) (stopped i _ (each (device_of i) media_error))
 
   pub cut_told : said a x ≡ told d power_cut → (r : Image) → r ≡ at_position x.position i → tells n r ≡ told_of i power_cut
-  cut_told is_told = told_of_lem i power_cut d x is_d a is_told n is_n (λ y. at_position y.position i) (stopped_lem i _ (each (device_of i) power_cut))
+  cut_told is_told = told_of_lem i power_cut d x is_d a is_told n is_n (λ y. at_position y.position i) (stopped i _ (each (device_of i) power_cut))
 
   pub comreset_told : said a x ≡ told d comreset → tells n i ≡ told_of i comreset
   comreset_told is_told = untouched i comreset d x is_d a is_told n is_n refl

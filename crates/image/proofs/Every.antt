@@ -55,9 +55,9 @@ module _ (i : Image) (o : Offer) where
       let t = cond b (tells 0 (fresh o)) (tells 8 (device_of i)) in
       ((made_as i t).number ≡ 0 → ⊥) → (made_as i t).state ≡ i
 
-  leaves_lem : (b : Bool) → Leaves b
-  leaves_lem true z = absurd (z refl)
-  leaves_lem false z = refl
+  leaves : (b : Bool) → Leaves b
+  leaves true z = absurd (z refl)
+  leaves false z = refl
 
 pub reads_made : ReadsMade
 unfolding made_by made_of
@@ -65,4 +65,4 @@ reads_made i o = made i o (good o.count (offered o) o.limit) refl
 
 pub refused_making_leaves : RefusedMakingLeaves
 unfolding made_by made_of
-refused_making_leaves i o = leaves_lem i o (good o.count (offered o) o.limit)
+refused_making_leaves i o = leaves i o (good o.count (offered o) o.limit)

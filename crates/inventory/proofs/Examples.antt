@@ -40,10 +40,10 @@ pub at_rest : cells_of (device_a 2999 0x70 Empty Work1) ≡ ascii
 unfolding cells_of is_set
 at_rest = refl
 
-pub under_way_lem : cells_of (device_a 2499 0xFF note_r1 Work4) ≡ ascii
+pub under_way : cells_of (device_a 2499 0xFF note_r1 Work4) ≡ ascii
     "limit 2 native 2499 accessible 2499 failed 0 note 00010003 2999 2499 position work4\n00000001 01 20 1000 0\n00000003 01 10 1500 0\n00010003 01 FF 500 0\n00020000 02 00 0 0\n"
 unfolding cells_of is_set
-under_way_lem = refl
+under_way = refl
 
 pub failed : cells_line 1 (record { native = record { 0 = 0 }; accessible = record { 0 = 0 }; healths = []; failed = Set; note = Empty }) Wind2
     ≡ ascii "limit 1 native 0 accessible 0 failed 1 note - position wind2\n"

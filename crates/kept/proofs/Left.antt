@@ -25,19 +25,19 @@ module _ (call found : PageCall) (is_found : call ≡ found) (kept : ℕ) (page 
   pub kept_of : (r : ℕ) → r ≡ kept_after found kept page → r ≡ kept_after call kept page
   kept_of r is_r = is_r ∙ sym (rw is_found)
 
-  pub page_of_lem : (r : List ℕ) → r ≡ page_after found kept page → r ≡ page_after call kept page
-  page_of_lem r is_r = is_r ∙ sym (rw is_found)
+  pub page_of : (r : List ℕ) → r ≡ page_after found kept page → r ≡ page_after call kept page
+  page_of r is_r = is_r ∙ sym (rw is_found)
 
 -- `after` is the page once the bytes were stored
 module _ (kept : ℕ) (written page after : List ℕ) (is_after : after ≡ stored page 0 written) where
-  same_lem : length after ≡ length page
-  same_lem = ap length is_after ∙ length-stored page written 0
+  same : length after ≡ length page
+  same = ap length is_after ∙ length-stored page written 0
 
   pub long_replaced : length after < length written → kept ≡ replaced kept written page
-  long_replaced h = sym (rw (lt-leb (length written) (length page) (rw (← same_lem) h)))
+  long_replaced h = sym (rw (lt-leb (length written) (length page) (rw (← same) h)))
 
   pub some_replaced : length written ≤ length after → length written ≡ replaced kept written page
-  some_replaced h = sym (rw (le-leb (length written) (length page) (rw (← same_lem) h)))
+  some_replaced h = sym (rw (le-leb (length written) (length page) (rw (← same) h)))
 
 module _ (kept : ℕ) (written page : List ℕ) where
   pub none_kept : length written ≡ 0 → kept ≡ kept_with kept written page

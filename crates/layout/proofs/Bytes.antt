@@ -110,8 +110,8 @@ module _ (s : List ℕ) (at : ℕ) (b : Bool) (is_b : b ≡ fits 32 at (length s
 pub descriptor_from : (o : Order) (s : List ℕ) (at : ℕ) (d : Descriptor) → d ≡ descriptor_in o (take (length s - at) (drop at s)) → d ≡ descriptor_in o (drop at s)
 descriptor_from o s at d so = so ∙ ap (descriptor_in o) (part_end s at)
 
-pub descriptor_part_lem : (o : Order) (s u : List ℕ) (at : ℕ) → u ≡ drop at s → (d : Descriptor) → d ≡ descriptor_in o u → d ≡ descriptor_in o (drop at s)
-descriptor_part_lem o s u at is_u d is_d = is_d ∙ ap (descriptor_in o) is_u
+pub descriptor_part : (o : Order) (s u : List ℕ) (at : ℕ) → u ≡ drop at s → (d : Descriptor) → d ≡ descriptor_in o u → d ≡ descriptor_in o (drop at s)
+descriptor_part o s u at is_u d is_d = is_d ∙ ap (descriptor_in o) is_u
 
 -- ## What was laid is read back, whatever follows it
 

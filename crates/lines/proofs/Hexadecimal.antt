@@ -77,13 +77,13 @@ module _ (most : ℕ) (w : List ℕ) where
 
   -- the first i bytes are digits, and their number is `value`
   pub record Read (value i : ℕ) : Type 0 where
-    pub digits_lem : all is_digit (drop i w) ≡ all is_digit w
-    pub number_lem : value_after 16 value (drop i w) ≡ value_of 16 w
+    pub digits : all is_digit (drop i w) ≡ all is_digit w
+    pub number : value_after 16 value (drop i w) ≡ value_of 16 w
     pub small : value < 16 ^ i
     pub inside : i ≤ length w
 
   pub read_none : Read 0 0
-  read_none = record { digits_lem = refl; number_lem = refl; small = omega arith; inside = omega arith }
+  read_none = record { digits = refl; number = refl; small = omega arith; inside = omega arith }
 
   module _ (value i : ℕ) (so : Read value i) (short : length w ≤ 16) where
     pub value_small : i < length w → value < 2 ^ 60
@@ -101,8 +101,8 @@ module _ (most : ℕ) (w : List ℕ) where
           let digit : d < 16 = omega (arith, digit_small) in
           let here : drop i w ≡ get_or w i 0 ∷ drop (suc i) w = drop-cons w i 0 less in
           record {
-            digits_lem = sym (sym so.digits ∙ rw (here, ← is_d, lt-ltb d 16 digit, add-one i));
-            number_lem = sym (sym so.number ∙ rw (here, is_d, add-one i));
+            digits = sym (sym so.digits ∙ rw (here, ← is_d, lt-ltb d 16 digit, add-one i));
+            number = sym (sym so.number ∙ rw (here, is_d, add-one i));
             small = rw (add-one i, pow-suc 16 i) (omega (arith, so.small));
             inside = omega arith;
           }

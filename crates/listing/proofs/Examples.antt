@@ -30,17 +30,17 @@ taken : (a b c : ℕ) → (judged (page a b c)).state ≡ header header_g1
 unfolding refused takes_health
 taken a b c = refl
 
-listed_lem : (a b c : ℕ) (d : Descriptor) → descriptor_at Little (page a b c) 0 ≡ d → listing_of (page a b c) ≡ header_line header_g1 ++ descriptor_line d
+listed : (a b c : ℕ) (d : Descriptor) → descriptor_at Little (page a b c) 0 ≡ d → listing_of (page a b c) ≡ header_line header_g1 ++ descriptor_line d
 unfolding listing_of
-listed_lem a b c d is_d =
+listed a b c d is_d =
     ap (λ (v : Values). first_line v ++ lines_below Little (page a b c) (line_count v)) (taken a b c)
     ∙ ap (λ (x : Descriptor). header_line header_g1 ++ descriptor_line x) is_d
 
 pub G1 : listing_of page_g1 ≡ ascii "number 1 returned 1 busy 00000000 limit 2 removed 0\n00010003 01 70 500\n"
-G1 = listed_lem 0xF4 0x01 0x00 (element 500) refl
+G1 = listed 0xF4 0x01 0x00 (element 500) refl
 
 pub unreported : listing_of (page 0xFF 0xFF 0xFF) ≡ ascii "number 1 returned 1 busy 00000000 limit 2 removed 0\n00010003 01 70 -\n"
-unreported = listed_lem 0xFF 0xFF 0xFF (element all_ones) refl
+unreported = listed 0xFF 0xFF 0xFF (element all_ones) refl
 
 -- no page, a length that is not 512p, N at 1 with nothing returned, and a last byte that is not 0
 pub refusals : (listing_of [] ≡ ascii "refused 9 at 0\n") × (listing_of (zeros 513) ≡ ascii "refused 9 at 0\n")

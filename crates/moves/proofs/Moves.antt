@@ -19,14 +19,14 @@ ask_laid id i x is_i is_x = is_x ∙ rw is_i
 
 -- a line, by what it was found to be
 module _ (m found : Move) (is_found : m ≡ found) (t : List ℕ) (is_t : t ≡ move_line (heard found).state) (d : List ℕ) (at : ℕ) where
-  same_lem : t ≡ move_line (heard m).state
-  same_lem = is_t ∙ sym (rw is_found)
+  same : t ≡ move_line (heard m).state
+  same = is_t ∙ sym (rw is_found)
 
   pub move_stored : (x : List ℕ) → x ≡ stored d at t → x ≡ stored d at (move_line (heard m).state)
-  move_stored x is_x = is_x ∙ ap (stored d at) same_lem
+  move_stored x is_x = is_x ∙ ap (stored d at) same
 
   pub move_ended : (r : ℕ) → r ≡ ended d at t → r ≡ ended d at (move_line (heard m).state)
-  move_ended r is_r = is_r ∙ ap (ended d at) same_lem
+  move_ended r is_r = is_r ∙ ap (ended d at) same
 
 module _ (page kept : List ℕ) (q : Request) (m : Move) (is_kept : kept ≡ take 65536 page) (is_m : heard m ≡ next_of kept q) where
   line : move_line (heard m).state ≡ next_text page q

@@ -11,7 +11,7 @@ use Rattle.layout.specs.Bytes.{header_bytes, header_in, descriptor_bytes, descri
 use Rattle.layout.specs.Promises.{HeaderFits, DescriptorFits}
 use Rattle.layout.specs.declared.Descriptor.{Descriptor}
 use Rattle.layout.specs.declared.Header.{Header}
-use Rattle.slices.proofs.Lists.{length-flat, every_at, after_lem, flat_at}
+use Rattle.slices.proofs.Lists.{length-flat, every_at, after, flat_at}
 use Rattle.slices.specs.Lists.{Every, flat}
 use Rattle.words.specs.declared.Order.{Order}
 use Rattle.offences.specs.Checks.{base_of, descriptor_at}
@@ -29,7 +29,7 @@ module _ (o : Order) (h : Header) (l : List Descriptor) where
 
     -- descriptor k, and what follows it
     pub laid_at : (k : ℕ) (z : Descriptor) → k < length l
-        → drop (base_of k) (laid o h l ++ rest) ≡ descriptor_bytes o (get_or l k z) ++ after_lem (descriptor_bytes o) 32 (wide o) l k rest
+        → drop (base_of k) (laid o h l ++ rest) ≡ descriptor_bytes o (get_or l k z) ++ after (descriptor_bytes o) 32 (wide o) l k rest
     laid_at k z less =
         let place : base_of k ≡ length (header_bytes o h) + 32 * k = omega (arith, header_wide o h) in
         (λ i. drop (place i) (parts i))
@@ -39,7 +39,7 @@ module _ (o : Order) (h : Header) (l : List Descriptor) where
     pub laid_descriptor : Every DescriptorFits l → (k : ℕ) (z : Descriptor) → k < length l → descriptor_at o (laid o h l ++ rest) k ≡ get_or l k z
     laid_descriptor fits k z less =
         ap (descriptor_in o) (laid_at k z less)
-        ∙ descriptor_back o (get_or l k z) (after_lem (descriptor_bytes o) 32 (wide o) l k rest) (every_at DescriptorFits l k z less fits)
+        ∙ descriptor_back o (get_or l k z) (after (descriptor_bytes o) 32 (wide o) l k rest) (every_at DescriptorFits l k z less fits)
 
 -- ## Cut
 

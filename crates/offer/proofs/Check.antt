@@ -96,14 +96,14 @@ module _ (es : List Element) (n i last total : ℕ) (whole : Checked) (so : walk
     walk_on e = sym (rw (here, sym is_m ∙ e)) ∙ so
 
   module _ (done : n ≤ i) where
-    nothing_lem : drop i (take n es) ≡ []
-    nothing_lem = drop_of_length-le (take n es) {i = i} (simp length-take (omega arith))
+    nothing : drop i (take n es) ≡ []
+    nothing = drop_of_length-le (take n es) {i = i} (simp length-take (omega arith))
 
     pub walk_few : total < 2 → Refused ≡ whole
-    walk_few h = sym (rw (nothing_lem, lt-leb 2 total h)) ∙ so
+    walk_few h = sym (rw (nothing, lt-leb 2 total h)) ∙ so
 
     pub walk_end : 2 ≤ total → Blocks total ≡ whole
-    walk_end h = sym (rw (nothing_lem, le-leb 2 total h)) ∙ so
+    walk_end h = sym (rw (nothing, le-leb 2 total h)) ∙ so
 
 -- ## The walk is the check
 
@@ -141,11 +141,11 @@ module _ (o : Offer) (b : Bool) (is_b : b ≡ sized o.count o.limit) where
   unfolding good check_of
   check_walked y r is_r =
       rw (is_r, walk_checks 0 0 (offered o) (omega arith), zero-add (block_sum (offered o)), sym is_b ∙ y)
-      (told_lem ((ascending 0 (element_ids (offered o)) && (all shaped (offered o) && summed (block_sum (offered o)))) && all healthy (offered o)))
+      (told ((ascending 0 (element_ids (offered o)) && (all shaped (offered o) && summed (block_sum (offered o)))) && all healthy (offered o)))
     where
-      told_lem : (g : Bool) → verdict (cond g (Blocks (block_sum (offered o))) Refused) ≡ cond g (tells 0 (block_sum (offered o) ∷ [])) (tells 8 [])
-      told_lem true = refl
-      told_lem false = refl
+      told : (g : Bool) → verdict (cond g (Blocks (block_sum (offered o))) Refused) ≡ cond g (tells 0 (block_sum (offered o) ∷ [])) (tells 8 [])
+      told true = refl
+      told false = refl
 
 -- ## No second answer (specs/Promises)
 

@@ -15,11 +15,11 @@ record Row : Type 0 where
   count : ℕ
   elements : List Element
   limit : ℕ
-  number_lem : ℕ
+  number : ℕ
   blocks : ℕ
 
 abbrev row : ℕ → List Element → ℕ → ℕ → ℕ → Row
-row c es l n b = record { count = c; elements = es; limit = l; number_lem = n; blocks = b }
+row c es l n b = record { count = c; elements = es; limit = l; number = n; blocks = b }
 
 abbrev rows : List Row
 rows =

@@ -10,8 +10,8 @@ use Rattle.paper.specs.Told.{Told, said}
 use Rattle.paper.specs.declared.Answer.TheVariants.{Done, SecurityLocked, InProgress, Failed, InvalidField, BeyondMax, UnknownCommand, SmallBuffer, TableRefused, NoRemoval, GradeRefused}
 use Rattle.paper.specs.declared.Answer.{Answer}
 
-pub answer_of_lem : ℕ → Answer
-answer_of_lem n =
+pub answer_of : ℕ → Answer
+answer_of n =
     cond (eqb n 0) Done
     (cond (eqb n 1) SecurityLocked
     (cond (eqb n 2) InProgress
@@ -23,8 +23,8 @@ answer_of_lem n =
     (cond (eqb n 8) TableRefused
     (cond (eqb n 10) NoRemoval GradeRefused)))))))))
 
-pub answer_number : (a : Answer) → answer_of_lem (number_of a) ≡ a
-unfolding answer_of_lem
+pub answer_number : (a : Answer) → answer_of (number_of a) ≡ a
+unfolding answer_of
 answer_number Done = refl
 answer_number SecurityLocked = refl
 answer_number InProgress = refl
@@ -38,7 +38,7 @@ answer_number NoRemoval = refl
 answer_number GradeRefused = refl
 
 pub number_injective : NumberInjective
-number_injective a b e = sym (answer_number a) ∙ ap answer_of_lem e ∙ answer_number b
+number_injective a b e = sym (answer_number a) ∙ ap answer_of e ∙ answer_number b
 
 pub told_once : {X : Type 0} (t : Told X) (a b : Answer) (x y : X) → said a x ≡ t → said b y ≡ t → (a ≡ b) × (x ≡ y)
 told_once {X} t a b x y p q =

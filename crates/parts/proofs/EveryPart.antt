@@ -29,9 +29,9 @@ use Rattle.parts.specs.Promises.{HandsOut, HandsOutEach}
 
 pub hands_out : HandsOut
 unfolding descriptor_part element_at
-hands_out s q k is_accepted_lem l =
-    let long : length s ≡ 512 * pages_of q = (is_taken s q is_accepted_lem).long in
-    let room : 32 ≤ length (drop (base_of k) s) = omega (arith, l, long, count_room s q is_accepted_lem, length-drop (base_of k) s) in
+hands_out s q k is_accepted l =
+    let long : length s ≡ 512 * pages_of q = (is_taken s q is_accepted).long in
+    let room : 32 ≤ length (drop (base_of k) s) = omega (arith, l, long, count_room s q is_accepted, length-drop (base_of k) s) in
     let whole : descriptor_part s k ≡ take 32 (drop (base_of k) s) = rw (lt-ltb k (count_of s) l, le-ltb (length (drop (base_of k) s)) 32 room) in (
       ap length whole ∙ length-take-le 32 (drop (base_of k) s) room,
       ap (descriptor_in Little) whole ∙ part_read Little (drop (base_of k) s),
@@ -52,9 +52,9 @@ module _ (s t : List ℕ) (q : Request) (of_s : accepted s q ≡ true) (of_t : a
   every_both [] ms p q = q
   every_both (l ∷ ls) ms (h, p) q = (h, every_both ls ms p q)
 
-  handed_at_lem : (id : ElementId) → Every Handed (difference_at s t id)
+  handed_at : (id : ElementId) → Every Handed (difference_at s t id)
   unfolding difference_at
-  handed_at_lem id = by_standings (standing s id) (standing t id) (of_older id) (of_newer id)
+  handed_at id = by_standings (standing s id) (standing t id) (of_older id) (of_newer id)
     where
       by_alike : (b : Bool) (l : Line) → Handed l → Every Handed (cond b [] (l ∷ []))
       by_alike true l h = tt
@@ -71,7 +71,7 @@ module _ (s t : List ℕ) (q : Request) (of_s : accepted s q ≡ true) (of_t : a
   unfolding differences_in
   handed_in zero from = tt
   handed_in (suc n) from =
-      every_both (difference_at s t (record { 0 = from })) (differences_in s t (suc from) n) (handed_at_lem (record { 0 = from })) (handed_in n (suc from))
+      every_both (difference_at s t (record { 0 = from })) (differences_in s t (suc from) n) (handed_at (record { 0 = from })) (handed_in n (suc from))
 
 pub hands_out_each : HandsOutEach
 unfolding differences_of

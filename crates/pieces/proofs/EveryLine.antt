@@ -22,18 +22,18 @@ unfolding taken_from
 cut_anywhere g [] b at = (λ e. absurd (false≢true e), λ e. refl)
 cut_anywhere g (x ∷ a) b at = by_test (eqb x 10) (cut_anywhere (pushed g x) a b (at + 1))
   where
-    ended_lem : Taken
-    ended_lem = record { line = g; at = at + 1; whole = true }
+    ended : Taken
+    ended = record { line = g; at = at + 1; whole = true }
 
     by_test : (t : Bool)
         → ((taken_from (pushed g x) a (at + 1)).whole ≡ true → taken_from (pushed g x) (a ++ b) (at + 1) ≡ taken_from (pushed g x) a (at + 1))
         × ((taken_from (pushed g x) a (at + 1)).whole ≡ false
         → taken_from (pushed g x) (a ++ b) (at + 1) ≡ taken_from (taken_from (pushed g x) a (at + 1)).line b (taken_from (pushed g x) a (at + 1)).at)
-        → ((cond t ended_lem (taken_from (pushed g x) a (at + 1))).whole ≡ true
-        → cond t ended_lem (taken_from (pushed g x) (a ++ b) (at + 1)) ≡ cond t ended_lem (taken_from (pushed g x) a (at + 1)))
-        × ((cond t ended_lem (taken_from (pushed g x) a (at + 1))).whole ≡ false
-        → cond t ended_lem (taken_from (pushed g x) (a ++ b) (at + 1))
-        ≡ taken_from (cond t ended_lem (taken_from (pushed g x) a (at + 1))).line b (cond t ended_lem (taken_from (pushed g x) a (at + 1))).at)
+        → ((cond t ended (taken_from (pushed g x) a (at + 1))).whole ≡ true
+        → cond t ended (taken_from (pushed g x) (a ++ b) (at + 1)) ≡ cond t ended (taken_from (pushed g x) a (at + 1)))
+        × ((cond t ended (taken_from (pushed g x) a (at + 1))).whole ≡ false
+        → cond t ended (taken_from (pushed g x) (a ++ b) (at + 1))
+        ≡ taken_from (cond t ended (taken_from (pushed g x) a (at + 1))).line b (cond t ended (taken_from (pushed g x) a (at + 1))).at)
     by_test true h = (λ e. refl, λ e. absurd (false≢true (sym e)))
     by_test false h = h
 

@@ -17,7 +17,7 @@ use Rattle.offences.specs.declared.Offence.TheVariants.{Clean, At}
 use Rattle.offences.specs.declared.Offence.{Offence}
 use Rattle.paper.specs.Elements.{storage_type, removed_health, slow, graded_health}
 use Rattle.paper.specs.Told.{Told, tells}
-use Rattle.request.proofs.Requests.{accepted_lem, not-refused}
+use Rattle.request.proofs.Requests.{accepted, not-refused}
 use Rattle.request.proofs.ReservedBits.{unset_exactly}
 use Rattle.request.specs.Requests.{filter_of, report_type_of, pages_of, start_of, refused, takes_id, takes_type, in_filter, takes_health}
 use Rattle.request.specs.declared.Request.{Request}
@@ -26,7 +26,7 @@ use Rattle.reader.specs.Judgement.{Values, header, place, answer_of, read_of}
 use Rattle.reader.specs.Layout.{Rule, rule, below, Asked, InFilter, descriptor_rules, rules_at, padding_rules, page_rules}
 use Rattle.reader.specs.Page.{padding_at, page_offence}
 use Rattle.reader.specs.Promises.{TakesExactly, RefusesExactly}
-use Rattle.reader.proofs.Rules.{Decides, one_lem, join, next, all-below, clean_0, at_9, takes, refuses}
+use Rattle.reader.proofs.Rules.{Decides, one, join, next, all-below, clean_0, at_9, takes, refuses}
 
 -- ## Each test and its rule
 
@@ -49,7 +49,7 @@ implies false b f = refl
 
 pub asked_to : (q : Request) → refused q ≡ false → Asked q
 asked_to q e =
-    let (f, r, p, none) = accepted_lem q e in
+    let (f, r, p, none) = accepted q e in
     (f, r, p, (unset_exactly q).0 none)
 
 asked_from : (q : Request) → Asked q → refused q ≡ false
@@ -106,7 +106,7 @@ descriptor_decides q last base d =
     next (in_turn q last d.id.0) (rule (base + 4) _) (turn_to q last d.id.0) (turn_from q last d.id.0) _ _
     (next (earned d) (rule (base + 13) _) (earned_to d) (earned_from d) _ _
     (next (takes_type (report_type_of q) d.kind) (rule (base + 14) _) type.0 type.1 _ _
-    (one_lem (takes_health (filter_of q) d.health) (rule (base + 15) _) health.0 health.1)))
+    (one (takes_health (filter_of q) d.health) (rule (base + 15) _) health.0 health.1)))
 
 pub next_same : (a b p : ℕ) (c : Offence) (rs : List Rule) → Decides c rs → Decides (unless (eqb a b) p or_else c) (rule p (a ≡ b) ∷ rs)
 next_same a b p = next (eqb a b) (rule p (a ≡ b)) (eqb-true a b) (eq-eqb a b)
@@ -118,7 +118,7 @@ module _ (o : Order) (s : List ℕ) (q : Request) where
   padding_decides : (n from : ℕ) → Decides (first_below n (padding_at s from)) (below n (padding_rules s from))
   padding_decides n from =
       all-below n (padding_at s from) (padding_rules s from)
-      (λ i. one_lem (eqb (get_or s (from + i) 0) 0) (rule (from + i) (get_or s (from + i) 0 ≡ 0)) (eqb-true _ _) (eq-eqb _ _))
+      (λ i. one (eqb (get_or s (from + i) 0) 0) (rule (from + i) (get_or s (from + i) 0 ≡ 0)) (eqb-true _ _) (eq-eqb _ _))
 
   page_decides : Decides (page_offence o s q) (page_rules o s q)
   page_decides =
@@ -170,10 +170,10 @@ tag : Values → ℕ
 tag (header h) = 0
 tag (place p) = 1
 
-header_of_lem : (a : Offence) (g h : Header) → (answer_of a g).state ≡ header h → ((answer_of a g).number ≡ 0) × (g ≡ h)
+header_of : (a : Offence) (g h : Header) → (answer_of a g).state ≡ header h → ((answer_of a g).number ≡ 0) × (g ≡ h)
 unfolding tag given
-header_of_lem Clean g h e = (refl, ap (given g) e)
-header_of_lem (At p) g h e = absurd (let no : ◌≡◌ {A = ℕ} 1 0 = ap tag e in omega arith)
+header_of Clean g h e = (refl, ap (given g) e)
+header_of (At p) g h e = absurd (let no : ◌≡◌ {A = ℕ} 1 0 = ap tag e in omega arith)
 
 pub with_header : (o : Order) (s : List ℕ) (q : Request) (h : Header) → (read_of o s q).state ≡ header h → ((read_of o s q).number ≡ 0) × (header_in o s ≡ h)
-with_header o s q h = header_of_lem (page_offence o s q) (header_in o s) h
+with_header o s q h = header_of (page_offence o s q) (header_in o s) h

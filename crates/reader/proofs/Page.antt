@@ -15,7 +15,7 @@ use Rattle.offences.specs.First.{first_below}
 use Rattle.offences.specs.declared.Offence.TheVariants.{Clean, At}
 use Rattle.offences.specs.declared.Offence.{Offence}
 use Rattle.paper.specs.Told.{Told}
-use Rattle.request.proofs.Requests.{accepted_lem}
+use Rattle.request.proofs.Requests.{accepted}
 use Rattle.request.specs.Requests.{pages_of, refused}
 use Rattle.request.specs.declared.Request.{Request}
 use Rattle.words.specs.declared.Order.{Order}
@@ -39,7 +39,7 @@ heard_at f h p e = ap (λ (x : Offence). answer_of x h) (sym e)
 
 module _ (q : Request) (b : Bool) (is_b : b ≡ refused q) (n : b ≡ false) where
   pub some_pages : 1 ≤ pages_of q
-  some_pages = (accepted_lem q (sym is_b ∙ n)).2
+  some_pages = (accepted q (sym is_b ∙ n)).2
 
 module _ (o : Order) (s : List ℕ) (q : Request) (b : Bool) (is_b : b ≡ refused q) where
   pub read_refused : b ≡ true → heard (Refused 0) ≡ read_of o s q

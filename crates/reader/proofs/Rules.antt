@@ -19,9 +19,9 @@ Decides (At p) rs = FirstBroken rs p
 
 -- ## Put together
 
-pub one_lem : (t : Bool) (r : Rule) → (t ≡ true → r.Says) → (r.Says → t ≡ true) → Decides (unless t r.place) (r ∷ [])
-one_lem true r to from = (to refl, tt)
-one_lem false r to from = inl (λ h. false≢true (from h), refl)
+pub one : (t : Bool) (r : Rule) → (t ≡ true → r.Says) → (r.Says → t ≡ true) → Decides (unless t r.place) (r ∷ [])
+one true r to from = (to refl, tt)
+one false r to from = inl (λ h. false≢true (from h), refl)
 
 pub each_both : (rs ss : List Rule) → Each rs → Each ss → Each (rs ++ ss)
 each_both [] ss e f = f
@@ -44,7 +44,7 @@ join (At p) b rs ss v w = first_in rs ss p v
 -- a rule more in front
 pub next : (t : Bool) (r : Rule) → (t ≡ true → r.Says) → (r.Says → t ≡ true)
     → (b : Offence) (rs : List Rule) → Decides b rs → Decides (unless t r.place or_else b) (r ∷ rs)
-next t r to from b rs v = join (unless t r.place) b (r ∷ []) rs (one_lem t r to from) v
+next t r to from b rs v = join (unless t r.place) b (r ∷ []) rs (one t r to from) v
 
 pub all-below : (n : ℕ) (f : ℕ → Offence) (g : ℕ → List Rule) → ((k : ℕ) → Decides (f k) (g k)) → Decides (first_below n f) (below n g)
 all-below zero f g v = tt

@@ -24,7 +24,7 @@ pub record Listed (q : Request) (last : ℕ) (d : Descriptor) : Type 0 where
   pub some : 1 ≤ d.id.0
   pub started : start_of q ≤ d.id.0
   pub rises : last < d.id.0
-  pub earned_lem : d.restorable ≡ true → d.health ≡ 0xFF
+  pub earned : d.restorable ≡ true → d.health ≡ 0xFF
   pub typed : report_type_of q ≡ 1 → d.kind ≡ 1
   pub filtered : filter_of q ≡ 1 → InFilter d.health
 
@@ -33,13 +33,13 @@ module _ (q : Request) (last base : ℕ) (d : Descriptor) where
   listed_each l = ((l.some, l.started, l.rises), (l.earned, (l.typed, (l.filtered, tt))))
 
   pub each_listed : Each (descriptor_rules q last base d) → Listed q last d
-  each_listed ((some, started, rises), (earned_lem, (typed, (filtered, _)))) =
-      record { some = some; started = started; rises = rises; earned_lem = earned_lem; typed = typed; filtered = filtered }
+  each_listed ((some, started, rises), (earned, (typed, (filtered, _)))) =
+      record { some = some; started = started; rises = rises; earned = earned; typed = typed; filtered = filtered }
 
 -- ## A page
 
 pub record Taken (o : Order) (s : List ℕ) (q : Request) : Type 0 where
-  pub asked_lem : Asked q
+  pub asked : Asked q
   pub long : length s ≡ 512 * pages_of q
   pub returned : (header_in o s).returned ≡ returned_of (header_in o s).number (pages_of q)
   pub list : (k : ℕ) → k < (header_in o s).returned → Listed q (last_before o s k) (descriptor_at o s k)
@@ -58,9 +58,9 @@ module _ (o : Order) (s : List ℕ) (q : Request) where
   -- such a page, and no other, is taken
   pub taken : (read_of o s q).number ≡ 0 → Taken o s q
   taken is_0 =
-      let (asked_lem, (long, (returned, rest))) = (takes_exactly o s q).0 is_0 in
+      let (asked, (long, (returned, rest))) = (takes_exactly o s q).0 is_0 in
       record {
-        asked_lem = asked_lem;
+        asked = asked;
         long = long;
         returned = returned;
         list = λ k l. each_listed q (last_before o s k) (base_of k) (descriptor_at o s k) (each_at n (rules_at o s q) (each_first list_rules padding_rules_lem rest) k l);

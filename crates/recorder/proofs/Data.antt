@@ -2,7 +2,7 @@
 use mathlib.Core.Path.{refl}
 use mir.Syntax.{w8}
 use denote.Struct.Laws.{owed}
-use Rattle.datum.proofs.Datum.{Datum, struct, number_lem}
+use Rattle.datum.proofs.Datum.{Datum, struct, number}
 use Rattle.datum.proofs.Handed.{Handed}
 use Rattle.image.specs.contracts.Image as Image
 use Rattle.image.proofs.Image.TheLaws as Image'
@@ -18,7 +18,7 @@ abbrev pub count : Datum
 count = struct Count.the_type Count'.the_laws Count'.the_plain Count'.the_copy
 
 -- what a call by value hands back
-abbrev pub imaged : Handed image (number_lem w8)
+abbrev pub imaged : Handed image (number w8)
 imaged =
     record {
       both = struct Imaged.the_type Imaged'.the_laws Imaged'.the_plain Imaged'.the_copy;

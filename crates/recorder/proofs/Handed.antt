@@ -16,11 +16,11 @@ pub counted : (w : Written) (r : Count) → r ≡ count_of w → (out : List ℕ
     → tells r.answer (output r.count out) ≡ t
 counted w r is_r out t is_t = ap (λ (c : Count). tells c.answer (output c.count out)) is_r ∙ is_t
 
-held_lem : (c : Converted) (buf : List ℕ) → buffer_of (heard c buf).state ≡ buf
-held_lem (Done n) buf = refl
-held_lem SmallBuffer buf = refl
-held_lem (Refused p) buf = refl
+held : (c : Converted) (buf : List ℕ) → buffer_of (heard c buf).state ≡ buf
+held (Done n) buf = refl
+held SmallBuffer buf = refl
+held (Refused p) buf = refl
 
-pub turned_lem : (c : Converted) (r : Turned) → ((buf : List ℕ) → r ≡ turned_of (heard c buf)) → (out : List ℕ) (t : Told Outcome) → heard c out ≡ t
+pub turned : (c : Converted) (r : Turned) → ((buf : List ℕ) → r ≡ turned_of (heard c buf)) → (out : List ℕ) (t : Told Outcome) → heard c out ≡ t
     → (r ≡ turned_of t) × (out ≡ buffer_of t.state)
-turned_lem c r is_r out t is_t = (is_r out ∙ ap turned_of is_t, sym (held_lem c out) ∙ ap (λ (u : Told Outcome). buffer_of u.state) is_t)
+turned c r is_r out t is_t = (is_r out ∙ ap turned_of is_t, sym (held c out) ∙ ap (λ (u : Told Outcome). buffer_of u.state) is_t)

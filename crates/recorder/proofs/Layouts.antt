@@ -8,7 +8,7 @@ use mir.Syntax.{Width, w8, w16, w32, w64, Ty, Tys, ty_int, ty_bool, ty_float, ty
 use mir.Val.{Val, vint, vstruct, of_list}
 use prog.Memory.{align, size, up}
 use denote.Array.{array_val}
-use Rattle.calls.proofs.Data.{element_lem}
+use Rattle.calls.proofs.Data.{element}
 use Rattle.datum.proofs.Datum.{Datum, Denot, struct, ty}
 use Rattle.image.specs.declared.Image.{Image}
 use Rattle.offer.specs.declared.Element.{Element}
@@ -48,11 +48,11 @@ Laid τ n places = (size τ ≡ n) × (sizes (fields τ) ≡ n) × (places_from 
 abbrev single : Width → ℕ → Val
 single w n = vstruct (of_list (vint w n ∷ []))
 
-pub element-laid : Laid (ty element_lem) 16 (0 ∷ 4 ∷ 5 ∷ 6 ∷ 7 ∷ 8 ∷ [])
+pub element-laid : Laid (ty element) 16 (0 ∷ 4 ∷ 5 ∷ 6 ∷ 7 ∷ 8 ∷ [])
 element-laid = (refl, refl, refl)
 
 pub element-named : (e : Element)
-    → element_lem.val e ≡ vstruct (of_list (single w32 e.id.0 ∷ vint w8 e.kind ∷ vint w8 e.health ∷ vint w8 e.unreported ∷ vint w8 e.spare ∷ vint w64 e.blocks ∷ []))
+    → element.val e ≡ vstruct (of_list (single w32 e.id.0 ∷ vint w8 e.kind ∷ vint w8 e.health ∷ vint w8 e.unreported ∷ vint w8 e.spare ∷ vint w64 e.blocks ∷ []))
 element-named e = refl
 
 pub part_laid : Laid (ty part) 16 (0 ∷ 4 ∷ 5 ∷ 6 ∷ 8 ∷ [])

@@ -81,14 +81,14 @@ module _ (s : Said) (bytes d : List ℕ) (at : ℕ) where
           by_test false = refl
 
     module _ (e : n ≡ 0) where
-      shown_lem : shown_as (kind_said s) bytes ≡ bytes_text (kind_said s) (number_said s) bytes
-      shown_lem = sym (rw (← is_n, eq-eqb n 0 e))
+      shown : shown_as (kind_said s) bytes ≡ bytes_text (kind_said s) (number_said s) bytes
+      shown = sym (rw (← is_n, eq-eqb n 0 e))
 
       pub done_bytes : (x : List ℕ) → x ≡ stored_in 134000 d at (shown_as (kind_said s) bytes) → x ≡ stored_in 134000 d at (bytes_text (kind_said s) (number_said s) bytes)
-      done_bytes x is_x = is_x ∙ ap (stored_in 134000 d at) shown_lem
+      done_bytes x is_x = is_x ∙ ap (stored_in 134000 d at) shown
 
       pub done_end : (r : ℕ) → r ≡ ended_in 134000 d at (shown_as (kind_said s) bytes) → r ≡ ended_in 134000 d at (bytes_text (kind_said s) (number_said s) bytes)
-      done_end r is_r = is_r ∙ ap (ended_in 134000 d at) shown_lem
+      done_end r is_r = is_r ∙ ap (ended_in 134000 d at) shown
 
 length-shown : (k : Kind) (bytes : List ℕ) → length (shown_as k bytes) ≤ 134000
 length-shown scsi bytes = enough_for_data bytes

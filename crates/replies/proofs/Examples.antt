@@ -12,7 +12,7 @@ unfolding answer_line
 answers = (refl, refl, refl, refl, refl)
 
 -- 32 bytes written of 64 that were lent
-pub written_lem : lent_text 0 64 32 ((1 ∷ replicate 31 0) ++ replicate 32 0xA5)
+pub written : lent_text 0 64 32 ((1 ∷ replicate 31 0) ++ replicate 32 0xA5)
     ≡ ascii "0 0/00/00\n0100000000000000000000000000000000000000000000000000000000000000\n"
 unfolding answer_line lent_text page_text rows_below rows_shown touched_text
-written_lem = refl
+written = refl

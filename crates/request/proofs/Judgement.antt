@@ -14,7 +14,7 @@ use Rattle.paper.specs.declared.Security.{Security}
 use Rattle.request.specs.Promises.{OneJudgement}
 use Rattle.request.specs.Requests.{pages_of, refused, status_number}
 use Rattle.request.specs.declared.Request.{Request}
-use Rattle.request.proofs.Requests.{accepted_lem}
+use Rattle.request.proofs.Requests.{accepted}
 
 module _ (s : Security) (q : Request) (room : ℕ) (a : Bool) (is_a : a ≡ aborts Status s) where
   pub judge-locked : a ≡ true → 1 ≡ status_number s q room
@@ -33,21 +33,21 @@ module _ (s : Security) (q : Request) (room : ℕ) (a : Bool) (is_a : a ≡ abor
 -- ## For callers
 
 -- a request that is answered 0 is for some pages, and they fit
-answered_lem : (s : Security) (q : Request) (room : ℕ) → status_number s q room ≡ 0 → (1 ≤ pages_of q) × (512 * pages_of q ≤ room)
-answered_lem s q room e = go (aborts Status s) (refused q) (ltb room (512 * pages_of q)) refl refl e
+answered : (s : Security) (q : Request) (room : ℕ) → status_number s q room ≡ 0 → (1 ≤ pages_of q) × (512 * pages_of q ≤ room)
+answered s q room e = go (aborts Status s) (refused q) (ltb room (512 * pages_of q)) refl refl e
   where
     go : (a b c : Bool) → refused q ≡ b → ltb room (512 * pages_of q) ≡ c → ◌≡◌ {A = ℕ} (cond a 1 (cond b 4 (cond c 7 0))) 0 → (1 ≤ pages_of q) × (512 * pages_of q ≤ room)
     go true b c p r z = absurd (omega arith)
     go false true c p r z = absurd (omega arith)
     go false false true p r z = absurd (omega arith)
-    go false false false p r z = ((accepted_lem q p).2, ltb-false room (512 * pages_of q) r)
+    go false false false p r z = ((accepted q p).2, ltb-false room (512 * pages_of q) r)
 
 module _ (s : Security) (q : Request) (room n : ℕ) (a : Answer) (is_a : number_of a ≡ status_number s q room) (is_n : n ≡ number_of a) (z : n ≡ 0) where
   pub some_pages : 1 ≤ pages_of q
-  some_pages = (answered_lem s q room (sym is_a ∙ sym is_n ∙ z)).0
+  some_pages = (answered s q room (sym is_a ∙ sym is_n ∙ z)).0
 
   pub pages_fit : 512 * pages_of q ≤ room
-  pages_fit = (answered_lem s q room (sym is_a ∙ sym is_n ∙ z)).1
+  pages_fit = (answered s q room (sym is_a ∙ sym is_n ∙ z)).1
 
 pub one_judgement : OneJudgement
 one_judgement s q room a b x y = number_injective a b (x ∙ sym y)

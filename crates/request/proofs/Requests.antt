@@ -69,9 +69,9 @@ unfolding refused
 refused-same p q same = rw (same.filter, same.report, same.pages, same.reserved)
 
 -- a request that is not due 4 asks for a page at least, by a filter and a report type that 000 names, and sets no reserved bit
-pub accepted_lem : (q : Request) → refused q ≡ false → (filter_of q ≤ 1) × (report_type_of q ≤ 1) × (1 ≤ pages_of q) × (sets_reserved q ≡ false)
+pub accepted : (q : Request) → refused q ≡ false → (filter_of q ≤ 1) × (report_type_of q ≤ 1) × (1 ≤ pages_of q) × (sets_reserved q ≡ false)
 unfolding refused
-accepted_lem q e =
+accepted q e =
     let one = or_false_both (leb 2 (filter_of q)) _ e in
     let two = or_false_both (ltb 1 (report_type_of q)) _ one.1 in
     let three = or_false_both (eqb (pages_of q) 0) (sets_reserved q) two.1 in

@@ -10,7 +10,7 @@ use borrow.Author.Tests.{eq-eqb, ne_eqb, eqb-true, not-false}
 use Rattle.request.specs.Promises.{UnsetExactly, HighBitsAlike}
 use Rattle.request.specs.Requests.{pages_of, sets_reserved, refused}
 use Rattle.request.specs.declared.Request.{Request}
-use Rattle.request.proofs.Requests.{or_false_both, accepted_lem, not-refused}
+use Rattle.request.proofs.Requests.{or_false_both, accepted, not-refused}
 
 -- LBA 47:32 are the upper 16 of the 48 bits that count
 high_low : (n : ℕ) → n / 2 ^ 32 % 2 ^ 16 ≡ n % 2 ^ 48 / 2 ^ 32
@@ -74,6 +74,6 @@ high_bits_alike q =
 -- a request is not due 4 with the FEATURE of another that is not, a page at least and a start that is an identifier
 pub asked_again : (q p : Request) → p.feature ≡ q.feature → p.lba.0 ≤ 0xFFFF_FFFF → 1 ≤ pages_of p → refused q ≡ false → refused p ≡ false
 asked_again q p same low some e =
-    let (f, r, _, none) = accepted_lem q e in
+    let (f, r, _, none) = accepted q e in
     let (a, b, _) = none_set q none in
     not-refused p (rw same f) (rw same r) some (unset p (rw same a) (rw same b) (omega (arith, low)))

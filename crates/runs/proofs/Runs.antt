@@ -31,18 +31,18 @@ module _ (b : Bench) (line : Gathered) (l : Line) (is_l : l ≡ meaning_of line)
 
   module _ (a : Acted) (p q part : List ℕ) (is_a : acted a ≡ acted_on b l page lent) (is_p : p ≡ page_on b l page lent) (is_q : q ≡ lent_on b l page lent)
       (is_part : part ≡ take a.bench.kept p) where
-    act_lem : acted a ≡ acted_on b (meaning_of line) page lent
-    act_lem = is_a ∙ ap (λ (m : Line). acted_on b m page lent) is_l
+    act : acted a ≡ acted_on b (meaning_of line) page lent
+    act = is_a ∙ ap (λ (m : Line). acted_on b m page lent) is_l
 
     text : text_of (heard a.reply) a.bench.device part q ≡ text_said b (meaning_of line) page lent
     unfolding text_said
     text =
         ap (λ (s : List ℕ). text_of (heard a.reply) a.bench.device s q) is_part
-        ∙ (λ i. text_of (act_lem i).saying (act_lem i).bench.device (take (act_lem i).bench.kept (obeyed_page p is_p i)) (obeyed-lent q is_q i))
+        ∙ (λ i. text_of (act i).saying (act i).bench.device (take (act i).bench.kept (obeyed_page p is_p i)) (obeyed-lent q is_q i))
 
     pub obeyed_bench : (n : ℕ) → n ≡ ended_in 140000 out 0 (text_of (heard a.reply) a.bench.device part q)
         → record { bench = a.bench; said = n } ≡ obeyed b line page lent out
-    obeyed_bench n is_n = λ i. record { bench = (act_lem i).bench; said = (is_n ∙ ap (ended_in 140000 out 0) text) i }
+    obeyed_bench n is_n = λ i. record { bench = (act i).bench; said = (is_n ∙ ap (ended_in 140000 out 0) text) i }
 
     pub obeyed_out : (x : List ℕ) → x ≡ stored_in 140000 out 0 (text_of (heard a.reply) a.bench.device part q) → x ≡ said_in b line page lent out
     obeyed_out x is_x = is_x ∙ ap (stored_in 140000 out 0) text
@@ -55,9 +55,9 @@ module _ (run : Run) (t : Taken) (page lent out : List ℕ) where
     unfolding went_on
     kept_went = sym (rw e)
 
-    pub kept_page_lem : page ≡ page_gone run t page lent
+    pub kept_page : page ≡ page_gone run t page lent
     unfolding page_gone
-    kept_page_lem = sym (rw e)
+    kept_page = sym (rw e)
 
     pub kept_lent : lent ≡ lent_gone run t page lent
     unfolding lent_gone

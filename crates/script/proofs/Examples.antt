@@ -45,6 +45,6 @@ Examples =
     × (line_of (ascii "step" ++ replicate 196 32) ≡ Bare Step)
     × (line_of (ascii "step" ++ replicate 197 32) ≡ NotACall)
 
-pub examples_lem : Examples
+pub examples : Examples
 unfolding state_of asked_at element_of make_of command_of grade_of length_of next_of queried_in scsi_of scsiread_of toscsi_of toata_of dock_call page_call reset_call event_call device_call line_of field_of field_at word_at same named
-examples_lem = (refl, refl, refl, refl, refl, refl, refl, refl, refl, refl, refl, refl, refl, refl, refl, refl, refl, refl, refl, refl)
+examples = (refl, refl, refl, refl, refl, refl, refl, refl, refl, refl, refl, refl, refl, refl, refl, refl, refl, refl, refl, refl)

@@ -18,7 +18,7 @@ use Rattle.query.proofs.Queries.{not_due, due_not}
 use Rattle.query.specs.Queries.{due_four, asked}
 use Rattle.query.specs.declared.Query.{Query}
 use Rattle.reader.proofs.LayoutTheorem.{next_same, list_decides}
-use Rattle.reader.proofs.Rules.{Decides, one_lem, join, next, clean_0, at_9, takes, refuses}
+use Rattle.reader.proofs.Rules.{Decides, one, join, next, clean_0, at_9, takes, refuses}
 use Rattle.reader.specs.Layout.{rule}
 use Rattle.words.specs.declared.Order.{Order}
 use Rattle.scsi.specs.Data.{whole_of, torn_of, data_offence}
@@ -47,7 +47,7 @@ module _ (o : Order) (s : List ℕ) (q : Query) where
       (next (not (due_four q)) (rule 0 _) (asked_to q) (asked_from q) _ _
       (next_same (header_in o s).returned n 4 _ _
       (join list past _ _ (list_decides o s (asked q) whole)
-      (one_lem (leb (length s) (base_of n)) (rule (base_of n) (length s ≤ base_of n)) (leb-true _ _) (le-leb _ _)))))
+      (one (leb (length s) (base_of n)) (rule (base_of n) (length s ≤ base_of n)) (leb-true _ _) (le-leb _ _)))))
 
   abbrev answered : Offence → Told Values
   answered a = answer_of a (header_in o s) whole (torn_of n (length s))
@@ -65,23 +65,23 @@ refuses_exactly o s q = refuses (answered o s q) place refl (λ p. refl) (data_o
 
 -- ## What was heard tells the offence
 
-reading_in_lem : Header → Values → Header
-reading_in_lem g (reading h whole torn) = h
-reading_in_lem g (place p) = g
+reading_in : Header → Values → Header
+reading_in g (reading h whole torn) = h
+reading_in g (place p) = g
 
-whole_in_lem : ℕ → Values → ℕ
-whole_in_lem n (reading h whole torn) = whole
-whole_in_lem n (place p) = n
+whole_in : ℕ → Values → ℕ
+whole_in n (reading h whole torn) = whole
+whole_in n (place p) = n
 
 module _ (o : Order) (s : List ℕ) (q : Query) where
   -- a reading goes with 0, and is the data's
   pub heard_clean : (h : Header) (w : ℕ) (t : Bool) → tells 0 (reading h w t) ≡ read_of o s q
       → (data_offence o s q ≡ Clean) × (h ≡ header_in o s) × (w ≡ whole_of (header_in o s).number (length s))
-  unfolding reading_in_lem whole_in_lem
+  unfolding reading_in whole_in
   heard_clean h w t e =
       let clean : data_offence o s q ≡ Clean = clean_0 (answered o s q) place refl (λ p. refl) (data_offence o s q) (ap (λ (u : Told Values). u.number) (sym e)) in
       let same : tells 0 (reading h w t) ≡ answered o s q Clean = e ∙ ap (answered o s q) clean in
-      (clean, ap (λ (u : Told Values). reading_in_lem h u.state) same, ap (λ (u : Told Values). whole_in_lem w u.state) same)
+      (clean, ap (λ (u : Told Values). reading_in h u.state) same, ap (λ (u : Told Values). whole_in w u.state) same)
 
   pub heard_at : (p : ℕ) → tells 9 (place p) ≡ read_of o s q → data_offence o s q ≡ At p
   unfolding placed

@@ -133,8 +133,8 @@ module _ (ps : List Part) (hs : List ℕ) (q : Request) (n : ℕ) (b : List ℕ)
 -- and at its end what is asked for is the list
 module _ (d : Device) (q : Request) (n : ℕ) (is_n : n ≡ min d.table.count 128) (b : List ℕ) (at i : ℕ) (x : List ℕ)
     (walked : Walked d.table.parts d.cells.healths q n b at i x) where
-  listed_lem : wanted d.table.parts d.cells.healths q n ≡ list_of d q
-  listed_lem = all_listed d q n walked.2 is_n
+  listed : wanted d.table.parts d.cells.healths q n ≡ list_of d q
+  listed = all_listed d q n walked.2 is_n
 
   pub asked_cut : i < n → (t : Bool) → t ≡ asks q (shown_of (get_or d.table.parts i blank_part) (get_or d.cells.healths i 0)) → t ≡ true → length x < at + 32
       → (s : Descriptor) → s ≡ shown_of (get_or d.table.parts i blank_part) (get_or d.cells.healths i 0) → (r : Row) → row_bytes r ≡ descriptor_bytes Big s
@@ -142,12 +142,12 @@ module _ (d : Device) (q : Request) (n : ℕ) (is_n : n ≡ min d.table.count 12
   asked_cut low t is_t taken short s is_s r is_r y is_y =
       walk_cut d.table.parts d.cells.healths q n b at i x walked low t is_t taken short y
       (some_put x y r at is_y _ (is_r ∙ ap (descriptor_bytes Big) is_s))
-      ∙ ap (λ (l : List Descriptor). stored b 32 (take (length b - 32) (flat (descriptor_bytes Big) l))) listed_lem
+      ∙ ap (λ (l : List Descriptor). stored b 32 (take (length b - 32) (flat (descriptor_bytes Big) l))) listed
 
   pub asked-all : n ≤ i → length b ≤ 32 + 32 * length (list_of d q) → x ≡ stored b 32 (take (length b - 32) (flat (descriptor_bytes Big) (list_of d q)))
   asked-all high most =
-      walk-all d.table.parts d.cells.healths q n b at i x walked high (rw listed_lem most)
-      ∙ ap (λ (l : List Descriptor). stored b 32 (take (length b - 32) (flat (descriptor_bytes Big) l))) listed_lem
+      walk-all d.table.parts d.cells.healths q n b at i x walked high (rw listed most)
+      ∙ ap (λ (l : List Descriptor). stored b 32 (take (length b - 32) (flat (descriptor_bytes Big) l))) listed
 
 -- behind the header, which may itself be cut
 pub still_most : (n m there here : ℕ) → n ≡ m → there ≤ 32 + 32 * n → here ≡ there → here ≤ 32 + 32 * m

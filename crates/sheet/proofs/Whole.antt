@@ -33,16 +33,16 @@ module _ (text out : List ℕ) (t : Bool) (is_t : t ≡ leb (length text) (lengt
     is_size : size ≡ length text
     is_size = omega (arith, stands.1)
 
-    filled_lem : x ≡ text ++ drop (length text) out
-    filled_lem = stands.0 ∙ stored-front out text room
+    filled : x ≡ text ++ drop (length text) out
+    filled = stands.0 ∙ stored-front out text room
 
     pub all-written : said Done (output size x) ≡ written text out
-    all-written = written_done text out size is_size (omega (arith, room, is_size)) x filled_lem
+    all-written = written_done text out size is_size (omega (arith, room, is_size)) x filled
 
     -- how many bytes were written: so many the buffer has
     pub all_counts : IsPrefixLen size x
     all_counts =
-        let enough : size ≤ length x = rw filled_lem (simp length-append (omega (arith, is_size))) in
+        let enough : size ≤ length x = rw filled (simp length-append (omega (arith, is_size))) in
         (enough, sym (length-take-le size x enough))
 
 -- a text of one line, which is not empty: its end tells whether it was stored

@@ -77,10 +77,10 @@ module _ {A : Type 0} where
       map-append (λ (i : ℕ). get_or l i z) (up_to n) (n ∷ []) ∙ rw (map_places l z n (omega arith)) (sym (take-suc l n z (omega arith)))
 
   pub map-up_to : (f g : ℕ → A) (n : ℕ) → ((i : ℕ) → i < n → f i ≡ g i) → map f (up_to n) ≡ map g (up_to n)
-  map-up_to f g zero same_lem = refl
-  map-up_to f g (suc n) same_lem =
+  map-up_to f g zero same = refl
+  map-up_to f g (suc n) same =
       map-append f (up_to n) (n ∷ [])
-      ∙ (λ i. map-up_to f g n (λ k h. same_lem k (omega arith)) i ++ (same_lem n (omega arith) i ∷ []))
+      ∙ (λ i. map-up_to f g n (λ k h. same k (omega arith)) i ++ (same n (omega arith) i ∷ []))
       ∙ sym (map-append g (up_to n) (n ∷ []))
 
 -- ## Every element
@@ -93,11 +93,11 @@ module _ {A : Type 0} (P : A → Type 0) where
 
   pub every_keep : (f : A → Bool) (l : List A) → Every P l → Every P (keep f l)
   every_keep f [] e = tt
-  every_keep f (x ∷ xs) (p, e) = one_lem (f x) (every_keep f xs e)
+  every_keep f (x ∷ xs) (p, e) = one (f x) (every_keep f xs e)
     where
-      one_lem : (b : Bool) → Every P (keep f xs) → Every P (cond b (x ∷ keep f xs) (keep f xs))
-      one_lem true r = (p, r)
-      one_lem false r = r
+      one : (b : Bool) → Every P (keep f xs) → Every P (cond b (x ∷ keep f xs) (keep f xs))
+      one true r = (p, r)
+      one false r = r
 
   pub every_at : (l : List A) (k : ℕ) (z : A) → k < length l → Every P l → P (get_or l k z)
   every_at [] k z h e = absurd (not-suc-le-zero h)
@@ -129,11 +129,11 @@ module _ {A : Type 0} (P : A → Type 0) where
 
 pub kept_all : {A : Type 0} (f : A → Bool) (l : List A) → Every (λ (x : A). f x ≡ true) (keep f l)
 kept_all f [] = tt
-kept_all {A} f (x ∷ xs) = one_lem (f x) refl (kept_all f xs)
+kept_all {A} f (x ∷ xs) = one (f x) refl (kept_all f xs)
   where
-    one_lem : (b : Bool) → f x ≡ b → Every (λ (y : A). f y ≡ true) (keep f xs) → Every (λ (y : A). f y ≡ true) (cond b (x ∷ keep f xs) (keep f xs))
-    one_lem true e r = (e, r)
-    one_lem false e r = r
+    one : (b : Bool) → f x ≡ b → Every (λ (y : A). f y ≡ true) (keep f xs) → Every (λ (y : A). f y ≡ true) (cond b (x ∷ keep f xs) (keep f xs))
+    one true e r = (e, r)
+    one false e r = r
 
 -- ## Flattened
 
@@ -152,13 +152,13 @@ module _ {A B : Type 0} (f : A → List B) where
 
   module _ (w : ℕ) (each : (x : A) → length (f x) ≡ w) where
     -- what follows place k
-    pub after_lem : (l : List A) (k : ℕ) (r : List B) → List B
-    after_lem [] k r = r
-    after_lem (x ∷ xs) zero r = flat f xs ++ r
-    after_lem (x ∷ xs) (suc k) r = after_lem xs k r
+    pub after : (l : List A) (k : ℕ) (r : List B) → List B
+    after [] k r = r
+    after (x ∷ xs) zero r = flat f xs ++ r
+    after (x ∷ xs) (suc k) r = after xs k r
 
-    pub flat_at : (l : List A) (k : ℕ) (z : A) (r : List B) → k < length l → drop (w * k) (flat f l ++ r) ≡ f (get_or l k z) ++ after_lem l k r
-    unfolding after_lem
+    pub flat_at : (l : List A) (k : ℕ) (z : A) (r : List B) → k < length l → drop (w * k) (flat f l ++ r) ≡ f (get_or l k z) ++ after l k r
+    unfolding after
     flat_at [] k z r h = absurd (not-suc-le-zero h)
     flat_at (x ∷ xs) zero z r h = rw mul-zero (append_assoc (f x) (flat f xs) r)
     flat_at (x ∷ xs) (suc k) z r h =
@@ -275,8 +275,8 @@ pub cut_more : (d : List ℕ) (at : ℕ) (a b x y : List ℕ) → x ≡ stored d
     → y ≡ stored x (at + length a) (take (length x - (at + length a)) b) → y ≡ stored d at (take (length d - at) (a ++ b))
 cut_more d at a b x y is_x is_y = by_test (leb (at + length a) (length d)) refl
   where
-    same_lem : length x ≡ length d
-    same_lem = ap length is_x ∙ length-stored d (take (length d - at) a) at
+    same : length x ≡ length d
+    same = ap length is_x ∙ length-stored d (take (length d - at) a) at
 
     by_test : (t : Bool) → leb (at + length a) (length d) ≡ t → y ≡ stored d at (take (length d - at) (a ++ b))
     by_test true e =
@@ -286,10 +286,10 @@ cut_more d at a b x y is_x is_y = by_test (leb (at + length a) (length d)) refl
         let more : length d - at ≡ length a + r = omega arith in
         let cut : take (length d - at) (a ++ b) ≡ a ++ take r b = ap (λ (n : ℕ). take n (a ++ b)) more ∙ take-append-add a b r in
         let fits : at + length (a ++ take r b) ≤ length d = rw (length-append a (take r b), length-take r b) (omega arith) in
-        is_y ∙ (λ i. stored (whole i) (at + length a) (take (same_lem i - (at + length a)) b)) ∙ stored_more d at a (take r b) fits ∙ ap (stored d at) (sym cut)
+        is_y ∙ (λ i. stored (whole i) (at + length a) (take (same i - (at + length a)) b)) ∙ stored_more d at a (take r b) fits ∙ ap (stored d at) (sym cut)
     by_test false e =
         let past : length d < at + length a = leb-false _ _ e in
-        let none : length x - (at + length a) ≡ 0 = omega (arith, same_lem) in
+        let none : length x - (at + length a) ≡ 0 = omega (arith, same) in
         is_y ∙ rw none (stored_none x (at + length a)) ∙ is_x ∙ ap (stored d at) (sym (take-append-le (length d - at) a b (omega arith)))
 
 -- ## Stored at the front of a part

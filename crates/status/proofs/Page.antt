@@ -114,11 +114,11 @@ module _ (d : Device) (q : Request) (places : List ℕ) (number : ℕ) (lists : 
   number-listed : number ≡ length (list_of d q)
   number-listed = sym (length_there d.table.parts d.cells.healths places number (omega (arith, lists))) ∙ ap length lists.0
 
-  pub filled_lem : 1 ≤ pages_of q → (r : ℕ) → r ≡ returned_of number (pages_of q) → (h : Header) → h ≡ headed number r d.cells.note d.table.limit (removed_number d)
+  pub filled : 1 ≤ pages_of q → (r : ℕ) → r ≡ returned_of number (pages_of q) → (h : Header) → h ≡ headed number r d.cells.note d.table.limit (removed_number d)
       → (b b₁ b₂ b₃ : List ℕ) → 512 * pages_of q ≤ length b → b₁ ≡ stored b 0 (header_bytes Little h)
       → b₂ ≡ stored b₁ 32 (flat (descriptor_bytes Little) (shown_there d.table.parts d.cells.healths places r))
       → b₃ ≡ stored b₂ (32 + 32 * r) (replicate (512 * pages_of q - (32 + 32 * r)) 0) → b₃ ≡ page_of d q ++ drop (512 * pages_of q) b
-  filled_lem some r is_r h is_h =
+  filled some r is_r h is_h =
       let right : r ≡ returned_of (length (list_of d q)) (pages_of q) = is_r ∙ ap (λ (m : ℕ). returned_of m (pages_of q)) number-listed in
       let headed_so : h ≡ header_of d q = is_h ∙ (λ j. headed (number-listed j) (right j) d.cells.note d.table.limit (removed_number d)) in
       let first : shown_there d.table.parts d.cells.healths places r ≡ take r (list_of d q) =

@@ -51,8 +51,8 @@ module _ (s : Seen) where
     pub wound_old : s.hit ≡ true → (s.health ≡ 0xFF → ⊥) → w.old ≡ wound_to s w
     wound_old e h = sym (rw (e, ne_eqb _ _ h))
 
-    pub at_position_lem : (x : Store) (p q : Position) → p ≡ q → x ≡ store_from s w q → x ≡ store_from s w p
-    at_position_lem x p q e z = z ∙ ap (store_from s w) (sym e)
+    pub at_position : (x : Store) (p q : Position) → p ≡ q → x ≡ store_from s w q → x ≡ store_from s w p
+    at_position x p q e z = z ∙ ap (store_from s w) (sym e)
 
 module _ (t : Table) (c : Cells) (p : Position) (g : Ruled) where
   pub step_idle : c.note ≡ Empty → g ≡ quiet 10 p → g ≡ rule_step t c p c.note
@@ -68,22 +68,22 @@ stop_at p idle g m n e z = z ∙ ap (rule_stop p idle) (sym e)
 -- ## Grade
 
 module _ (t : Table) (c : Cells) (p : Position) (id : ElementId) (h : ℕ) (g : Ruled) (s : Seen) (is_s : s ≡ see_in t c id) where
-  graded_by_lem : g ≡ grade_seen p h s → g ≡ rule_grade t c p id h
-  graded_by_lem z = z ∙ ap (grade_seen p h) is_s
+  graded_by : g ≡ grade_seen p h s → g ≡ rule_grade t c p id h
+  graded_by z = z ∙ ap (grade_seen p h) is_s
 
   pub grade_unknown : s.hit ≡ false → g ≡ quiet 11 p → g ≡ rule_grade t c p id h
   unfolding grade_seen
-  grade_unknown n z = graded_by_lem (rw n z)
+  grade_unknown n z = graded_by (rw n z)
 
   module _ (hit : s.hit ≡ true) where
     pub grade_gone : s.health ≡ 0xFF → g ≡ quiet 11 p → g ≡ rule_grade t c p id h
     unfolding grade_seen
-    grade_gone r z = graded_by_lem (rw (hit, eq-eqb _ _ r) z)
+    grade_gone r z = graded_by (rw (hit, eq-eqb _ _ r) z)
 
     pub grade_high : (s.health ≡ 0xFF → ⊥) → 0xCF < h → g ≡ quiet 11 p → g ≡ rule_grade t c p id h
     unfolding grade_seen
-    grade_high r m z = graded_by_lem (rw (hit, ne_eqb _ _ r, lt-leb _ _ m) z)
+    grade_high r m z = graded_by (rw (hit, ne_eqb _ _ r, lt-leb _ _ m) z)
 
-    pub graded_lem : (s.health ≡ 0xFF → ⊥) → h ≤ 0xCF → g ≡ goes (Graded s.place h) p → g ≡ rule_grade t c p id h
+    pub graded : (s.health ≡ 0xFF → ⊥) → h ≤ 0xCF → g ≡ goes (Graded s.place h) p → g ≡ rule_grade t c p id h
     unfolding grade_seen
-    graded_lem r m z = graded_by_lem (rw (hit, ne_eqb _ _ r, le-leb _ _ m) z)
+    graded r m z = graded_by (rw (hit, ne_eqb _ _ r, le-leb _ _ m) z)

@@ -40,8 +40,8 @@ pub ascending-keep : {A : Type 0} (key : A → ℕ) (f : A → Bool) (low : ℕ)
 ascending-keep key f low [] e = refl
 ascending-keep key f low (x ∷ xs) e =
     let b = both (ltb low (key x)) (ascending (key x) (map key xs)) e in
-    one_lem (f x) b.0 (ascending-keep key f (key x) xs b.1)
+    one (f x) b.0 (ascending-keep key f (key x) xs b.1)
   where
-    one_lem : (t : Bool) → ltb low (key x) ≡ true → ascending (key x) (map key (keep f xs)) ≡ true → ascending low (map key (cond t (x ∷ keep f xs) (keep f xs))) ≡ true
-    one_lem true up r = rw up r
-    one_lem false up r = let less = ltb-true low (key x) up in ascending_from low (key x) (map key (keep f xs)) (omega (arith, less)) r
+    one : (t : Bool) → ltb low (key x) ≡ true → ascending (key x) (map key (keep f xs)) ≡ true → ascending low (map key (cond t (x ∷ keep f xs) (keep f xs))) ≡ true
+    one true up r = rw up r
+    one false up r = let less = ltb-true low (key x) up in ascending_from low (key x) (map key (keep f xs)) (omega (arith, less)) r

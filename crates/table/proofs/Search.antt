@@ -76,18 +76,18 @@ module _ {A : Type 0} (key : A → ℕ) (l : List A) (z : A) (count n i id : ℕ
         seek_at = sym (get_or-take count l i z (omega arith)) ∙ ap (λ (k : ℕ). get_or (take count l) k z) seek_place
 
     module _ (done : n ≤ i) where
-      nothing_lem : drop i (take n l) ≡ []
-      nothing_lem = drop_of_length-le (take n l) {i = i} (simp length-take (omega arith))
+      nothing : drop i (take n l) ≡ []
+      nothing = drop_of_length-le (take n l) {i = i} (simp length-take (omega arith))
 
       pub end_place : i ≡ place id (map key (take count l))
       end_place =
-          let none : place id (rest i) ≡ 0 = rw nothing_lem in
+          let none : place id (rest i) ≡ 0 = rw nothing in
           let at_i : i ≡ place id ids = omega arith in
           at_i ∙ ap (place id) all_ids
 
       pub end_hits : false ≡ hits id (map key (take count l))
       end_hits =
-          let none : hits id (rest i) ≡ false = rw nothing_lem in
+          let none : hits id (rest i) ≡ false = rw nothing in
           sym none ∙ so_hits ∙ ap (hits id) all_ids
 
       pub end_at : z ≡ get_or (take count l) (place id (map key (take count l))) z

@@ -100,8 +100,8 @@ module _ (m n : ℕ) (some : 0 < m) where
   rest_ones = ap (λ (x : ℕ). x % 10) whole ∙ add-mul-mod_self_left rest 10 (m * (n / (m * 10)))
 
 module _ (k n : ℕ) where
-  first_part_lem : n / 10 / 10 ^ k ≡ n / 10 ^ suc k
-  first_part_lem = div-div-eq-div-mul n 10 (10 ^ k) ∙ rw (pow-suc 10 k, mul_comm 10 (10 ^ k))
+  first_part : n / 10 / 10 ^ k ≡ n / 10 ^ suc k
+  first_part = div-div-eq-div-mul n 10 (10 ^ k) ∙ rw (pow-suc 10 k, mul_comm 10 (10 ^ k))
 
   last_part : digits 10 k (n / 10 % 10 ^ k) ++ (glyph (n % 10) ∷ []) ≡ digits 10 (suc k) (n % 10 ^ suc k)
   last_part =
@@ -118,7 +118,7 @@ digits_parts j (suc k) n =
     rw (add-suc j k)
     (ap (λ (l : List ℕ). l ++ (glyph (n % 10) ∷ [])) (digits_parts j k (n / 10))
     ∙ one_more k n (digits 10 j (n / 10 / 10 ^ k))
-    ∙ rw (first_part_lem k n))
+    ∙ rw (first_part k n))
 
 decimal_next : (n : ℕ) → 10 ≤ n → n < 10 ^ 20 → decimal_of n ≡ decimal_of (n / 10) ++ (glyph (n % 10) ∷ [])
 decimal_next n h small =
@@ -133,4 +133,4 @@ decimal_parts (suc k) n h small =
     decimal_next n (omega arith) small
     ∙ ap (λ (l : List ℕ). l ++ (glyph (n % 10) ∷ [])) (decimal_parts k (n / 10) ((le-div_iff_mul-le (lit< tt)).1 room) (omega arith))
     ∙ one_more k n (decimal_of (n / 10 / 10 ^ k))
-    ∙ rw (first_part_lem k n)
+    ∙ rw (first_part k n)

@@ -45,9 +45,9 @@ places_enough (suc k) n h = by_test (ltb n 10) refl (places_enough k (n / 10) (d
 pub decimal_back : DecimalBack
 decimal_back n h = digits_back 10 (places_of n) n (lit≤ tt) (lit≤ tt) (places_enough 19 n (omega arith))
 
-front_lem : (k n : ℕ) → 1 < places_within k n → 10 ^ (places_within k n - 1) ≤ n
-front_lem zero n h = absurd (omega arith)
-front_lem (suc k) n h = by_test (ltb n 10) refl (front_lem k (n / 10))
+front : (k n : ℕ) → 1 < places_within k n → 10 ^ (places_within k n - 1) ≤ n
+front zero n h = absurd (omega arith)
+front (suc k) n h = by_test (ltb n 10) refl (front k (n / 10))
   where
     with_places : (p : ℕ) → 10 ≤ n → (1 < p → 10 ^ (p - 1) ≤ n / 10) → 10 ^ p ≤ n
     with_places zero m g = omega (arith, pow-zero 10)
@@ -64,4 +64,4 @@ front_lem (suc k) n h = by_test (ltb n 10) refl (front_lem k (n / 10))
         rw (places_suc k n (ltb-false n 10 e), less) (with_places (places_within k (n / 10)) (ltb-false n 10 e) g)
 
 pub no_zero_in_front : NoZeroInFront
-no_zero_in_front n = front_lem 19 n
+no_zero_in_front n = front 19 n

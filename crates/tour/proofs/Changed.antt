@@ -30,19 +30,19 @@ id_of x = x.id.0
 
 -- the table's identifiers from a start on
 module _ (built : Table) where
-  ahead_lem : ℕ → ℕ
-  ahead_lem start = length (keep (leb start) (identifiers built))
+  ahead : ℕ → ℕ
+  ahead start = length (keep (leb start) (identifiers built))
 
-  ahead-all : (start : ℕ) → ahead_lem start ≤ most (size built)
-  unfolding ahead_lem
+  ahead-all : (start : ℕ) → ahead start ≤ most (size built)
+  unfolding ahead
   ahead-all start = omega (arith, length-keep (leb start) (identifiers built), (most_some (size built)).1)
 
   module _ (x : Device) (same : x.table ≡ built) where
-    ahead-shown : (start : ℕ) → length (keep (from id_of start) (shown_all x)) ≡ ahead_lem start
-    unfolding ahead_lem
+    ahead-shown : (start : ℕ) → length (keep (from id_of start) (shown_all x)) ≡ ahead start
+    unfolding ahead
     ahead-shown start = kept_keys id_of start (shown_all x) ∙ ap (λ (ids : List ℕ). length (keep (leb start) ids)) (shown_ids x ∙ ap identifiers same)
 
-  ahead_falls : ascending 0 (identifiers built) ≡ true → (r : Round) → ShowsThen built r → Falls ahead_lem r
+  ahead_falls : ascending 0 (identifiers built) ≡ true → (r : Round) → ShowsThen built r → Falls ahead r
   ahead_falls asc r then id l =
       let q : Request = r.request in
       let x : Device = then.device in
@@ -60,9 +60,9 @@ pub ends_anyway : EndsAnyway
 ends_anyway built asc q cs shows enough =
     let n : ℕ = size built in
     let rs : List Round = (walk q cs).rounds in
-    let falls = every_so (ShowsThen built) (Falls (ahead_lem built)) (ahead_falls built asc) rs shows in
+    let falls = every_so (ShowsThen built) (Falls (ahead built)) (ahead_falls built asc) rs shows in
     let reads = every_so (ShowsThen built) Reads (reads_then built asc) rs shows in
-    let all : ahead_lem built (start_of q) ≤ most n = ahead-all built (start_of q) in (
-      ends (ahead_lem built) q cs (most n) (most_some n).0 all (most_within n (length cs) enough) falls reads,
-      within_most n (length rs) (bounded (ahead_lem built) q cs (most n) (most_some n).0 all falls),
+    let all : ahead built (start_of q) ≤ most n = ahead-all built (start_of q) in (
+      ends (ahead built) q cs (most n) (most_some n).0 all (most_within n (length cs) enough) falls reads,
+      within_most n (length rs) (bounded (ahead built) q cs (most n) (most_some n).0 all falls),
     )

@@ -30,17 +30,17 @@ ids l = map (λ (x : Descriptor). x.id.0) l
 
 module _ (s : List ℕ) (q : Request) (page : Taken Little s q) (low : ℕ) (under : (id : ℕ) → 1 ≤ id → start_of q ≤ id → low < id) where
   -- the identifier before a place; before the first, what all of them are above
-  below_lem : ℕ → ℕ
-  below_lem zero = low
-  below_lem (suc n) = last_before Little s (suc n)
+  below : ℕ → ℕ
+  below zero = low
+  below (suc n) = last_before Little s (suc n)
 
-  below_last : (n : ℕ) → 1 ≤ n → below_lem n ≡ last_before Little s n
-  unfolding below_lem
+  below_last : (n : ℕ) → 1 ≤ n → below n ≡ last_before Little s n
+  unfolding below
   below_last zero some = absurd (omega arith)
   below_last (suc n) some = refl
 
-  climbs : (n : ℕ) → n < (header_in Little s).returned → below_lem n < (descriptor_at Little s n).id.0
-  unfolding below_lem
+  climbs : (n : ℕ) → n < (header_in Little s).returned → below n < (descriptor_at Little s n).id.0
+  unfolding below
   climbs zero less = let d = page.list 0 less in under (descriptor_at Little s 0).id.0 d.some d.started
   climbs (suc n) less = (page.list (suc n) less).rises
 
@@ -51,8 +51,8 @@ module _ (s : List ℕ) (q : Request) (page : Taken Little s q) (low : ℕ) (und
       (ap (λ (l : List ℕ). l ++ rest) (map-append (λ (x : Descriptor). x.id.0) (held_below s n) (descriptor_at Little s n ∷ []))
       ∙ append_assoc (ids (held_below s n)) ((descriptor_at Little s n).id.0 ∷ []) rest)
 
-  ascends : (n : ℕ) (rest : List ℕ) → n ≤ (header_in Little s).returned → ascending (below_lem n) rest ≡ true → ascending low (ids (held_below s n) ++ rest) ≡ true
-  unfolding below_lem
+  ascends : (n : ℕ) (rest : List ℕ) → n ≤ (header_in Little s).returned → ascending (below n) rest ≡ true → ascending low (ids (held_below s n) ++ rest) ≡ true
+  unfolding below
   ascends zero rest less asc = asc
   ascends (suc n) rest less asc =
       rw (one_more n rest (omega (arith, less))) (ascends n ((descriptor_at Little s n).id.0 ∷ rest) (omega (arith, less)) (rw (lt-ltb _ _ (climbs n (omega (arith, less)))) asc))
@@ -73,21 +73,21 @@ rises q [] low under = refl
 rises q (c ∷ cs) low under =
     by_way (λ w. ascending low (ids (listed w)) ≡ true) q c cs
     (λ p is_9. rw (refused_none q c.page p is_9) refl)
-    (λ ok end. after_lem ok [] refl)
+    (λ ok end. after ok [] refl)
     (λ id l.
     let next : Request = next_request q id c.next in
     let page = page_taken c.page q l.taken in
-    let last : below_lem c.page q page low under n ≡ last_before Little c.page n = below_last c.page q page low under n (omega (arith, l.some)) in
-    after_lem l.taken (listed (walk next cs))
-    (rises next cs (below_lem c.page q page low under n)
+    let last : below c.page q page low under n ≡ last_before Little c.page n = below_last c.page q page low under n (omega (arith, l.some)) in
+    after l.taken (listed (walk next cs))
+    (rises next cs (below c.page q page low under n)
     (λ k some start. omega (arith, last, led_last c.page q id l, start, start_next q c.page id c.next l))))
   where
     n : ℕ
     n = (header_in Little c.page).returned
 
-    after_lem : (ok : accepted c.page q ≡ true) (rest : List Descriptor)
-        → ascending (below_lem c.page q (page_taken c.page q ok) low under n) (ids rest) ≡ true → ascending low (ids (elements_in (round q c.page) ++ rest)) ≡ true
-    after_lem ok rest asc =
+    after : (ok : accepted c.page q ≡ true) (rest : List Descriptor)
+        → ascending (below c.page q (page_taken c.page q ok) low under n) (ids rest) ≡ true → ascending low (ids (elements_in (round q c.page) ++ rest)) ≡ true
+    after ok rest asc =
         rw (taken_held q c.page ok, map-append (λ (x : Descriptor). x.id.0) (held_below c.page n) rest)
         (ascends c.page q (page_taken c.page q ok) low under n (ids rest) (omega arith) asc)
 

@@ -15,41 +15,41 @@ use Rattle.walk.specs.Walk.{Came, round, followed, walk}
 use Rattle.tour.specs.Tour.{Shows, Comes, AnyMix}
 
 -- whatever comes after the walk has stopped
-after_lem : List PageCount → List Came
-after_lem ps = map (λ (p : PageCount). record { page = []; next = p }) ps
+after : List PageCount → List Came
+after ps = map (λ (p : PageCount). record { page = []; next = p }) ps
 
-counted : (ps : List PageCount) → map (λ (c : Came). c.next) (after_lem ps) ≡ ps
-unfolding after_lem
+counted : (ps : List PageCount) → map (λ (c : Came). c.next) (after ps) ≡ ps
+unfolding after
 counted [] = refl
 counted (p ∷ ps) = ap (λ (l : List PageCount). p ∷ l) (counted ps)
 
 pub any_mix : AnyMix
 unfolding walk
-any_mix d q [] ok ones = record { came = []; mix = refl; shown_lem = tt }
+any_mix d q [] ok ones = record { came = []; mix = refl; shown = tt }
 any_mix d q (p ∷ ps) ok (one, ones) = go (way (page_of d q) q) (λ next asked. any_mix d next ps asked ones)
   where
-    first_lem : Came
-    first_lem = record { page = page_of d q; next = p }
+    first : Came
+    first = record { page = page_of d q; next = p }
 
     show : Shows d (round q (page_of d q))
     show = record { asked = ok; page = refl }
 
-    shown_lem : (cs : List Came) (v : Values) → (next_of (page_of d q) q).state ≡ v
-        → Every (Shows d) (followed (round q (page_of d q)) v (λ id. walk (next_request q id p) cs)).rounds → Every (Shows d) (walk q (first_lem ∷ cs)).rounds
-    shown_lem cs = by_value (λ w. Every (Shows d) w.rounds) q first_lem cs
+    shown : (cs : List Came) (v : Values) → (next_of (page_of d q) q).state ≡ v
+        → Every (Shows d) (followed (round q (page_of d q)) v (λ id. walk (next_request q id p) cs)).rounds → Every (Shows d) (walk q (first ∷ cs)).rounds
+    shown cs = by_value (λ w. Every (Shows d) w.rounds) q first cs
 
-    stops_lem : (v : Values) → (next_of (page_of d q) q).state ≡ v → Every (Shows d) (followed (round q (page_of d q)) v (λ id. walk (next_request q id p) (after_lem ps))).rounds
+    stops : (v : Values) → (next_of (page_of d q) q).state ≡ v → Every (Shows d) (followed (round q (page_of d q)) v (λ id. walk (next_request q id p) (after ps))).rounds
         → Comes d q (p ∷ ps)
-    stops_lem v e last = record { came = first_lem ∷ after_lem ps; mix = ap (λ (l : List PageCount). p ∷ l) (counted ps); shown_lem = shown_lem (after_lem ps) v e last }
+    stops v e last = record { came = first ∷ after ps; mix = ap (λ (l : List PageCount). p ∷ l) (counted ps); shown = shown (after ps) v e last }
 
     go : Way (page_of d q) q → ((next : Request) → refused next ≡ false → Comes d next ps) → Comes d q (p ∷ ps)
-    go (refuses k _ is_next) rest = stops_lem (place k) (ap (λ (u : Told Values). u.state) is_next) (show, tt)
-    go (whole _ _ is_next) rest = stops_lem end (ap (λ (u : Told Values). u.state) is_next) (show, tt)
-    go (highest _ _ is_next) rest = stops_lem end (ap (λ (u : Told Values). u.state) is_next) (show, tt)
+    go (refuses k _ is_next) rest = stops (place k) (ap (λ (u : Told Values). u.state) is_next) (show, tt)
+    go (whole _ _ is_next) rest = stops end (ap (λ (u : Told Values). u.state) is_next) (show, tt)
+    go (highest _ _ is_next) rest = stops end (ap (λ (u : Told Values). u.state) is_next) (show, tt)
     go (leads id l is_next) rest =
         let on = rest (next_request q id p) (next_asked (page_of d q) q id p l one) in
         record {
-          came = first_lem ∷ on.came;
+          came = first ∷ on.came;
           mix = ap (λ (l : List PageCount). p ∷ l) on.mix;
-          shown_lem = shown_lem on.came (ask id) (ap (λ (u : Told Values). u.state) is_next) (show, on.shown);
+          shown = shown on.came (ask id) (ap (λ (u : Told Values). u.state) is_next) (show, on.shown);
         }

@@ -24,12 +24,12 @@ use Rattle.turning.specs.Turning.{within, scsi_of, ata_of}
 
 -- ## The input
 
-module _ (s buf : List ℕ) (long : Bool) (is_long_lem : long ≡ ltb 65536 (length s)) where
+module _ (s buf : List ℕ) (long : Bool) (is_long : long ≡ ltb 65536 (length s)) where
   short : long ≡ false → length s ≤ 65536
-  short n = ltb-false 65536 (length s) (sym is_long_lem ∙ n)
+  short n = ltb-false 65536 (length s) (sym is_long ∙ n)
 
   pub input_long : (f : Offence) (bytes : List ℕ) → long ≡ true → heard (Refused 65536) buf ≡ outcome (within s or_else f) bytes buf
-  input_long f bytes y = sym (rw (lt-leb (length s) 65536 (ltb-true 65536 (length s) (sym is_long_lem ∙ y))))
+  input_long f bytes y = sym (rw (lt-leb (length s) 65536 (ltb-true 65536 (length s) (sym is_long ∙ y))))
 
   pub pages_fit : long ≡ false → length s / 512 < 2 ^ 16
   pages_fit n = omega (arith, short n)

@@ -140,10 +140,10 @@ start_in z (ask id) = id
 start_in z end = z
 start_in z (place p) = z
 
-place_in_lem : Values → ℕ
-place_in_lem (ask id) = 0
-place_in_lem end = 0
-place_in_lem (place p) = p
+place_in : Values → ℕ
+place_in (ask id) = 0
+place_in end = 0
+place_in (place p) = p
 
 held_in : Descriptor → Slot → Descriptor
 held_in z Outside = z
@@ -161,8 +161,8 @@ module _ (s : List ℕ) (q : Request) where
   one_start id id' d e = ap (λ (t : Told Values). start_in id t.state) (sym d ∙ e)
 
   one_place : (p p' : ℕ) → next_of s q ≡ tells 9 (place p) → next_of s q ≡ tells 9 (place p') → p ≡ p'
-  unfolding place_in_lem
-  one_place p p' d e = ap (λ (t : Told Values). place_in_lem t.state) (sym d ∙ e)
+  unfolding place_in
+  one_place p p' d e = ap (λ (t : Told Values). place_in t.state) (sym d ∙ e)
 
   -- the start is the last identifier plus one
   module _ (id : ElementId) (l : Leads s q id) where

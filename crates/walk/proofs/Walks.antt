@@ -137,18 +137,18 @@ module _ (M : ℕ → ℕ) where
 
 -- ## Of any pages: the identifiers from a start on
 
-left_lem : ℕ → ℕ
-left_lem zero = 0xFFFF_FFFF
-left_lem (suc n) = 0xFFFF_FFFF - n
+left : ℕ → ℕ
+left zero = 0xFFFF_FFFF
+left (suc n) = 0xFFFF_FFFF - n
 
-left_lower : (id start : ℕ) → 16 ≤ id → start + 15 ≤ id → id ≤ 0xFFFF_FFFF → (1 ≤ left_lem id) × (15 + left_lem id ≤ left_lem start)
-unfolding left_lem
+left_lower : (id start : ℕ) → 16 ≤ id → start + 15 ≤ id → id ≤ 0xFFFF_FFFF → (1 ≤ left id) × (15 + left id ≤ left start)
+unfolding left
 left_lower zero start some up low = absurd (omega arith)
 left_lower (suc n) zero some up low = (omega arith, omega arith)
 left_lower (suc n) (suc k) some up low = (omega arith, omega arith)
 
-left_most : (start : ℕ) → left_lem start ≤ 0xFFFF_FFFF
-unfolding left_lem
+left_most : (start : ℕ) → left start ≤ 0xFFFF_FFFF
+unfolding left
 left_most zero = omega arith
 left_most (suc n) = omega arith
 
@@ -171,10 +171,10 @@ start_climbs s q id l =
     let is_id = led_last s q id l in
     (omega (arith, is_id, up.0), omega (arith, is_id, up.1))
 
-left_falls : (rs : List Round) → Every (Falls left_lem) rs
+left_falls : (rs : List Round) → Every (Falls left) rs
 left_falls [] = tt
 left_falls (r ∷ rs) =
     (λ id l. let up = start_climbs r.page r.request id l in left_lower id.0 (start_of r.request) up.0 up.1 l.low, left_falls rs)
 
 pub always_stops : AlwaysStops
-always_stops q cs = omega (arith, bounded left_lem q cs 0xFFFF_FFFF (omega arith) (left_most (start_of q)) (left_falls (walk q cs).rounds))
+always_stops q cs = omega (arith, bounded left q cs 0xFFFF_FFFF (omega arith) (left_most (start_of q)) (left_falls (walk q cs).rounds))

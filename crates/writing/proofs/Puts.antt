@@ -99,18 +99,18 @@ module _ (text d : List ℕ) (at n : ℕ) (t : Bool) (is_t : t ≡ fits n at (le
   none_ended_in e = sym (rw (sym is_t ∙ e))
 
   module _ (yes : t ≡ true) (wide : length text ≤ n) (x : List ℕ) (r : ℕ) (puts : Puts d at text x r) where
-    fit_lem : at + length text ≤ length d
-    fit_lem = let all : at + n ≤ length d = leb-true (at + n) (length d) (sym is_t ∙ yes) in omega arith
+    fit : at + length text ≤ length d
+    fit = let all : at + n ≤ length d = leb-true (at + n) (length d) (sym is_t ∙ yes) in omega arith
 
     stands : (x ≡ stored d at text) × (r ≡ at + length text)
     unfolding Puts
-    stands = puts fit_lem
+    stands = puts fit
 
     pub room_stored : x ≡ stored d at text
     room_stored = stands.0
 
     pub room_ended : r ≡ ended d at text
-    room_ended = stands.1 ∙ ended_yes d text at true (sym (le-leb (at + length text) (length d) fit_lem)) refl
+    room_ended = stands.1 ∙ ended_yes d text at true (sym (le-leb (at + length text) (length d) fit)) refl
 
     pub whole_stored_in : x ≡ stored_in n d at text
     whole_stored_in = room_stored ∙ sym (rw (sym is_t ∙ yes))

@@ -28,8 +28,8 @@ all_below (suc n) f = cond (f n) (all_below n f) false
 
 each_below : (n : ℕ) (f : ℕ → Bool) → all_below n f ≡ true → (d : ℕ) → d < n → f d ≡ true
 unfolding all_below
-each_below zero f all_lem d l = absurd (omega arith)
-each_below (suc n) f all_lem d l = by_tests (f n) refl all_lem (eqb d n) refl (λ rest. each_below n f rest d)
+each_below zero f all d l = absurd (omega arith)
+each_below (suc n) f all d l = by_tests (f n) refl all (eqb d n) refl (λ rest. each_below n f rest d)
   where
     by_tests : (x : Bool) → f n ≡ x → cond x (all_below n f) false ≡ true → (y : Bool) → eqb d n ≡ y → (all_below n f ≡ true → d < n → f d ≡ true) → f d ≡ true
     by_tests false p rest y e g = absurd (false≢true rest)
@@ -117,9 +117,9 @@ module _ (n : ℕ) (t : List ℕ) (rest m : ℕ) (so : Spelled n t rest m) where
   pub spelled-all : rest < 10 → record { bytes = set t (19 - m) (48 + rest); count = m + 1 } ≡ spelled (decimal_of n)
   spelled-all h =
       let one : rest ≡ rest % 10 = omega arith in
-      let all_lem : m + 1 ≡ places_of n = counted_all n rest (m + 1) so.2 h in
-      let wide : length (decimal_of n) ≡ m + 1 = length_digits 10 (places_of n) n ∙ sym all_lem in
-      rw (wide, ← all_lem) (λ i. record { bytes = (ap (λ (x : ℕ). set t (19 - m) (48 + x)) one ∙ more) i; count = m + 1 })
+      let all : m + 1 ≡ places_of n = counted_all n rest (m + 1) so.2 h in
+      let wide : length (decimal_of n) ≡ m + 1 = length_digits 10 (places_of n) n ∙ sym all in
+      rw (wide, ← all) (λ i. record { bytes = (ap (λ (x : ℕ). set t (19 - m) (48 + x)) one ∙ more) i; count = m + 1 })
 
 -- ## What is shown
 
@@ -127,14 +127,14 @@ shown-spelled : (l : List ℕ) → shown (spelled l) ≡ l
 shown-spelled l = drop_at (replicate (20 - length l) 0) l (20 - length l) (length-replicate (20 - length l) 0)
 
 module _ (s : Spelling) (l d : List ℕ) (at : ℕ) (is_s : s ≡ spelled l) where
-  all_lem : shown s ≡ l
-  all_lem = ap shown is_s ∙ shown-spelled l
+  all : shown s ≡ l
+  all = ap shown is_s ∙ shown-spelled l
 
   pub shown-stored : (x : List ℕ) → x ≡ stored d at (shown s) → x ≡ stored d at l
-  shown-stored x e = e ∙ ap (stored d at) all_lem
+  shown-stored x e = e ∙ ap (stored d at) all
 
   pub shown-ended : (r : ℕ) → r ≡ ended d at (shown s) → r ≡ ended d at l
-  shown-ended r e = e ∙ ap (ended d at) all_lem
+  shown-ended r e = e ∙ ap (ended d at) all
 
 -- what `put` hands on
 pub part_shown : (s : Spelling) (n : ℕ) → length s.bytes ≡ 20 → n ≡ min s.count 20 → take (20 - (20 - n)) (drop (20 - n) s.bytes) ≡ shown s

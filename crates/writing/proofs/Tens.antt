@@ -57,23 +57,23 @@ decimal_all k n some few small =
     digits_parts 1 k n ∙ ap (λ (l : List ℕ). l ++ digits 10 k (n % 10 ^ k)) (decimal_one (n / 10 ^ k) few) ∙ sym (decimal_parts k n some small)
 
 module _ (d x : List ℕ) (at r n : ℕ) where
-  named_lem : (a b : List ℕ) → a ≡ b → Puts d at a x r → Puts d at b x r
-  named_lem a b e puts = subst (λ (l : List ℕ). Puts d at l x r) e puts
+  named : (a b : List ℕ) → a ≡ b → Puts d at a x r → Puts d at b x r
+  named a b e puts = subst (λ (l : List ℕ). Puts d at l x r) e puts
 
   pub puts_digit : n < 10 → Puts d at (digits 10 1 n) x r → Puts d at (decimal_of n) x r
-  puts_digit small = named_lem (digits 10 1 n) (decimal_of n) (decimal_one n small)
+  puts_digit small = named (digits 10 1 n) (decimal_of n) (decimal_one n small)
 
   pub puts_two : 10 ≤ n → n < 100 → Puts d at (digits 10 2 n) x r → Puts d at (decimal_of n) x r
-  puts_two some small = named_lem (digits 10 2 n) (decimal_of n) (decimal_all 1 n some (omega arith) (omega arith))
+  puts_two some small = named (digits 10 2 n) (decimal_of n) (decimal_all 1 n some (omega arith) (omega arith))
 
   pub puts_four : 1000 ≤ n → n < 10 ^ 4 → Puts d at (digits 10 4 n) x r → Puts d at (decimal_of n) x r
-  puts_four some small = named_lem (digits 10 4 n) (decimal_of n) (decimal_all 3 n some (omega arith) (omega arith))
+  puts_four some small = named (digits 10 4 n) (decimal_of n) (decimal_all 3 n some (omega arith) (omega arith))
 
 -- the first digits, and k behind them
 pub puts_parts : (k : ℕ) (d x y : List ℕ) (at m r n : ℕ) → 10 ^ k ≤ n → n < 2 ^ 64 → Puts d at (decimal_of (n / 10 ^ k)) x m
     → Puts x m (digits 10 k (n % 10 ^ k)) y r → Puts d at (decimal_of n) y r
 puts_parts k d x y at m r n some small first last =
-    named_lem d y at r n (decimal_of (n / 10 ^ k) ++ digits 10 k (n % 10 ^ k)) (decimal_of n) (sym (decimal_parts k n some (omega arith)))
+    named d y at r n (decimal_of (n / 10 ^ k) ++ digits 10 k (n % 10 ^ k)) (decimal_of n) (sym (decimal_parts k n some (omega arith)))
     (puts_more d x at m (decimal_of (n / 10 ^ k)) (digits 10 k (n % 10 ^ k)) y r last first)
 
 pub puts_three : (d x y : List ℕ) (at m r n : ℕ) → 100 ≤ n → n < 1000 → Puts d at (digits 10 1 (n / 100)) x m → Puts x m (digits 10 2 (n % 100)) y r

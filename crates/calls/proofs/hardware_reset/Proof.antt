@@ -1,7 +1,7 @@
 -- `calls::hardware_reset`, over `Device::hardware_reset`.
 use mathlib.Core.List.{[]}
 use mathlib.Core.Path.{◌≡◌}
-use Rattle.datum.proofs.Changed.{changed_lem}
+use Rattle.datum.proofs.Changed.{changed}
 use Rattle.device.proofs.Device.hardware_reset.Met as callee
 use Rattle.device.proofs.Device.hardware_reset.Symbol as symbol
 use Rattle.device.specs.Machine as machine
@@ -15,5 +15,5 @@ use Rattle.calls.proofs.hardware_reset.Statement.{statement}
 pub hardware_reset_spec : {M : Type 1} → statement M
 unfolding code.routine
 hardware_reset_spec 𝓤 𝓛 𝓜 𝓡 =
-    changed_lem device answer stepped [] (λ d x a e. said a e ≡ told d machine.hardware_reset)
+    changed device answer stepped [] (λ d x a e. said a e ≡ told d machine.hardware_reset)
     _ 𝓤 𝓛 𝓜 𝓡 code.env name symbol.name (code.unfolded 𝓤 𝓛.H 𝓜 𝓡) symbol.routine code.calls-device::Device::hardware-reset (callee.met 𝓤 𝓛 𝓜 𝓡)

@@ -34,7 +34,7 @@ next_to_spec =
     (λ c. search rules)
     (λ c. search rules)
     (λ c. let turn = c.before.before.before.before.before in (
-      pair_again _ _ _ _ _ _ turn.before.pairs.ensures (omega arith) _ _ c.before.before.before.whole-at.ensures c.before.before.whole-at2.ensures _ c.before.do-agree.ensures turn.loop.invariant.0 (not-false _ c.if1.false),
+      pair_again _ _ _ _ _ _ turn.before.pairs.ensures (omega arith) _ _ c.before.before.before.whole-at.ensures c.before.before.whole-at2.ensures _ c.before.do-agree.ensures turn.loop.invariant.0 (c.if1.false),
       omega arith,
     ))
     (λ c. search rules)

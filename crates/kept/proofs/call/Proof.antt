@@ -1,6 +1,6 @@
 -- `kept::call`.
 use borrow.Author.Rules.{rules}
-use Rattle.kept.proofs.Left.{kept_of, page_of_lem}
+use Rattle.kept.proofs.Left.{kept_of, page_of}
 use Rattle.kept.proofs.call.Statement.{statement}
 use Rattle.kept.proofs.call.Tie as tie
 
@@ -16,9 +16,9 @@ call_spec =
     (λ c. search rules)
     (λ c. search rules)
     (λ c. search rules)
-    (λ c. search (kept_of, page_of_lem))
+    (λ c. search (kept_of, page_of))
     (λ c. search rules)
-    (λ c. search (kept_of, page_of_lem))
+    (λ c. search (kept_of, page_of))
     (λ c. search rules)
     (λ c. search rules)
     (λ c. search rules))

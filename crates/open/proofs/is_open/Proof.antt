@@ -9,7 +9,7 @@ use Rattle.open.proofs.is_open.Tie as tie
 returns : tie.Need-returns
 unfolding is_open
 returns c =
-    by_rows _ _ _ _ _ c.any-fits.ensures
+    by_rows _ _ _ _ _ c.any_fits.ensures
     (λ code feature lba. simp (any_form, low_bits 8, low_bits 28, and-true, or-false) (simp (or_chain, spread) (simp (and-or_distrib_left, or_assoc))))
 
 pub is_open_spec : {M : Type 1} → statement M

@@ -2,8 +2,8 @@
 use mathlib.Core.List.{[]}
 use mathlib.Core.Path.{◌≡◌}
 use mir.Syntax.{w8}
-use Rattle.datum.proofs.Changed.{changed_lem}
-use Rattle.datum.proofs.Datum.{number_lem}
+use Rattle.datum.proofs.Changed.{changed}
+use Rattle.datum.proofs.Datum.{number}
 use Rattle.device.specs.Machine as machine
 use Rattle.image.proofs.Image.comreset.Met as callee
 use Rattle.image.proofs.Image.comreset.Symbol as symbol
@@ -17,5 +17,5 @@ use Rattle.recorder.proofs.recorder_comreset.Statement.{statement}
 pub recorder_comreset_spec : {M : Type 1} → statement M
 unfolding code.routine
 recorder_comreset_spec 𝓤 𝓛 𝓜 𝓡 =
-    changed_lem image (number_lem w8) imaged [] (λ i x n e. tells n e ≡ told_of i machine.comreset)
+    changed image (number w8) imaged [] (λ i x n e. tells n e ≡ told_of i machine.comreset)
     _ 𝓤 𝓛 𝓜 𝓡 code.env name symbol.name (code.unfolded 𝓤 𝓛.H 𝓜 𝓡) symbol.routine code.calls-image::Image::comreset (callee.met 𝓤 𝓛 𝓜 𝓡)

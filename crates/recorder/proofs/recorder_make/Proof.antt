@@ -2,12 +2,12 @@
 use mathlib.Core.List.{[], ◌∷◌}
 use mathlib.Core.Path.{◌≡◌, ◌∙◌}
 use mir.Syntax.{w8, w16}
-use Rattle.calls.proofs.Data.{element_lem}
+use Rattle.calls.proofs.Data.{element}
 use Rattle.calls.proofs.copied.Met as copied
 use Rattle.calls.proofs.copied.Symbol as copied_symbol
 use Rattle.calls.specs.Offered.{array_of}
 use Rattle.conduct.specs.Fits.{Fits}
-use Rattle.datum.proofs.Datum.{number_lem}
+use Rattle.datum.proofs.Datum.{number}
 use Rattle.datum.proofs.Made.{made}
 use Rattle.image.proofs.Image.make.Met as callee
 use Rattle.image.proofs.Image.make.Symbol as symbol
@@ -25,7 +25,7 @@ use Rattle.recorder.proofs.recorder_make.Statement.{statement}
 pub recorder_make_spec : {M : Type 1} → statement M
 unfolding code.routine
 recorder_make_spec 𝓤 𝓛 𝓜 𝓡 =
-    made image element_lem 128 (number_lem w8) imaged (number_lem w16 ∷ []) array_of (λ i es x n e. (tells n e ≡ made_in i es x.0) × Fits (device_of e))
+    made image element 128 (number w8) imaged (number w16 ∷ []) array_of (λ i es x n e. (tells n e ≡ made_in i es x.0) × Fits (device_of e))
     (λ i es c x n e. tells n e ≡ made_by i (record { elements = es; count = c; limit = x.0 })) (λ i es x n e is q. (q ∙ made_in_lem i es x.0, image_fits e is))
     _ 𝓤 𝓛 𝓜 𝓡 code.env name copied_symbol.name symbol.name (code.unfolded 𝓤 𝓛.H 𝓜 𝓡)
     copied_symbol.routine code.calls-calls::copied (copied.met 𝓤 𝓛 𝓜 𝓡) symbol.routine code.calls-image::Image::make (callee.met 𝓤 𝓛 𝓜 𝓡)

@@ -3,8 +3,8 @@ use mathlib.Core.List.{[], ◌∷◌}
 use mathlib.Core.Path.{◌≡◌}
 use mir.Syntax.{w32}
 use Rattle.calls.proofs.Data.{query}
-use Rattle.datum.proofs.Datum.{number_lem}
-use Rattle.datum.proofs.Filled.{filled_lem}
+use Rattle.datum.proofs.Datum.{number}
+use Rattle.datum.proofs.Filled.{filled}
 use Rattle.image.specs.Reading.{device_of}
 use Rattle.paper.specs.Output.{output}
 use Rattle.paper.specs.Told.{tells}
@@ -19,6 +19,6 @@ use Rattle.recorder.proofs.sent.Symbol as symbol
 pub recorder_send_spec : {M : Type 1} → statement M
 unfolding code.routine
 recorder_send_spec 𝓤 𝓛 𝓜 𝓡 =
-    filled_lem image count (query ∷ number_lem w32 ∷ [])
+    filled image count (query ∷ number w32 ∷ [])
     (λ i x buf r after. tells r.answer (output r.count after) ≡ sent (device_of i) x.0 x.1.0 buf)
     _ 𝓤 𝓛 𝓜 𝓡 code.env name symbol.name (code.unfolded 𝓤 𝓛.H 𝓜 𝓡) symbol.routine code.calls-recorder::sent (callee.met 𝓤 𝓛 𝓜 𝓡)

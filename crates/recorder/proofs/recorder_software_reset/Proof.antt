@@ -2,8 +2,8 @@
 use mathlib.Core.List.{[]}
 use mathlib.Core.Path.{◌≡◌}
 use mir.Syntax.{w8}
-use Rattle.datum.proofs.Changed.{changed_lem}
-use Rattle.datum.proofs.Datum.{number_lem}
+use Rattle.datum.proofs.Changed.{changed}
+use Rattle.datum.proofs.Datum.{number}
 use Rattle.device.specs.Machine as machine
 use Rattle.image.proofs.Image.software_reset.Met as callee
 use Rattle.image.proofs.Image.software_reset.Symbol as symbol
@@ -17,5 +17,5 @@ use Rattle.recorder.proofs.recorder_software_reset.Statement.{statement}
 pub recorder_software_reset_spec : {M : Type 1} → statement M
 unfolding code.routine
 recorder_software_reset_spec 𝓤 𝓛 𝓜 𝓡 =
-    changed_lem image (number_lem w8) imaged [] (λ i x n e. tells n e ≡ told_of i machine.software_reset)
+    changed image (number w8) imaged [] (λ i x n e. tells n e ≡ told_of i machine.software_reset)
     _ 𝓤 𝓛 𝓜 𝓡 code.env name symbol.name (code.unfolded 𝓤 𝓛.H 𝓜 𝓡) symbol.routine code.calls-image::Image::software-reset (callee.met 𝓤 𝓛 𝓜 𝓡)

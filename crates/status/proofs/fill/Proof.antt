@@ -2,7 +2,7 @@
 use Prim.Native.Nat.{◌-◌}
 use lib.ListN.{length-map}
 use borrow.Author.Rules.{rules}
-use Rattle.status.proofs.Page.{Listing, listing_next, listing_all, filled_lem}
+use Rattle.status.proofs.Page.{Listing, listing_next, listing_all, filled}
 use Rattle.status.proofs.Places.{list_none, count_fits}
 use Rattle.status.proofs.fill.Statement.{statement}
 use Rattle.status.proofs.fill.Tie as tie
@@ -47,4 +47,4 @@ fill_spec =
     (λ c. search rules)
     (λ c κs. search rules)
     (λ c. search rules)
-    (λ c. search (filled_lem, listing_all)))
+    (λ c. search (filled, listing_all)))

@@ -1,7 +1,7 @@
 -- `steps::rule_grade`: a law for each way out.
 use borrow.Author.Tests.{not-true, not-false}
 use borrow.Author.Rules.{rules}
-use Rattle.steps.proofs.Rules.{grade_unknown, grade_gone, grade_high, graded_lem}
+use Rattle.steps.proofs.Rules.{grade_unknown, grade_gone, grade_high, graded}
 use Rattle.steps.proofs.rule_grade.Statement.{statement}
 use Rattle.steps.proofs.rule_grade.Tie as tie
 
@@ -17,4 +17,4 @@ rule_grade_spec =
     (λ c κs. search rules)
     (λ c. search (grade_high, not-false))
     (λ c κs. search rules)
-    (λ c. search (graded_lem, not-false)))
+    (λ c. search (graded, not-false)))

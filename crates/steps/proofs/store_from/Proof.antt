@@ -1,6 +1,6 @@
 -- `steps::store_from`: in each arm the position is told.
 use borrow.Author.Rules.{rules}
-use Rattle.steps.proofs.Rules.{at_position_lem}
+use Rattle.steps.proofs.Rules.{at_position}
 use Rattle.steps.proofs.store_from.Statement.{statement}
 use Rattle.steps.proofs.store_from.Tie as tie
 
@@ -20,12 +20,12 @@ store_from_spec =
     (λ c κs. search rules)
     (λ c. search rules)
     (λ c. search rules)
-    (λ c. search (at_position_lem))
-    (λ c. search (at_position_lem))
-    (λ c. search (at_position_lem))
-    (λ c. search (at_position_lem))
+    (λ c. search (at_position))
+    (λ c. search (at_position))
+    (λ c. search (at_position))
+    (λ c. search (at_position))
     (λ c. search rules)
-    (λ c. search (at_position_lem))
-    (λ c. search (at_position_lem))
-    (λ c. search (at_position_lem))
+    (λ c. search (at_position))
+    (λ c. search (at_position))
+    (λ c. search (at_position))
     (λ c. search rules))

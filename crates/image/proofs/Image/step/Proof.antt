@@ -1,6 +1,6 @@
 -- `Image::step`, over `Device::step`.
 use borrow.Author.Rules.{rules}
-use Rattle.image.proofs.Calls.{kept, left_lem}
+use Rattle.image.proofs.Calls.{kept, left}
 use Rattle.image.proofs.Image.step.Statement.{statement}
 use Rattle.image.proofs.Image.step.Tie as tie
 
@@ -11,6 +11,6 @@ step_spec =
     (λ c κs. search rules)
     (λ c κs. search rules)
     (λ c κs. search rules)
-    (λ c. search (left_lem))
+    (λ c. search (left))
     (λ c κs. search rules)
     (λ c. search (kept)))

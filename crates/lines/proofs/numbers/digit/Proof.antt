@@ -10,7 +10,7 @@ digit_spec =
     tie.close
     (tie.spec
     (λ c κs. search rules)
-    (λ c. omega (arith, least 48 57 c.before.before.args.c _ c.before.is_Within.ensures c.if-is_within.true))
+    (λ c. omega (arith, least 48 57 c.before.before.args.c _ c.before.is_within.ensures c.if-is_within.true))
     (λ c. search rules)
     (λ c. search (digit_decimal))
     (λ c κs. search rules)

@@ -28,12 +28,12 @@ skip_spec =
     (λ c κs. search rules)
     (λ c. let l = c.before.before.before.before.loop-at in
     let s = c.before.before.before.before.before.before.args in
-    (skip_stop (space_or s.space) s.line.now l.at (omega arith) (sym c.before.is_spaced.ensures ∙ not-true _ c.if-not-is_spaced.true) ∙ l.invariant.0, l.invariant.1, l.invariant.2))
+    (skip_stop (space_or s.space) s.line.now l.at (omega arith) (sym c.before.is_spaced.ensures ∙ c.if-not-is_spaced.true) ∙ l.invariant.0, l.invariant.1, l.invariant.2))
     (λ c. search rules)
     (λ c. search rules)
     (λ c. let l = c.before.before.before.before.loop-at in
     let s = c.before.before.before.before.before.before.args in
-    (skip_next (space_or s.space) s.line.now l.at (omega arith) (sym c.before.is_spaced.ensures ∙ not-false _ c.if-not-is_spaced.false) ∙ l.invariant.0, omega arith, omega arith))
+    (skip_next (space_or s.space) s.line.now l.at (omega arith) (sym c.before.is_spaced.ensures ∙ c.if-not-is_spaced.false) ∙ l.invariant.0, omega arith, omega arith))
     (λ c. let l = c.before.loop-at in
     let s = c.before.before.before.args in
     (skip_end (space_or s.space) s.line.now l.at (omega arith) ∙ l.invariant.0, l.invariant.1, l.invariant.2)))
