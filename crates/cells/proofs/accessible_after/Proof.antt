@@ -11,4 +11,4 @@ accessible_after_spec =
     (tie.spec
     (λ c. search rules)
     (λ c cells q. search (accessible_stored))
-    (λ c cells q. q ∙ accessible_kept cells c.before.args.store c.match.keys2))
+    (λ c cells q. q ∙ accessible_kept cells c.before.args.store c.in-AccessibleTo.keys2))

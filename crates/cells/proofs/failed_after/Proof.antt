@@ -11,4 +11,4 @@ failed_after_spec =
     (tie.spec
     (λ c. search rules)
     (λ c cells q. search (failed_stored))
-    (λ c cells q. q ∙ failed_kept cells c.before.args.store c.match.keys2))
+    (λ c cells q. q ∙ failed_kept cells c.before.args.store c.in-FailedTo.keys2))

@@ -15,4 +15,4 @@ healths_after_spec =
     (λ c κs. search rules)
     (λ c cells q. search (marked_health))
     (λ c cells q. search (graded_health))
-    (λ c cells q. q ∙ healths_kept cells c.before.args.store c.match.keys3))
+    (λ c cells q. q ∙ healths_kept cells c.before.args.store c.in-Marked.keys3))

@@ -11,4 +11,4 @@ native_after_spec =
     (tie.spec
     (λ c. search rules)
     (λ c cells q. search (native_stored))
-    (λ c cells q. q ∙ native_kept cells c.before.args.store c.match.keys2))
+    (λ c cells q. q ∙ native_kept cells c.before.args.store c.in-NativeTo.keys2))

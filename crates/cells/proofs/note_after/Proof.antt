@@ -15,4 +15,4 @@ note_after_spec =
     (λ c κs. search rules)
     (λ c cells q. search (note_stored))
     (λ c cells q. search (note_stored))
-    (λ c cells q. c.same.ensures ∙ q ∙ note_kept cells c.before.before.args.store c.before.match.keys3))
+    (λ c cells q. c.same.ensures ∙ q ∙ note_kept cells c.before.before.args.store c.before.in-Noted.keys3))

@@ -12,10 +12,10 @@ use Rattle.input.proofs.read_whole.Tie as tie
 counts : (n : ℕ) (l : List ℕ) → n ≤ length l → IsPrefixLen n l
 counts n l h = (h, sym (length-take-le n l h))
 
-abbrev invariant-loop : tie.invariant-loop
+abbrev invariant-loop : tie.invariant-loop-n
 invariant-loop fd buf₀ n₀ buf n = (n ≤ length buf) × (length buf ≡ length buf₀)
 
-abbrev decreases-loop : tie.decreases-loop
+abbrev decreases-loop : tie.decreases-loop-n
 decreases-loop fd buf₀ n₀ buf n = length buf - n
 
 pub read_whole_spec : {M : Type 1} → statement M

@@ -9,13 +9,13 @@ use Rattle.offer.proofs.Search.{found_pass, found_still, found_stop, found_end}
 use Rattle.offer.proofs.found_in.Statement.{statement}
 use Rattle.offer.proofs.found_in.Tie as tie
 
-abbrev invariant-loop : tie.invariant-loop
+abbrev invariant-loop : tie.invariant-loop-i
 invariant-loop count want es n i₀ i =
     (i ≤ n) × (n ≡ min count 128) × (length es ≡ 128)
     × (i + place want (element_ids (drop i (take n es))) ≡ place want (element_ids (take n es)))
     × (hits want (element_ids (drop i (take n es))) ≡ hits want (element_ids (take n es)))
 
-abbrev decreases-loop : tie.decreases-loop
+abbrev decreases-loop : tie.decreases-loop-i
 decreases-loop count want es n i₀ i = n - i
 
 pub found_in_spec : {M : Type 1} → statement M
@@ -25,7 +25,7 @@ found_in_spec =
     invariant-loop
     decreases-loop
     (λ c κs. search rules)
-    (λ c. (search rules, search rules, c.before.well-formed.0.1.0.1, search rules, refl))
+    (λ c. (search rules, search rules, c.before.well_formed.0.1.0.1, search rules, refl))
     (λ c. search rules)
     (λ c. search rules)
     (λ c κs. search rules)

@@ -9,11 +9,11 @@ use Rattle.offer.proofs.Check.{walk_bad, walk_on, walk_few, walk_end, follow_fit
 use Rattle.offer.proofs.walk.Statement.{statement}
 use Rattle.offer.proofs.walk.Tie as tie
 
-abbrev invariant-loop : tie.invariant-loop
+abbrev invariant-loop : tie.invariant-loop-i
 invariant-loop n es i₀ last₀ total₀ i last total =
     (i ≤ n) × (length es ≡ 128) × (total ≤ 2 ^ 48) × (walk_from last total (drop i (take n es)) ≡ walk_from 0 0 (take n es))
 
-abbrev decreases-loop : tie.decreases-loop
+abbrev decreases-loop : tie.decreases-loop-i
 decreases-loop n es i₀ last₀ total₀ i last total = n - i
 
 pub walk_spec : {M : Type 1} → statement M
@@ -22,7 +22,7 @@ walk_spec =
     (tie.spec
     invariant-loop
     decreases-loop
-    (λ c. (search rules, c.well-formed.0.1.0.1, search rules, refl))
+    (λ c. (search rules, c.well_formed.0.1.0.1, search rules, refl))
     (λ c. search rules)
     (λ c. search rules)
     (λ c κs. search rules)

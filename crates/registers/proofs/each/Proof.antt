@@ -9,4 +9,4 @@ each_spec =
     (tie.spec
     (λ c κs. search rules)
     (λ c κs. search rules)
-    (λ c. simp (c.both2.ensures, c.before.both.ensures)))
+    (λ c. simp (c.both-2.ensures, c.before.both.ensures)))

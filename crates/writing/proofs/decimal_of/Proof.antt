@@ -6,10 +6,10 @@ use Rattle.writing.proofs.Spelled.{Spelled, spelled_room, spelled_next, spelled-
 use Rattle.writing.proofs.decimal_of.Statement.{statement}
 use Rattle.writing.proofs.decimal_of.Tie as tie
 
-abbrev invariant-loop : tie.invariant-loop
+abbrev invariant-loop : tie.invariant-loop-rest
 invariant-loop n t₀ rest₀ m₀ t rest m = Spelled n t rest m
 
-abbrev decreases-loop : tie.decreases-loop
+abbrev decreases-loop : tie.decreases-loop-rest
 decreases-loop n t₀ rest₀ m₀ t rest m = rest
 
 pub decimal_of_spec : {M : Type 1} → statement M
@@ -23,7 +23,7 @@ decimal_of_spec =
     (λ c. search rules)
     (λ c. search (spelled_room))
     (λ c. omega arith)
-    (λ c. let l = c.before.loop in
+    (λ c. let l = c.before.loop-rest in
     omega (arith, spelled_room c.before.before.args.n l.t l.rest l.m l.invariant))
     (λ c. search rules)
     (λ c. search (spelled_next))
@@ -31,6 +31,6 @@ decimal_of_spec =
     (λ c. search rules)
     (λ c. search (spelled_room))
     (λ c. omega arith)
-    (λ c. let l = c.before.loop in
+    (λ c. let l = c.before.loop-rest in
     omega (arith, spelled_room c.before.before.args.n l.t l.rest l.m l.invariant))
     (λ c. search (spelled-all)))

@@ -13,4 +13,4 @@ eight_spec =
     (λ c κs. search rules)
     (λ c. search rules)
     (λ c. search rules)
-    (λ c. parts_bytes 4 c.before.before.args.n _ _ _ c.before.four.ensures c.four2.ensures.0 refl))
+    (λ c. parts_bytes 4 c.before.before.args.n _ _ _ c.before.four.ensures c.four-2.ensures.0 refl))

@@ -12,6 +12,6 @@ four_spec =
     (tie.spec
     (λ c κs. search rules)
     (λ c κs. search rules)
-    (λ c. omega (arith, c.two2.ensures.1))
+    (λ c. omega (arith, c.two-2.ensures.1))
     (λ c. search rules)
-    (λ c. (parts_bytes 2 c.before.before.args.n _ _ _ c.before.two.ensures c.two2.ensures.0 refl, omega arith)))
+    (λ c. (parts_bytes 2 c.before.before.args.n _ _ _ c.before.two.ensures c.two-2.ensures.0 refl, omega arith)))

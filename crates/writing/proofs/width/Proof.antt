@@ -10,4 +10,4 @@ width_spec =
     tie.close
     (tie.spec
     (λ c κs. search rules)
-    (λ c. ap (λ (s : Spelling). s.count) c.decimal-of.ensures))
+    (λ c. ap (λ (s : Spelling). s.count) c.decimal_of.ensures))

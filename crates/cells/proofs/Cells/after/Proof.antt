@@ -16,6 +16,6 @@ after_spec =
     (λ c κs. search rules)
     (λ c. let s = c.before.before.before.before.before.before.before.before in
     made s.args.self s.args.store _ _ _ _ _
-    (c.before.before.before.before.native-after.ensures s.args.self refl) (c.before.before.before.accessible-after.ensures s.args.self refl)
-    (c.healths-after.ensures s.args.self refl) (c.before.before.failed-after.ensures s.args.self refl)
-    (c.before.note-after.ensures s.args.self refl)))
+    (c.before.before.before.before.native_after-native.ensures s.args.self refl) (c.before.before.before.accessible_after-accessible.ensures s.args.self refl)
+    (c.healths_after-healths.ensures s.args.self refl) (c.before.before.failed_after-failed.ensures s.args.self refl)
+    (c.before.note_after-note.ensures s.args.self refl)))

@@ -22,5 +22,5 @@ put_some_spec =
     let two = three.before.before.before.before in
     let one = two.before.before.before.before in
     let s = one.before.before.before.before in
-    row_some s.args.buf.now s.args.at s.args.self _ _ _ _ one.put-some8.ensures two.put-some82.ensures three.put-some83.ensures four.put-some84.ensures)
+    row_some s.args.buf.now s.args.at s.args.self _ _ _ _ one.put_some8.ensures two.put_some8-then-at-buf.ensures three.put_some8-then-at-buf-2.ensures four.put_some8-then-at-buf-3.ensures)
     (λ c. search (cut_none)))
