@@ -123,6 +123,9 @@ class Speller:
             w = m.group(0)
             out.append(text[at : m.start()])
             at = m.end()
+            if text[: m.start()].count('"') % 2:
+                out.append(w)
+                continue
             dotted = m.start() > 0 and text[m.start() - 1] in ".«"
             if w in clash and not dotted:
                 w += "_lem"

@@ -50,7 +50,7 @@ put_asked_spec =
     let asks = whole.before in
     let turn = asks.before.before.before in
     let l = turn.before.loop in
-    walk_next _ _ _ _ turn.before.before.before.before.before.before.args.part.now l.at l.i l.part l.invariant turn.loop-test.true _ asks.before.does-ask.ensures (not-false _ asks.if1.false) whole.if2.false _
+    walk_next _ _ _ _ turn.before.before.before.before.before.before.args.part.now l.at l.i l.part l.invariant turn.loop-test.true _ asks.before.does-ask.ensures asks.if1.false whole.if2.false _
     put.auto.1.1.1.1.0 put.ensures)
     (λ c. search rules)
     (λ c. search (asked-all)))

@@ -7,10 +7,10 @@ use Rattle.status.proofs.Places.{list_none, count_fits}
 use Rattle.status.proofs.fill.Statement.{statement}
 use Rattle.status.proofs.fill.Tie as tie
 
-abbrev invariant-loop : tie.invariant-loop
+abbrev invariant-loop : tie.invariant-loop-i
 invariant-loop d request buf ps hs n places₀ number₀ i₀ places number i = Listing ps hs request n places number i
 
-abbrev decreases-loop : tie.decreases-loop
+abbrev decreases-loop : tie.decreases-loop-i
 decreases-loop d request buf ps hs n places₀ number₀ i₀ places number i = n - i
 
 pub fill_spec : {M : Type 1} → statement M
@@ -20,7 +20,7 @@ fill_spec =
     invariant-loop
     decreases-loop
     (λ c κs. search rules)
-    (λ c. let g = c.before.before.before.before.well-formed in
+    (λ c. let g = c.before.before.before.before.well_formed in
     (search rules, search rules, simp length-map at g.0.1.1.0.1.1.0.1.0.1, simp length-map at g.0.1.1.1.0.1.1.1.1.0.1.0.1, list_none _ _ _))
     (λ c. search rules)
     (λ c. search rules)
@@ -29,12 +29,12 @@ fill_spec =
     (λ c. search rules)
     (λ c κs. search rules)
     (λ c. search rules)
-    (λ c. record { fits = count_fits _ c.does-ask.result (search rules) })
+    (λ c. record { fits = count_fits _ c.does_ask.result (search rules) })
     (λ c. search rules)
     (λ c. search rules)
     (λ c. let turn = c.before.before in
-    let l = turn.before.loop in
-    listing_next _ _ _ _ l.places l.number l.i l.invariant turn.loop-test.true c.does-ask.result c.does-ask.ensures)
+    let l = turn.before.loop-i in
+    listing_next _ _ _ _ l.places l.number l.i l.invariant turn.loop-i-test.true c.does_ask.result c.does_ask.ensures)
     (λ c. search rules)
     (λ c. search rules)
     (λ c. search rules)
