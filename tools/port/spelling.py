@@ -132,6 +132,8 @@ class Speller:
             elif WORD.match(w) and changes(w) and (w in fields if dotted else w not in keep):
                 self.names[w] = self.new(w)
                 w = self.names[w]
+            elif re.match(r"◌[a-z]\w*[A-Z]\w*◌$", w):
+                w = "◌" + hump(w[1:-1]) + "◌"
             out.append(w)
         return "".join(out) + text[at:]
 

@@ -1,6 +1,5 @@
 -- `status::fill`. The invariant: the places put down are those of what is asked for of the first i.
 use Prim.Native.Nat.{◌-◌}
-use lib.ListN.{length-map}
 use borrow.Author.Rules.{rules}
 use Rattle.status.proofs.Page.{Listing, listing_next, listing_all, filled}
 use Rattle.status.proofs.Places.{list_none, count_fits}
@@ -21,7 +20,7 @@ fill_spec =
     decreases-loop
     (λ c κs. search rules)
     (λ c. let g = c.before.before.before.before.well_formed in
-    (search rules, search rules, simp length-map at g.0.1.1.0.1.1.0.1.0.1, simp length-map at g.0.1.1.1.0.1.1.1.1.0.1.0.1, list_none _ _ _))
+    (search rules, search rules, search rules, search rules, list_none _ _ _))
     (λ c. search rules)
     (λ c. search rules)
     (λ c. search rules)
