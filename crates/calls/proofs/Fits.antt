@@ -1,15 +1,13 @@
 -- A device that the code has: its types bound its numbers. A fact of a struct holds one of each field, and a fact of an array its length and
 -- one of each element.
 use Prim.Native.Nat.{ℕ, ◌^◌, ◌<◌}
-use mathlib.Core.List.{List, [], ◌∷◌, map}
+use mathlib.Core.List.{List, [], ◌∷◌}
 use mathlib.Core.Path.{◌≡◌, sym, subst, ◌∙◌}
 use native.Mathlib.Omega.{arith}
-use lib.ListN.{length-map}
-use mir.Syntax.{w8}
 use mir.Val.{Val}
 use denote.Array.{each}
 use denote.Laws.{Is}
-use denote.Plain.{UInt}
+use denote.Builtin.{u8}
 use denote.RattleType.{RattleType}
 use denote.Shadow.{shadow}
 use Rattle.cells.specs.contracts.Note as Note
@@ -26,11 +24,11 @@ use Rattle.table.specs.declared.Part.{Part}
 use Rattle.calls.proofs.Data.{device}
 
 -- what a fact of an element tells holds of each element of an array
-pub of_each : (R : RattleType) {B : Type 0} (into : B → R.Denot) (P : B → Type 0) → ((x : B) (vs : List Val) → Is R (into x) vs → P x)
-    → (xs : List B) (us : List Val) → shadow (each R.Denot R.own_val (map into xs) us) → Every P xs
-of_each R into P tells [] us s = tt
-of_each R into P tells (x ∷ xs) [] s = absurd s
-of_each R into P tells (x ∷ xs) (u ∷ us) s = (tells x (u ∷ []) s.0, of_each R into P tells xs us s.1)
+pub of_each : (R : RattleType) (P : R.Denot → Type 0) → ((x : R.Denot) (vs : List Val) → Is R x vs → P x)
+    → (xs : List R.Denot) (us : List Val) → shadow (each R.Denot R.own_val xs us) → Every P xs
+of_each R P tells [] us s = tt
+of_each R P tells (x ∷ xs) [] s = absurd s
+of_each R P tells (x ∷ xs) (u ∷ us) s = (tells x (u ∷ []) s.0, of_each R P tells xs us s.1)
 
 pub part_fits : (p : Part) (vs : List Val) → Is Part.the_row p vs → PartFits p
 part_fits p vs is =
@@ -50,10 +48,10 @@ device_fits d is =
     let parts = table.0 in
     let healths = cells.1.1.0 in
     record {
-      full = sym (length-map d.table.parts (Part.the_type).to) ∙ parts.1.0.1;
-      each = of_each (Part.the_field).row (Part.the_type).to PartFits part_fits d.table.parts parts.0 parts.1.1;
-      celled = sym (length-map d.cells.healths (λ (h : ℕ). h)) ∙ healths.1.0.1;
-      healths = of_each (UInt w8) (λ (h : ℕ). h) (λ (h : ℕ). h < 2 ^ 8) (λ h vs low. low.1) d.cells.healths healths.0 healths.1.1;
+      full = parts.1.0.1;
+      each = of_each Part.the_row PartFits part_fits d.table.parts parts.0 parts.1.1;
+      celled = healths.1.0.1;
+      healths = of_each u8 (λ h. h < 2 ^ 8) (λ h vs low. low.1) d.cells.healths healths.0 healths.1.1;
       limit = table.1.1.0.1;
       noted = note_fits d.cells.note _ cells.1.1.1.1.0;
     }

@@ -11,10 +11,10 @@ use Rattle.comparison.proofs.Comparison.{measure_none, measure_first, measure_en
 use Rattle.comparison.proofs.measure.Statement.{statement}
 use Rattle.comparison.proofs.measure.Tie as tie
 
-abbrev invariant-loop : tie.invariant-loop
+abbrev invariant-loop : tie.invariant-loop-hit
 invariant-loop older newer accepted size₀ at₀ size at = size + length (lines_from true older newer at) ≡ length (lines_from accepted older newer first)
 
-abbrev decreases-loop : tie.decreases-loop
+abbrev decreases-loop : tie.decreases-loop-hit
 decreases-loop older newer accepted size₀ at₀ size at = ahead older newer at
 
 pub measure_spec : {M : Type 1} → statement M

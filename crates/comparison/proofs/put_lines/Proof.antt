@@ -7,10 +7,10 @@ use Rattle.comparison.proofs.Comparison.{Rest, rest_first, put_end, put_next, fo
 use Rattle.comparison.proofs.put_lines.Statement.{statement}
 use Rattle.comparison.proofs.put_lines.Tie as tie
 
-abbrev invariant-loop : tie.invariant-loop
+abbrev invariant-loop : tie.invariant-loop-hit
 invariant-loop older newer accepted out₀ frame size₀ at₀ out size at = Rest out₀ older newer accepted out size at × (length out ≡ length out₀)
 
-abbrev decreases-loop : tie.decreases-loop
+abbrev decreases-loop : tie.decreases-loop-hit
 decreases-loop older newer accepted out₀ frame size₀ at₀ out size at = ahead older newer at
 
 pub put_lines_spec : {M : Type 1} → statement M
@@ -29,4 +29,4 @@ put_lines_spec =
     (λ c. search (put_end))
     (λ c κs. search rules)
     (λ c. search (found_less))
-    (λ c. (search (put_next), c.before.before.before.put-line.auto.1.1.1.0 ∙ c.before.before.before.before.before.before.before.before.before.loop.invariant.1)))
+    (λ c. (search (put_next), c.before.before.before.put_line-size.auto.out.1.1.0 ∙ c.before.before.before.before.before.before.before.before.before.loop-hit.invariant.1)))

@@ -14,5 +14,5 @@ call_spec =
     (λ c. search rules)
     (λ c κs. search rules)
     (λ c. search rules)
-    (λ c. let over = c.before.before.answer-over in
-    called _ _ _ _ _ c.before.before.before.before.smaller.ensures over.result _ over.ensures.0 _ over.ensures.1 (search rules)))
+    (λ c. let over = c.before.before.answer_over-said in
+    called _ _ _ _ _ c.before.before.before.before.smaller-room.ensures over.result _ over.ensures.0 _ over.ensures.1 (search rules)))
