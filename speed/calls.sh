@@ -22,7 +22,11 @@ END
 
     cp "$here/reach.txt" "$work/reach/src/main.rt"
     named=$(awk '{ gsub(/[^A-Za-z_:]/, " "); for (i = 1; i <= NF; i++) if ($i ~ /^[a-z_]+::/) { sub(/::.*/, "", $i); if (!seen[$i]++) print $i } }' "$here/reach.txt")
-    try build_over "$named" "$work/reach" reach src/main.rt "$work/reach/main.o" --toolchain "$work/tools"
+    set -- build_over "$named" "$work/reach" reach src/main.rt "$work/reach/main.o" --toolchain "$work/tools"
+    "$@" > "$work/log" 2>&1 || { # Its libraries are not there, or not of one piece.
+        (cd "$home/crates/calls" && rt lib) > "$work/log" 2>&1 || { tail -n 5 "$work/log" >&2; die "crate calls was not built"; }
+        try "$@"
+    }
     [ -s "$work/options" ] || die "the kit's compiler was not called at -O3"
 }
 
