@@ -123,12 +123,17 @@ class Speller:
             w = m.group(0)
             out.append(text[at : m.start()])
             at = m.end()
+            if text[: m.start()].count('"') % 2:
+                out.append(w)
+                continue
             dotted = m.start() > 0 and text[m.start() - 1] in ".«"
             if w in clash and not dotted:
                 w += "_lem"
             elif WORD.match(w) and changes(w) and (w in fields if dotted else w not in keep):
                 self.names[w] = self.new(w)
                 w = self.names[w]
+            elif re.match(r"◌[a-z]\w*[A-Z]\w*◌$", w):
+                w = "◌" + hump(w[1:-1]) + "◌"
             out.append(w)
         return "".join(out) + text[at:]
 

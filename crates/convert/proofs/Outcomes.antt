@@ -11,7 +11,7 @@ use Rattle.layout.specs.Bytes.{header_in, laid, returned_of}
 use Rattle.layout.specs.declared.Header.{Header}
 use Rattle.offences.proofs.Laid.{length-laid}
 use Rattle.offences.specs.Checks.{base_of}
-use Rattle.offences.specs.First.{unless, ◌orElse◌}
+use Rattle.offences.specs.First.{unless, ◌or_else◌}
 use Rattle.offences.specs.declared.Offence.TheVariants.{Clean, At}
 use Rattle.offences.specs.declared.Offence.{Offence}
 use Rattle.paper.proofs.Output.{written_small, written_done, refusal_writes_nothing}

@@ -3,7 +3,7 @@ use Rattle.std.specs.Prelude.{ℕ, ◌+◌, ◌-◌, ◌*◌, Bool, ◌&&◌, Li
 use Rattle.layout.specs.Bytes.{header_in, laid}
 use Rattle.layout.specs.declared.Descriptor.{Descriptor}
 use Rattle.offences.specs.Checks.{base_of, descriptor_at}
-use Rattle.offences.specs.First.{unless, ◌orElse◌}
+use Rattle.offences.specs.First.{unless, ◌or_else◌}
 use Rattle.offences.specs.declared.Offence.TheVariants.{Clean, At}
 use Rattle.offences.specs.declared.Offence.{Offence}
 use Rattle.paper.specs.Output.{Output, output, written}

@@ -14,7 +14,7 @@ use Rattle.convert.specs.Convert.{list_in, turned, paged, scsi_offence, fits_pag
 use Rattle.layout.specs.Bytes.{header_in, laid, returned_of}
 use Rattle.layout.specs.declared.Header.{Header}
 use Rattle.offences.specs.Checks.{base_of, descriptor_at, last_before}
-use Rattle.offences.specs.First.{unless, ◌orElse◌}
+use Rattle.offences.specs.First.{unless, ◌or_else◌}
 use Rattle.offences.specs.declared.Offence.TheVariants.{Clean}
 use Rattle.offences.specs.declared.Offence.{Offence}
 use Rattle.paper.specs.Told.{tells}

@@ -6,7 +6,7 @@ use Rattle.paper.specs.Elements.{removed_health}
 use Rattle.request.specs.Requests.{filter_of, report_type_of, takes_id, takes_type, takes_health}
 use Rattle.request.specs.declared.Request.{Request}
 use Rattle.words.specs.declared.Order.{Order}
-use Rattle.offences.specs.First.{unless, ◌orElse◌}
+use Rattle.offences.specs.First.{unless, ◌or_else◌}
 use Rattle.offences.specs.declared.Offence.{Offence}
 
 -- where descriptor k starts

@@ -8,9 +8,9 @@ abbrev pub unless : Bool → ℕ → Offence
 unless true place = Clean
 unless false place = At place
 
-infixr 20 ◌orElse◌
+infixr 20 ◌or_else◌
 -- the first check's offence, else the second's
-abbrev pub ◌orElse◌ : Offence → Offence → Offence
+abbrev pub ◌or_else◌ : Offence → Offence → Offence
 Clean or_else b = b
 At place or_else b = At place
 

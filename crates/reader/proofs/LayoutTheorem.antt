@@ -12,7 +12,7 @@ use Rattle.layout.specs.Bytes.{header_in, returned_of}
 use Rattle.layout.specs.declared.Descriptor.{Descriptor}
 use Rattle.layout.specs.declared.Header.{Header}
 use Rattle.offences.specs.Checks.{base_of, descriptor_at, last_before, in_turn, earned, check_of, offence_at}
-use Rattle.offences.specs.First.{unless, ◌orElse◌, first_below}
+use Rattle.offences.specs.First.{unless, ◌or_else◌, first_below}
 use Rattle.offences.specs.declared.Offence.TheVariants.{Clean, At}
 use Rattle.offences.specs.declared.Offence.{Offence}
 use Rattle.paper.specs.Elements.{storage_type, removed_health, slow, graded_health}

@@ -15,7 +15,7 @@ use Rattle.layout.specs.Reserved.{in_descriptor, DescriptorsAlike}
 use Rattle.layout.specs.declared.Header.{Header}
 use Rattle.offences.proofs.Checks.{before_same, list_same}
 use Rattle.offences.specs.Checks.{base_of, descriptor_at, last_before}
-use Rattle.offences.specs.First.{unless, ◌orElse◌, first_below}
+use Rattle.offences.specs.First.{unless, ◌or_else◌, first_below}
 use Rattle.request.specs.Requests.{pages_of, refused}
 use Rattle.request.specs.declared.Request.{Request}
 use Rattle.words.specs.declared.Order.{Order}

@@ -2,7 +2,7 @@
 use Rattle.std.specs.Prelude.{ℕ, ◌+◌, ◌-◌, ◌*◌, not, List, eqb, length, get_or}
 use Rattle.layout.specs.Bytes.{header_in, returned_of}
 use Rattle.offences.specs.Checks.{base_of, offence_at}
-use Rattle.offences.specs.First.{unless, ◌orElse◌, first_below}
+use Rattle.offences.specs.First.{unless, ◌or_else◌, first_below}
 use Rattle.offences.specs.declared.Offence.{Offence}
 use Rattle.request.specs.Requests.{pages_of, refused}
 use Rattle.request.specs.declared.Request.{Request}

@@ -25,7 +25,7 @@ Examples =
     (Says "element 10003 1 70 1f4 0" (Element (record { id = record { 0 = 0x1_0003 }; kind = 1; health = 0x70; unreported = 0; spare = 0; blocks = 500 })))
     × (Says "command unlocked 12 4100 1 0 200" (Command (record { security = Unlocked; code = 0x12; feature = 0x4100; count = 1; lba = record { 0 = 0 }; length = 512 })))
     × (Says "   make    2  " (Make 2))
-    × (Says "grade a_bc_d CF" (Grade (record { id = record { 0 = 0xABCD }; health = 0xCF })))
+    × (Says "grade aBcD CF" (Grade (record { id = record { 0 = 0xABCD }; health = 0xCF })))
     × (Says "length 0000000000010000" (Page (Length 0x1_0000)))
     × (Says "length 10001" NotACall)
     × (Says "next 100 1 10010" (Page (Next (record { feature = 0x100; count = record { 0 = 1 }; lba = record { 0 = 0x1_0010 } }))))

@@ -10,7 +10,7 @@ use Rattle.layout.proofs.Reserved.{header_reserved, descriptor_reserved}
 use Rattle.layout.specs.Bytes.{header_in}
 use Rattle.offences.proofs.Checks.{list_same}
 use Rattle.offences.specs.Checks.{base_of, descriptor_at}
-use Rattle.offences.specs.First.{unless, ◌orElse◌}
+use Rattle.offences.specs.First.{unless, ◌or_else◌}
 use Rattle.query.specs.Queries.{due_four, asked}
 use Rattle.query.specs.declared.Query.{Query}
 use Rattle.words.specs.declared.Order.{Order}

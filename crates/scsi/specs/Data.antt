@@ -2,7 +2,7 @@
 use Rattle.std.specs.Prelude.{ℕ, ◌-◌, ◌/◌, ◌%◌, min, Bool, not, ◌&&◌, List, eqb, leb, ltb, length}
 use Rattle.layout.specs.Bytes.{header_in}
 use Rattle.offences.specs.Checks.{base_of, offence_at}
-use Rattle.offences.specs.First.{unless, ◌orElse◌, first_below}
+use Rattle.offences.specs.First.{unless, ◌or_else◌, first_below}
 use Rattle.offences.specs.declared.Offence.{Offence}
 use Rattle.query.specs.Queries.{due_four, asked}
 use Rattle.query.specs.declared.Query.{Query}

@@ -11,7 +11,7 @@ use Rattle.convert.proofs.Outcomes.{unless_clean, or_clean, length-turned, page_
 use Rattle.convert.specs.Convert.{turned, paged, scsi_offence, ata_offence, heard, outcome, to_scsi, to_ata}
 use Rattle.convert.specs.declared.Converted.TheVariants.{Refused}
 use Rattle.convert.specs.declared.Converted.{Converted}
-use Rattle.offences.specs.First.{◌orElse◌}
+use Rattle.offences.specs.First.{◌or_else◌}
 use Rattle.offences.specs.declared.Offence.TheVariants.{Clean, At}
 use Rattle.offences.specs.declared.Offence.{Offence}
 use Rattle.query.specs.Queries.{plain}

@@ -1,7 +1,7 @@
 -- Request 2026-03, `./recorder convert`: what a file is converted to, and the lent buffer.
 use Rattle.std.specs.Prelude.{ℕ, List, leb, length}
 use Rattle.convert.specs.Convert.{turned, paged, scsi_offence, ata_offence, Outcome, outcome}
-use Rattle.offences.specs.First.{unless, ◌orElse◌}
+use Rattle.offences.specs.First.{unless, ◌or_else◌}
 use Rattle.offences.specs.declared.Offence.{Offence}
 use Rattle.paper.specs.Told.{Told}
 use Rattle.query.specs.Queries.{plain}

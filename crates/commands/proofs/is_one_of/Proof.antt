@@ -8,10 +8,10 @@ use Rattle.commands.proofs.Codes.{one_hit, one_pass, one_none}
 use Rattle.commands.proofs.is_one_of.Statement.{statement}
 use Rattle.commands.proofs.is_one_of.Tie as tie
 
-abbrev invariant-loop : tie.invariant-loop
+abbrev invariant-loop : tie.invariant-loop-i
 invariant-loop code codes i₀ i = (i ≤ length codes) × (one_of code (drop i codes) ≡ one_of code codes)
 
-abbrev decreases-loop : tie.decreases-loop
+abbrev decreases-loop : tie.decreases-loop-i
 decreases-loop code codes i₀ i = length codes - i
 
 pub is_one_of_spec : {M : Type 1} → statement M

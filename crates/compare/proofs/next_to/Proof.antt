@@ -9,11 +9,11 @@ use Rattle.compare.proofs.Steps.{pair_first, pair_again, pair_ends, pair_rest}
 use Rattle.compare.proofs.next_to.Statement.{statement}
 use Rattle.compare.proofs.next_to.Tie as tie
 
-abbrev invariant-loop : tie.invariant-loop
+abbrev invariant-loop : tie.invariant-loop-k
 invariant-loop older newer frame end i j n k₀ k =
     (next_to older newer frame (cursor i j) ≡ next_to older newer frame (cursor (i + k) (j + k))) × (k ≤ n)
 
-abbrev decreases-loop : tie.decreases-loop
+abbrev decreases-loop : tie.decreases-loop-k
 decreases-loop older newer frame end i j n k₀ k = n - k
 
 pub next_to_spec : {M : Type 1} → statement M
@@ -26,15 +26,15 @@ next_to_spec =
     (λ c. (search (pair_first), omega arith))
     (λ c. search rules)
     (λ c. search rules)
-    (λ c κs. (c.before.before.pairs.ensures.there c.before.loop.k (omega arith)).0)
-    (λ c κs. (c.before.before.before.pairs.ensures.there c.before.before.loop.k (omega arith)).1)
+    (λ c κs. (c.before.before.pairs-n.ensures.there c.before.loop-k.k (omega arith)).0)
+    (λ c κs. (c.before.before.before.pairs-n.ensures.there c.before.before.loop-k.k (omega arith)).1)
     (λ c κs. search rules)
     (λ c κs. search rules)
     (λ c. search (pair_ends, not-true))
     (λ c. search rules)
     (λ c. search rules)
     (λ c. let turn = c.before.before.before.before.before in (
-      pair_again _ _ _ _ _ _ turn.before.pairs.ensures (omega arith) _ _ c.before.before.before.whole-at.ensures c.before.before.whole-at2.ensures _ c.before.do-agree.ensures turn.loop.invariant.0 (c.if1.false),
+      pair_again _ _ _ _ _ _ turn.before.pairs-n.ensures (omega arith) _ _ c.before.before.before.whole_at-d.ensures c.before.before.whole_at-e.ensures _ c.before.do_agree.ensures turn.loop-k.invariant.0 (c.if-not-do_agree.false),
       omega arith,
     ))
     (λ c. search rules)

@@ -13,5 +13,5 @@ step_by_spec =
     (λ c. search (step_done))
     (λ c κs. let nearer = c.before.smaller.ensures in
     let given = c.before.before.before.requires in
-    (λ l. given.0 (least_first _ _ _ _ nearer c.if1.false l), λ l. given.1 (least_second _ _ _ _ nearer c.if1.false l)))
+    (λ l. given.0 (least_first _ _ _ _ nearer c.if-end-smaller.false l), λ l. given.1 (least_second _ _ _ _ nearer c.if-end-smaller.false l)))
     (λ c. search (step_found)))

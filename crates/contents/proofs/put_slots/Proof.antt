@@ -12,10 +12,10 @@ use Rattle.contents.proofs.Contents.{slots_next}
 use Rattle.contents.proofs.put_slots.Statement.{statement}
 use Rattle.contents.proofs.put_slots.Tie as tie
 
-abbrev invariant-loop : tie.invariant-loop
+abbrev invariant-loop : tie.invariant-loop-k
 invariant-loop out₀ from bytes count o at₀ k₀ out at k = Puts out₀ from (slots_below (slot_at o bytes) k) out at × (k ≤ count) × (length out ≡ length out₀)
 
-abbrev decreases-loop : tie.decreases-loop
+abbrev decreases-loop : tie.decreases-loop-k
 decreases-loop out₀ from bytes count o at₀ k₀ out at k = count - k
 
 pub put_slots_spec : {M : Type 1} → statement M
@@ -29,8 +29,8 @@ put_slots_spec =
     (λ c κs. search rules)
     (λ c. search rules)
     (λ c. search rules)
-    (λ c. (search (slots_next), omega arith, c.before.before.put-slot.auto.0 ∙ c.before.before.before.before.before.before.loop.invariant.2))
+    (λ c. (search (slots_next), omega arith, c.before.before.put_slot-at.auto.out ∙ c.before.before.before.before.before.before.loop-k.invariant.2))
     (λ c. search rules)
-    (λ c. let l = c.before.loop in
+    (λ c. let l = c.before.loop-k in
     let all : l.k ≡ c.before.before.before.before.args.count = omega arith in
     rw all at l.invariant.0))

@@ -6,10 +6,10 @@ use Rattle.convert.proofs.Turned.{PutBefore, put_none, put_on, put_all}
 use Rattle.convert.proofs.put_list.Statement.{statement}
 use Rattle.convert.proofs.put_list.Tie as tie
 
-abbrev invariant-loop : tie.invariant-loop
+abbrev invariant-loop : tie.invariant-loop-at
 invariant-loop bytes count from buf₀ to end at₀ buf at = PutBefore from to bytes count buf₀ buf at
 
-abbrev decreases-loop : tie.decreases-loop
+abbrev decreases-loop : tie.decreases-loop-at
 decreases-loop bytes count from buf₀ to end at₀ buf at = end - at
 
 pub put_list_spec : {M : Type 1} → statement M
@@ -36,9 +36,9 @@ put_list_spec =
     (λ c. search rules)
     (λ c. let made = c.before.before.before.before in
     let turn = made.before.before in
-    let l = turn.before.loop in
+    let l = turn.before.loop-at in
     let s = turn.before.before.before.before.before in
-    put_on _ _ _ _ _ l.buf l.at l.invariant s.requires.1 turn.loop-test.true (l.at + 32 - l.at) (omega arith) _ made.turned-part.ensures _
+    put_on _ _ _ _ _ l.buf l.at l.invariant s.requires.1 turn.loop-at-test.true (l.at + 32 - l.at) (omega arith) _ made.turned_part-row.ensures _
     c.before.before.put.ensures)
     (λ c. search rules)
     (λ c. search (put_all)))

@@ -8,10 +8,10 @@ use Rattle.dump.proofs.Dump.{touched_here, touched_next, touched_none}
 use Rattle.dump.proofs.first_touched.Statement.{statement}
 use Rattle.dump.proofs.first_touched.Tie as tie
 
-abbrev invariant-loop : tie.invariant-loop
+abbrev invariant-loop : tie.invariant-loop-i
 invariant-loop lent from i₀ i = first_touched i (drop i lent) ≡ first_touched from (drop from lent)
 
-abbrev decreases-loop : tie.decreases-loop
+abbrev decreases-loop : tie.decreases-loop-i
 decreases-loop lent from i₀ i = length lent - i
 
 pub first_touched_spec : {M : Type 1} → statement M

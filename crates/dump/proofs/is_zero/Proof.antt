@@ -8,10 +8,10 @@ use Rattle.dump.proofs.Dump.{zero-not, zero_next, zero-all}
 use Rattle.dump.proofs.is_zero.Statement.{statement}
 use Rattle.dump.proofs.is_zero.Tie as tie
 
-abbrev invariant-loop : tie.invariant-loop
+abbrev invariant-loop : tie.invariant-loop-k
 invariant-loop bytes k₀ k = is_zero (drop k (take 32 bytes)) ≡ is_zero (take 32 bytes)
 
-abbrev decreases-loop : tie.decreases-loop
+abbrev decreases-loop : tie.decreases-loop-k
 decreases-loop bytes k₀ k = 32 - k
 
 pub is_zero_spec : {M : Type 1} → statement M

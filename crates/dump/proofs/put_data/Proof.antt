@@ -18,6 +18,6 @@ put_data_spec =
     (λ c κs. search rules)
     (λ c. search rules)
     (λ c. let s = c.before.before.before.before.before.before.before.before.before.args in
-    let last = c.before.before.put-lines in
-    let text : Puts s.out.now s.at (data_text s.bytes.now) last.new.0 last.result = search (data_puts) in
+    let last = c.before.before.put_lines in
+    let text : Puts s.out.now s.at (data_text s.bytes.now) last.new.out last.result = search (data_puts) in
     (search (whole_stored_in, not-false, enough_for_data), search (whole_ended_in, not-false, enough_for_data))))

@@ -10,10 +10,10 @@ use Rattle.dump.proofs.Dump.{row_there, rows_none, rows_next}
 use Rattle.dump.proofs.put_rows.Statement.{statement}
 use Rattle.dump.proofs.put_rows.Tie as tie
 
-abbrev invariant-loop : tie.invariant-loop
+abbrev invariant-loop : tie.invariant-loop-k
 invariant-loop out₀ at page n end₀ k₀ out end k = Puts out₀ at (rows_below page k) out end × (k ≤ n) × (length out ≡ length out₀)
 
-abbrev decreases-loop : tie.decreases-loop
+abbrev decreases-loop : tie.decreases-loop-k
 decreases-loop out₀ at page n end₀ k₀ out end k = n - k
 
 pub put_rows_spec : {M : Type 1} → statement M
@@ -32,6 +32,6 @@ put_rows_spec =
     (λ c. search rules)
     (λ c. (search (rows_next), omega arith, search rules))
     (λ c. search rules)
-    (λ c. let l = c.before.loop in
+    (λ c. let l = c.before.loop-k in
     let all : l.k ≡ c.before.before.before.before.args.n = omega arith in
     rw all at l.invariant.0))

@@ -9,10 +9,10 @@ use Rattle.dump.proofs.Dump.{begun, row_next, row-all}
 use Rattle.dump.proofs.row.Statement.{statement}
 use Rattle.dump.proofs.row.Tie as tie
 
-abbrev invariant-loop : tie.invariant-loop
+abbrev invariant-loop : tie.invariant-loop-k
 invariant-loop bytes line₀ k₀ line k = (line ≡ begun bytes k) × (k ≤ 32) × (length line ≡ 65)
 
-abbrev decreases-loop : tie.decreases-loop
+abbrev decreases-loop : tie.decreases-loop-k
 decreases-loop bytes line₀ k₀ line k = 32 - k
 
 pub row_spec : {M : Type 1} → statement M

@@ -9,10 +9,10 @@ use Rattle.dump.proofs.Dump.{last_there, shown_here, shown_less, shown_none}
 use Rattle.dump.proofs.shown_rows.Statement.{statement}
 use Rattle.dump.proofs.shown_rows.Tie as tie
 
-abbrev invariant-loop : tie.invariant-loop
+abbrev invariant-loop : tie.invariant-loop-k
 invariant-loop page n k₀ k = (rows_shown page k ≡ rows_shown page n) × (k ≤ n)
 
-abbrev decreases-loop : tie.decreases-loop
+abbrev decreases-loop : tie.decreases-loop-k
 decreases-loop page n k₀ k = k
 
 pub shown_rows_spec : {M : Type 1} → statement M

@@ -7,10 +7,10 @@ use Rattle.entries.proofs.Entries.{PutBefore, put_missing, put_none, put_there, 
 use Rattle.entries.proofs.put_each.Statement.{statement}
 use Rattle.entries.proofs.put_each.Tie as tie
 
-abbrev invariant-loop : tie.invariant-loop
+abbrev invariant-loop : tie.invariant-loop-place
 invariant-loop bytes count o out₀ from end at₀ place₀ out at place = PutBefore o bytes count out₀ from place out at × (length out ≡ length out₀)
 
-abbrev decreases-loop : tie.decreases-loop
+abbrev decreases-loop : tie.decreases-loop-place
 decreases-loop bytes count o out₀ from end at₀ place₀ out at place = end - place
 
 pub put_each_spec : {M : Type 1} → statement M
@@ -33,9 +33,9 @@ put_each_spec =
     (λ c. search rules)
     (λ c. let put = c.before.before in
     let read = put.before.before in
-    let l = read.before.before.before.loop in (
-      put_on _ _ _ _ _ _ _ _ l.invariant.0 read.before.before.loop-test.true _ read.read.ensures _ _ put.put-descriptor.ensures.0 put.put-descriptor.ensures.1,
-      put.put-descriptor.auto.0 ∙ l.invariant.1,
+    let l = read.before.before.before.loop-place in (
+      put_on _ _ _ _ _ _ _ _ l.invariant.0 read.before.before.loop-place-test.true _ read.read-d.ensures _ _ put.put_descriptor-at.ensures.0 put.put_descriptor-at.ensures.1,
+      put.put_descriptor-at.auto.out ∙ l.invariant.1,
     ))
     (λ c. search rules)
     (λ c. search (put_all)))

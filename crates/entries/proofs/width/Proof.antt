@@ -9,10 +9,10 @@ use Rattle.entries.proofs.Entries.{none_wide, all_wide, measure_next, measure_ro
 use Rattle.entries.proofs.width.Statement.{statement}
 use Rattle.entries.proofs.width.Tie as tie
 
-abbrev invariant-loop : tie.invariant-loop
+abbrev invariant-loop : tie.invariant-loop-k
 invariant-loop bytes count o size₀ k₀ size k = (size ≡ length (lines_below o bytes k)) × (k ≤ count)
 
-abbrev decreases-loop : tie.decreases-loop
+abbrev decreases-loop : tie.decreases-loop-k
 decreases-loop bytes count o size₀ k₀ size k = count - k
 
 pub width_spec : {M : Type 1} → statement M

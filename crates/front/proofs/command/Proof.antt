@@ -14,5 +14,5 @@ command_spec =
     (λ c. search rules)
     (λ c κs. search rules)
     (λ c. search rules)
-    (λ c. let over = c.before.before.command-over.ensures in
-    called _ _ _ _ _ c.before.before.before.before.smaller.ensures (search rules) _ _ over.0 over.1))
+    (λ c. let over = c.before.before.command_over.ensures in
+    called _ _ _ _ _ c.before.before.before.before.smaller-n.ensures (search rules) _ _ over.0 over.1))

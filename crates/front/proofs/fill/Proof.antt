@@ -9,10 +9,10 @@ use Rattle.front.proofs.Front.{fill_next, fill_all}
 use Rattle.front.proofs.fill.Statement.{statement}
 use Rattle.front.proofs.fill.Tie as tie
 
-abbrev invariant-loop : tie.invariant-loop
+abbrev invariant-loop : tie.invariant-loop-i
 invariant-loop lent₀ i₀ lent i = (lent ≡ replicate i 0xA5 ++ drop i lent₀) × (i ≤ length lent₀) × (length lent ≡ length lent₀)
 
-abbrev decreases-loop : tie.decreases-loop
+abbrev decreases-loop : tie.decreases-loop-i
 decreases-loop lent₀ i₀ lent i = length lent₀ - i
 
 pub fill_spec : {M : Type 1} → statement M
@@ -25,6 +25,6 @@ fill_spec =
     (λ c. search rules)
     (λ c. search rules)
     (λ c. search rules)
-    (λ c. (fill_next _ _ _ c.before.loop.invariant.0 (omega arith), omega arith, search rules))
+    (λ c. (fill_next _ _ _ c.before.loop-i.invariant.0 (omega arith), omega arith, search rules))
     (λ c. search rules)
     (λ c. search (fill_all)))

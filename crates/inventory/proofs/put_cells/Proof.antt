@@ -18,6 +18,6 @@ put_cells_spec =
     (λ c κs. search rules)
     (λ c. search rules)
     (λ c. let s = c.before.before.before.before.before.before.before.before.before.before.before.before.before.before.before.args in
-    let last = c.before.before.put-elements in
-    let text : Puts s.out.now s.at (cells_of s.d) last.new.0 last.result = search (cells_puts) in
+    let last = c.before.before.put_elements in
+    let text : Puts s.out.now s.at (cells_of s.d) last.new.out last.result = search (cells_puts) in
     (search (whole_stored_in, not-false, length_cells), search (whole_ended_in, not-false, length_cells))))

@@ -6,10 +6,10 @@ use Rattle.offences.proofs.Checks.{swept_none, swept_all, swept_found, swept_nex
 use Rattle.offences.proofs.check_list.Statement.{statement}
 use Rattle.offences.proofs.check_list.Tie as tie
 
-abbrev invariant-loop : tie.invariant-loop
+abbrev invariant-loop : tie.invariant-loop-request
 invariant-loop page request count o end next₀ next = Swept o page request count next.at next.last.0
 
-abbrev decreases-loop : tie.decreases-loop
+abbrev decreases-loop : tie.decreases-loop-request
 decreases-loop page request count o end next₀ next = end - next.at
 
 pub check_list_spec : {M : Type 1} → statement M

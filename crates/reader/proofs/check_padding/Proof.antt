@@ -12,10 +12,10 @@ use Rattle.reader.specs.Page.{padding_at}
 use Rattle.reader.proofs.check_padding.Statement.{statement}
 use Rattle.reader.proofs.check_padding.Tie as tie
 
-abbrev invariant-loop : tie.invariant-loop
+abbrev invariant-loop : tie.invariant-loop-i
 invariant-loop page from count i₀ i = (i ≤ count) × (count ≡ length page - from) × (from ≤ length page) × (first_below i (padding_at page from) ≡ Clean)
 
-abbrev decreases-loop : tie.decreases-loop
+abbrev decreases-loop : tie.decreases-loop-i
 decreases-loop page from count i₀ i = count - i
 
 pub check_padding_spec : {M : Type 1} → statement M
@@ -30,7 +30,7 @@ check_padding_spec =
     (λ c. search rules)
     (λ c. search rules)
     (λ c. let s = c.before.before.before.before.args in
-    let l = c.before.before.before.loop in
+    let l = c.before.before.before.loop-i in
     let f = padding_at s.page.now s.from in
     let set : get_or s.page.now (s.from + l.i) 0 ≡ 0 → ⊥ = search rules in
     let seen : f l.i ≡ At (s.from + l.i) = rw (ne_eqb _ _ set) in
@@ -38,11 +38,11 @@ check_padding_spec =
     (λ c. search rules)
     (λ c. search rules)
     (λ c. let s = c.before.before.before.before.args in
-    let l = c.before.before.before.loop in
+    let l = c.before.before.before.loop-i in
     let f = padding_at s.page.now s.from in
     let clear : get_or s.page.now (s.from + l.i) 0 ≡ 0 = search rules in
     let seen : f l.i ≡ Clean = rw (eq-eqb _ _ clear) in
     (search rules, refl, search rules, first_more f l.i l.invariant.3 seen))
     (λ c. let s = c.before.before.args in
-    let l = c.before.loop in
+    let l = c.before.loop-i in
     sym (first_done (padding_at s.page.now s.from) (length s.page.now - s.from) l.i (omega arith) (omega arith) l.invariant.3)))

@@ -11,6 +11,6 @@ descriptor_width_spec =
     (tie.spec
     (λ c κs. search rules)
     (λ c. let d = c.before.args.d in
-    let capacity = c.capacity-width in
+    let capacity = c.capacity_width in
     omega (arith, width_line d capacity.result capacity.ensures, length_line d))
     (λ c. search (width_line)))

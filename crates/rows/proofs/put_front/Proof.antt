@@ -20,6 +20,6 @@ put_front_spec =
     (λ c. search rules)
     (λ c. search rules)
     (λ c κs. search rules)
-    (λ c. let few : 6 + c.before.before.put-capacity.result ≤ 26 = search (front_few) in omega arith)
+    (λ c. let few : 6 + c.before.before.put_capacity.result ≤ 26 = search (front_few) in omega arith)
     (λ c. search rules)
     (λ c. (search (front-stored), search (front_wide))))

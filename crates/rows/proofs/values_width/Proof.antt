@@ -11,6 +11,6 @@ values_width_spec =
     (tie.spec
     (λ c κs. search rules)
     (λ c. let d = c.before.args.d in
-    let capacity = c.capacity-width in
+    let capacity = c.capacity_width in
     omega (arith, width_values d capacity.result capacity.ensures, length_values d))
     (λ c. search (width_values)))

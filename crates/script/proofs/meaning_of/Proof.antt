@@ -11,7 +11,7 @@ use Rattle.script.proofs.Says.{meaning_long, meaning_short}
 
 -- the line's array
 long : (c : tie.Start) → length c.args.line.bytes ≡ 200
-long c = length_unmapped ℕ c.args.line.bytes 200 c.well-formed.0.1.1.0.1.0.1
+long c = search rules
 
 pub meaning_of_spec : {M : Type 1} → statement M
 meaning_of_spec =

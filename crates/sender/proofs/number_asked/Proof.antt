@@ -7,10 +7,10 @@ use Rattle.sender.proofs.Sending.{Counted, counted_none, counted_low, counted_le
 use Rattle.sender.proofs.number_asked.Statement.{statement}
 use Rattle.sender.proofs.number_asked.Tie as tie
 
-abbrev invariant-loop : tie.invariant-loop
+abbrev invariant-loop : tie.invariant-loop-i
 invariant-loop request ps hs n number₀ i₀ number i = Counted ps hs request n number i
 
-abbrev decreases-loop : tie.decreases-loop
+abbrev decreases-loop : tie.decreases-loop-i
 decreases-loop request ps hs n number₀ i₀ number i = n - i
 
 pub number_asked_spec : {M : Type 1} → statement M
@@ -20,14 +20,14 @@ number_asked_spec =
     invariant-loop
     decreases-loop
     (λ c κs. search rules)
-    (λ c. let g = c.before.before.before.well-formed in
-    counted_none _ _ _ _ (search rules) (simp length-map at g.0.1.1.0.1.1.0.1.0.1) (simp length-map at g.0.1.1.1.0.1.1.1.1.0.1.0.1))
+    (λ c. let g = c.before.before.before.well_formed in
+    counted_none _ _ _ _ (search rules) (search rules) (search rules))
     (λ c. search rules)
     (λ c. search rules)
     (λ c. search rules)
     (λ c κs. search rules)
     (λ c. search rules)
-    (λ c. record { fits = count_fits _ c.does-ask.result (search (counted_less)) })
+    (λ c. record { fits = count_fits _ c.does_ask.result (search (counted_less)) })
     (λ c. search rules)
     (λ c. search rules)
     (λ c. search (counted_next))

@@ -7,10 +7,10 @@ use Rattle.sender.proofs.Sending.{Walked, walk_none, walk-past, walk_next, asked
 use Rattle.sender.proofs.put_asked.Statement.{statement}
 use Rattle.sender.proofs.put_asked.Tie as tie
 
-abbrev invariant-loop : tie.invariant-loop
+abbrev invariant-loop : tie.invariant-loop-i
 invariant-loop request part₀ ps hs n at₀ i₀ part at i = Walked ps hs request n part₀ at i part
 
-abbrev decreases-loop : tie.decreases-loop
+abbrev decreases-loop : tie.decreases-loop-i
 decreases-loop request part₀ ps hs n at₀ i₀ part at i = n - i
 
 pub put_asked_spec : {M : Type 1} → statement M
@@ -20,8 +20,8 @@ put_asked_spec =
     invariant-loop
     decreases-loop
     (λ c κs. search rules)
-    (λ c. let g = c.before.before.before.before.well-formed in
-    walk_none _ _ _ _ _ (search rules) (simp length-map at g.0.1.1.0.1.1.0.1.0.1) (simp length-map at g.0.1.1.1.0.1.1.1.1.0.1.0.1))
+    (λ c. let g = c.before.before.before.before.well_formed in
+    walk_none _ _ _ _ _ (search rules) (search rules) (search rules))
     (λ c. search rules)
     (λ c. search rules)
     (λ c. search rules)
@@ -45,12 +45,12 @@ put_asked_spec =
     (λ c. search rules)
     (λ c. search rules)
     (λ c. search rules)
-    (λ c. let put = c.before.before.put-shown in
+    (λ c. let put = c.before.before.put_shown in
     let whole = c.before.before.before.before.before in
     let asks = whole.before in
     let turn = asks.before.before.before in
-    let l = turn.before.loop in
-    walk_next _ _ _ _ turn.before.before.before.before.before.before.args.part.now l.at l.i l.part l.invariant turn.loop-test.true _ asks.before.does-ask.ensures (not-false _ asks.if1.false) whole.if2.false _
-    put.auto.1.1.1.1.0 put.ensures)
+    let l = turn.before.loop-i in
+    walk_next _ _ _ _ turn.before.before.before.before.before.before.args.part.now l.at l.i l.part l.invariant turn.loop-i-test.true _ asks.before.does_ask.ensures asks.if-not-does_ask.false whole.if-part-at.false _
+    put.auto.buf put.ensures)
     (λ c. search rules)
     (λ c. search (asked-all)))

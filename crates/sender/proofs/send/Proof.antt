@@ -25,5 +25,5 @@ send_spec =
     let counted = sized.before in
     let judged = counted.before.before.before in
     let s = judged.before.before in
-    sent_done s.args.d s.args.query s.args.allocation s.args.buf.now _ judged.is-refused.ensures (search rules) _ counted.before.for-pages.ensures _
-    counted.number-asked.ensures.0 _ sized.smaller.ensures c.before.before.before.before.if2.false _ c.before.before.fill-part.ensures))
+    sent_done s.args.d s.args.query s.args.allocation s.args.buf.now _ judged.is_refused.ensures (search rules) _ counted.before.for_pages-request.ensures _
+    counted.number_asked-number.ensures.0 _ sized.smaller-size.ensures c.before.before.before.before.if-buf-size.false _ c.before.before.fill_part.ensures))

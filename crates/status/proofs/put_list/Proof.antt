@@ -14,12 +14,12 @@ use Rattle.status.proofs.Places.{slot_below, slot_fits, slot_times}
 use Rattle.status.proofs.put_list.Statement.{statement}
 use Rattle.status.proofs.put_list.Tie as tie
 
-abbrev invariant-loop : tie.invariant-loop
+abbrev invariant-loop : tie.invariant-loop-k
 invariant-loop returned buf₀ ps hs places k₀ buf k =
     (k ≤ returned) × (length buf ≡ length buf₀) × (length places ≡ 128) × (length ps ≡ 128) × (length hs ≡ 128)
     × (buf ≡ stored buf₀ 32 (flat (descriptor_bytes Little) (take k (shown_there ps hs places returned))))
 
-abbrev decreases-loop : tie.decreases-loop
+abbrev decreases-loop : tie.decreases-loop-k
 decreases-loop returned buf₀ ps hs places k₀ buf k = returned - k
 
 pub put_list_spec : {M : Type 1} → statement M
@@ -28,7 +28,7 @@ put_list_spec =
     (tie.spec
     invariant-loop
     decreases-loop
-    (λ c. (search rules, search rules, search rules, c.before.well-formed.0.1.0.1, search rules, sym (stored_none _ 32)))
+    (λ c. (search rules, search rules, search rules, c.before.well_formed.0.1.0.1, search rules, sym (stored_none _ 32)))
     (λ c. search rules)
     (λ c. record { fits = search (slot_fits) })
     (λ c. record { fits = search (slot_times) })
@@ -39,12 +39,12 @@ put_list_spec =
     (λ c κs. search rules)
     (λ c. search rules)
     (λ c. search rules)
-    (λ c. let put = c.before.before.put-shown in
+    (λ c. let put = c.before.before.put_shown in
     let turn = c.before.before.before.before.before.before in
-    let l = turn.loop in
+    let l = turn.loop-k in
     let s = turn.before.before in (
       search rules,
-      put.auto.1.1.1.1.0 ∙ l.invariant.1,
+      put.auto.buf ∙ l.invariant.1,
       l.invariant.2,
       l.invariant.3,
       l.invariant.4,

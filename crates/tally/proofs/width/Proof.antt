@@ -11,9 +11,9 @@ width_spec =
     tie.close
     (tie.spec
     (λ c κs. search rules)
-    (λ c. let few : c.digits-width.result ≤ 40 = search (digits_few) in omega arith)
+    (λ c. let few : c.digits_width.result ≤ 40 = search (digits_few) in omega arith)
     (λ c. search (torn_wide))
     (λ c κs. search rules)
-    (λ c. let few : c.digits-width2.result ≤ 40 = search (digits_few) in omega arith)
+    (λ c. let few : c.digits_width-then-whole-number.result ≤ 40 = search (digits_few) in omega arith)
     (λ c. search (cut_wide))
     (λ c. search (none_wide)))

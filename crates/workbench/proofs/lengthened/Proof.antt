@@ -10,4 +10,4 @@ lengthened_spec =
     (λ c κs. search rules)
     (λ c κs. search rules)
     (λ c. search rules)
-    (λ c. simp (c.before.with-element.ensures, c.bounded.ensures)))
+    (λ c. simp (c.before.with_element.ensures, c.bounded.ensures)))

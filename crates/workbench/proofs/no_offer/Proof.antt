@@ -8,4 +8,4 @@ no_offer_spec =
     tie.close
     (tie.spec
     (λ c κs. search rules)
-    (λ c. simp c.blank.ensures))
+    (λ c. simp c.blank-blank.ensures))

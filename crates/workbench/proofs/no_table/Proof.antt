@@ -8,4 +8,4 @@ no_table_spec =
     tie.close
     (tie.spec
     (λ c κs. search rules)
-    (λ c. simp c.blank_part.ensures))
+    (λ c. simp c.blank_part-blank.ensures))

@@ -27,5 +27,5 @@ element_call_spec =
     let health = blocks.before in
     let kind = health.before in
     let id = kind.before in
-    element_is _ _ _ _ _ _ id.field-at.ensures.0 kind.field-at2.ensures.0 health.field-at3.ensures.0 blocks.field-at4.ensures.0 flag.field-at5.ensures.0 _ _
-    figures.each.ensures c.before.each2.ensures _ made.element-of.ensures _ c.fitting.ensures))
+    element_is _ _ _ _ _ _ id.field_at-id.ensures.0 kind.field_at-kind.ensures.0 health.field_at-health.ensures.0 blocks.field_at-blocks.ensures.0 flag.field_at-flag.ensures.0 _ _
+    figures.each-figures.ensures c.before.each.ensures _ made.element_of-offered.ensures _ c.fitting.ensures))

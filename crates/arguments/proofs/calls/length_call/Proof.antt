@@ -11,4 +11,4 @@ length_call_spec =
     (tie.spec
     (λ c κs. search rules)
     (λ c κs. search rules)
-    (λ c. simp (c.fitting.ensures, c.before.field-at.ensures.0)))
+    (λ c. simp (c.fitting.ensures, c.before.field_at-given.ensures.0)))

@@ -12,4 +12,4 @@ make_call_spec =
     (λ c κs. search rules)
     (λ c. search rules)
     (λ c κs. search rules)
-    (λ c. simp (c.fitting.ensures, c.before.before.field-at.ensures.0)))
+    (λ c. simp (c.fitting.ensures, c.before.before.field_at-limit.ensures.0)))

@@ -11,4 +11,4 @@ next_call_spec =
     (tie.spec
     (λ c κs. search rules)
     (λ c κs. search rules)
-    (λ c. simp (c.fitting.ensures, c.before.before.asked-at.ensures)))
+    (λ c. simp (c.fitting.ensures, c.before.before.asked_at-asked.ensures)))

@@ -11,4 +11,4 @@ scsiread_call_spec =
     (tie.spec
     (λ c κs. search rules)
     (λ c κs. search rules)
-    (λ c. simp (c.fitting.ensures, c.before.before.query-in.ensures)))
+    (λ c. simp (c.fitting.ensures, c.before.before.query_in-asked.ensures)))

@@ -9,4 +9,4 @@ after_making_spec =
     (tie.spec
     (λ c κs. search rules)
     (λ c κs. search rules)
-    (λ c. simp (c.before.no-offer.ensures, c.is_made.ensures)))
+    (λ c. simp (c.before.no_offer.ensures, c.is_made.ensures)))

@@ -9,4 +9,4 @@ empty_spec =
     (tie.spec
     (λ c κs. search rules)
     (λ c κs. search rules)
-    (λ c. simp (c.before.no-offer.ensures, c.no-device.ensures)))
+    (λ c. simp (c.before.no_offer.ensures, c.no_device.ensures)))

@@ -8,4 +8,4 @@ offer_spec =
     tie.close
     (tie.spec
     (λ c κs. search rules)
-    (λ c. simp c.lengthened.ensures))
+    (λ c. simp c.lengthened-longer.ensures))

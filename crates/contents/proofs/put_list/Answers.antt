@@ -1,0 +1,7 @@
+-- `contents::put_list`.
+use borrow.Author.Rules.{rules}
+use Rattle.contents.proofs.Contents.{list_puts}
+use Rattle.contents.proofs.put_list.Goals as goal
+
+pub returns : goal.returns
+returns c = search (list_puts)

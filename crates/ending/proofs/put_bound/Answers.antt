@@ -1,0 +1,7 @@
+-- `ending::put_bound`.
+use borrow.Author.Rules.{rules}
+use Rattle.ending.proofs.Ending.{bound_puts}
+use Rattle.ending.proofs.put_bound.Goals as goal
+
+pub returns : goal.returns
+returns c = search (bound_puts)

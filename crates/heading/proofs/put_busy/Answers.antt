@@ -1,0 +1,7 @@
+-- `heading::put_busy`.
+use borrow.Author.Rules.{rules}
+use Rattle.heading.proofs.Heading.{busy_puts}
+use Rattle.heading.proofs.put_busy.Goals as goal
+
+pub returns : goal.returns
+returns c = search (busy_puts)

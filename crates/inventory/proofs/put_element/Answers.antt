@@ -1,0 +1,7 @@
+-- `inventory::put_element`.
+use borrow.Author.Rules.{rules}
+use Rattle.inventory.proofs.Inventory.{element_puts}
+use Rattle.inventory.proofs.put_element.Goals as goal
+
+pub returns : goal.returns
+returns c = search (element_puts)

@@ -1,0 +1,7 @@
+-- `inventory::put_end`.
+use borrow.Author.Rules.{rules}
+use Rattle.inventory.proofs.Inventory.{end_puts}
+use Rattle.inventory.proofs.put_end.Goals as goal
+
+pub returns : goal.returns
+returns c = search (end_puts)

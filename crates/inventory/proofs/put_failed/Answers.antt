@@ -1,0 +1,7 @@
+-- `inventory::put_failed`.
+use borrow.Author.Rules.{rules}
+use Rattle.inventory.proofs.Inventory.{failed_puts}
+use Rattle.inventory.proofs.put_failed.Goals as goal
+
+pub returns : goal.returns
+returns c = search (failed_puts)

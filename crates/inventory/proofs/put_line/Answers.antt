@@ -1,0 +1,7 @@
+-- `inventory::put_line`.
+use borrow.Author.Rules.{rules}
+use Rattle.inventory.proofs.Inventory.{line_puts}
+use Rattle.inventory.proofs.put_line.Goals as goal
+
+pub returns : goal.returns
+returns c = search (line_puts)

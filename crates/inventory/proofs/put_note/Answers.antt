@@ -1,0 +1,7 @@
+-- `inventory::put_note`.
+use borrow.Author.Rules.{rules}
+use Rattle.inventory.proofs.Inventory.{note_empty, note_full}
+use Rattle.inventory.proofs.put_note.Goals as goal
+
+pub returns-in-Empty : goal.returns-in-Empty
+returns-in-Empty c = search (note_empty)

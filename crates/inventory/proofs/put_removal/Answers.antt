@@ -1,0 +1,7 @@
+-- `inventory::put_removal`.
+use borrow.Author.Rules.{rules}
+use Rattle.inventory.proofs.Inventory.{removal_puts}
+use Rattle.inventory.proofs.put_removal.Goals as goal
+
+pub returns : goal.returns
+returns c = search (removal_puts)

@@ -1,0 +1,7 @@
+-- `rows::put_parts`.
+use borrow.Author.Rules.{rules}
+use Rattle.rows.proofs.Rows.{line_puts}
+use Rattle.rows.proofs.put_parts.Goals as goal
+
+pub returns : goal.returns
+returns c = search (line_puts)
