@@ -48,11 +48,12 @@ load() {
     exec ${emulator:+"$emulator"} "$tools/lib/ld-linux-x86-64.so.2" --library-path "$tools/lib" "$@"
 }
 
-# ---- A crate built over libraries of the repository HOME, as `rt` has proved them and left them in their out/rlib
+# ---- A crate over those of the repository in `home`, as rt has proved them and left them in their out/rlib
 
-# reach CRATE..: adds them and all that they build on to `libraries`.
+# reach CRATE..: adds them and all that they build on to `libraries`, but what is the kit's.
 reach() {
     for crate; do
+        [ -d "$home/crates/$crate" ] || continue
         case " $libraries " in *" $crate "*) continue ;; esac
         libraries="$libraries $crate"
         # shellcheck disable=SC2046
@@ -77,7 +78,7 @@ build_over() {
         --antt-project "$kit/rattle/logic/antt-project.json" --logic-built "$kit/logic_built" --jobs 2 --links "$crate_name=" --backend llvm "$@" -o "$made")
 }
 
-# stale FILE: whether a source of a crate of HOME is newer than it.
+# stale FILE: whether a source of a crate in `home` is newer than it.
 stale() {
     [ -n "$(cd "$home" && find crates crates.txt -path 'crates/*/out' -prune -o \( -path 'crates/*/*' -o -name crates.txt \) -newer "$1" -print | head -n 1)" ]
 }
