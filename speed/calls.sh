@@ -1,24 +1,15 @@
 # The calls of crate `calls` on a device, and those of the library for C, as compiled, beside plain C that does the same in place. The code of
-# the first is taken from the run of an unproved program. Read by `measure`.
+# the first is taken from a small program that reaches them. Read by `measure`.
 
-# reach CRATE: adds it and all that it builds on to `libraries`.
-reach() {
-    case " $libraries " in *" $1 "*) return ;; esac
-    libraries="$libraries $1"
-    for crate in $(sed -n "s/^$1: *//p" "$here/../crates.txt"); do reach "$crate"; done
-}
-
-# The module of the program that reaches the calls, over `calls` and all that it builds on, and the options that it is compiled with.
+# The module of that program, over `calls` and all that it builds on, and the options that it is compiled with.
 compile_module() {
-    cases=$kit/on/$(uname -m)/bin/rattle-cases
-    [ -x "$cases" ] || die "$cases is missing: the kit is not whole, or not for this machine"
-
     # The kit's tools, with a compiler that also keeps the module of the -O3 run and the options that it was given.
-    mkdir -p "$work/tools/bin" "$work/reach" || die "cannot write to $work"
+    mkdir -p "$work/tools/bin" "$work/reach/src" || die "cannot write to $work"
     ln -s "$tools/lib" "$work/tools/lib"
     ln -s "$tools/bin" "$work/tools/kit"
-    ln -s ../kit/ld.lld ../kit/llvm-ar "$work/tools/bin/"
-    [ -z "$emulator" ] || ln -s ../kit/qemu-x86_64 "$work/tools/bin/"
+    for tool in "$tools"/bin/*; do
+        [ "${tool##*/}" = clang ] || ln -s "../kit/${tool##*/}" "$work/tools/bin/"
+    done
     cat > "$work/tools/bin/clang" << 'END'
 #!/bin/sh
 tools=$(dirname "$(dirname "$0")")
@@ -29,14 +20,13 @@ exec "$tools/kit/clang" "$@"
 END
     chmod +x "$work/tools/bin/clang"
 
-    cp "$here/reach.txt" "$work/reach/main.rt"
-    libraries=
-    reach calls
-    set --
-    for crate in $libraries; do
-        set -- "$@" --lib "$crate=$here/../crates/$crate/src/lib.rt"
-    done
-    try "$cases" --toolchain "$work/tools" "$work/reach/main.rt" --crate-name reach --lib "std=$kit/libs/std/src/lib.rt" "$@"
+    cp "$here/reach.txt" "$work/reach/src/main.rt"
+    named=$(awk '{ gsub(/[^A-Za-z_:]/, " "); for (i = 1; i <= NF; i++) if ($i ~ /^[a-z_]+::/) { sub(/::.*/, "", $i); if (!seen[$i]++) print $i } }' "$here/reach.txt")
+    set -- build_over "$named" "$work/reach" reach src/main.rt "$work/reach/main.o" --toolchain "$work/tools"
+    "$@" > "$work/log" 2>&1 || { # Its libraries are not there, or not of one piece.
+        (cd "$home/crates/calls" && rt lib) > "$work/log" 2>&1 || { tail -n 5 "$work/log" >&2; die "crate calls was not built"; }
+        try "$@"
+    }
     [ -s "$work/options" ] || die "the kit's compiler was not called at -O3"
 }
 

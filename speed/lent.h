@@ -62,31 +62,29 @@ static void *const lent_calls[CALLS] = {
 
 static struct recorder_written call_lent(enum call call, const struct asked *a, uint8_t *page)
 {
-    uint8_t answer, security = a->security;
-    uint32_t id = a->count;
+    uint8_t answer;
     struct recorder_request request = {a->feature, a->count, a->lba};
     struct recorder_query query = {a->filter, a->type, 0};
     struct written written = {0};
-    struct buffer buf = {page, a->room};
     switch (call) {
     case REMOVE:
-        calls_remove(&answer, &lent, &security, a->feature, a->count, &a->lba);
+        answer = (uint8_t)calls_remove(&lent, a->security, a->feature, a->count, a->lba);
         break;
     case GRADE:
-        calls_grade(&answer, &lent, &id, a->health);
+        answer = (uint8_t)calls_grade(&lent, a->count, a->health);
         break;
     case COMMAND:
-        calls_command(&answer, &lent, &security, a->code, a->feature, a->count, &a->lba, &buf);
+        answer = (uint8_t)calls_command(&lent, a->security, a->code, a->feature, a->count, a->lba, page, a->room);
         break;
     case SHOW:
-        calls_show(&answer, &lent, &security, &request, &buf);
+        answer = (uint8_t)calls_show(&lent, a->security, &request, page, a->room);
         break;
     case SEND:
-        calls_send(&written, &lent, &query, a->allocation, &buf);
+        written = calls_send(&lent, &query, a->allocation, page, a->room);
         answer = written.answer;
         break;
     default:
-        ((void (*)(uint8_t *, struct device *))lent_calls[call])(&answer, &lent);
+        answer = (uint8_t)((uint32_t (*)(struct device *))lent_calls[call])(&lent);
     }
     return (struct recorder_written){written.count, answer < sizeof numbers ? numbers[answer] : 0xFF};
 }

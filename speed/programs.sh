@@ -3,7 +3,7 @@
 
 build_programs() {
     for program in list dock turn diff bench; do
-        [ -x "$programs/$program" ] || die "$programs/$program is missing"
+        [ -x "$home/crates/$program/out/$program" ] || die "crates/$program/out/$program is missing"
     done
     make_object counter "$here/counter.c" -fPIC -O1
     try "$tools/bin/ld.lld" -shared -o "$work/counter.so" "$work/counter.o" "$tools/lib/libc.so.6"
@@ -101,7 +101,7 @@ try_counter() {
 
 # both PROGRAM NAME INPUT [WORD..]: the proved one and the one in C, at once.
 both() {
-    proved=$programs/$1 plain=$work/$2
+    proved=$home/crates/$1/out/$1 plain=$work/$2
     shift 2
     cd "$work/$size" || die "cannot enter $work/$size" # A file's whole name would cost instructions too.
     count ours "$proved" "$@" & first=$!

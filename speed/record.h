@@ -34,23 +34,19 @@ struct written {
     size_t count;
 };
 
-struct buffer {
-    uint8_t *bytes;
-    size_t length;
-};
-
 // An answer comes back by its place in `paper::Answer`; these are its numbers in document 01.
 static const uint8_t numbers[] = {0, 1, 2, 3, 4, 5, 6, 7, 8, 10, 11};
 
-void calls_step(uint8_t *answer, struct device *d);
-void calls_media_error(uint8_t *answer, struct device *d);
-void calls_power_cut(uint8_t *answer, struct device *d);
-void calls_comreset(uint8_t *answer, struct device *d);
-void calls_hardware_reset(uint8_t *answer, struct device *d);
-void calls_software_reset(uint8_t *answer, struct device *d);
-void calls_remove(uint8_t *answer, struct device *d, const uint8_t *security, uint16_t feature, uint16_t count, const uint64_t *lba);
-void calls_grade(uint8_t *answer, struct device *d, const uint32_t *id, uint8_t health);
-void calls_command(uint8_t *answer, struct device *d, const uint8_t *security, uint8_t code, uint16_t feature, uint16_t count,
-                   const uint64_t *lba, const struct buffer *buf);
-void calls_show(uint8_t *answer, const struct device *d, const uint8_t *security, const struct recorder_request *request, const struct buffer *buf);
-void calls_send(struct written *written, const struct device *d, const struct recorder_query *query, uint32_t allocation, const struct buffer *buf);
+// Of the result's register the lowest byte is the answer.
+uint32_t calls_step(struct device *d);
+uint32_t calls_media_error(struct device *d);
+uint32_t calls_power_cut(struct device *d);
+uint32_t calls_comreset(struct device *d);
+uint32_t calls_hardware_reset(struct device *d);
+uint32_t calls_software_reset(struct device *d);
+uint32_t calls_remove(struct device *d, uint8_t security, uint16_t feature, uint16_t count, uint64_t lba);
+uint32_t calls_grade(struct device *d, uint32_t id, uint8_t health);
+uint32_t calls_command(struct device *d, uint8_t security, uint8_t code, uint16_t feature, uint16_t count, uint64_t lba, uint8_t *buf,
+                       size_t length);
+uint32_t calls_show(const struct device *d, uint8_t security, const struct recorder_request *request, uint8_t *buf, size_t length);
+struct written calls_send(const struct device *d, const struct recorder_query *query, uint32_t allocation, uint8_t *buf, size_t length);

@@ -1,6 +1,5 @@
-// The library that C links: c/recorder.h declares these functions and their structs. A slice is two arguments there, a pointer and a length.
-// The device's calls are thin over those of an image by value, as crate `calls` is over those of a device; the host's hand on what theirs say,
-// in numbers.
+// The calls of the library that C links (crate `recorder_c` exports them): c/recorder.h declares these functions and their structs. The device's
+// calls are thin over those of an image by value, as crate `calls` is over those of a device; the host's hand on what theirs say, in numbers.
 #![tactic(auto)]
 
 ghost use Rattle.std.specs.Prelude.{◌≡◌, length};
@@ -39,80 +38,71 @@ use spelt::{Count, Difference, Onward, Opened, Reading, Sense, Span, Stand, Turn
 // ---- The device
 
 // What every record of the code has, that its numbers fit their types, is promised here, where each run begins.
-#[unsafe(no_mangle)]
-pub extern "C" fn recorder_make(d: &mut Image, list: &[Element], limit: u16) -> u8
-    ensures { (tells result d.new ≡ made_in d.old list.now limit) × Fits (device_of d.new) }
+pub fn recorder_make(d: &mut Image, list: &[Element], limit: u16) -> u8
+    ensures { (tells result d.exit.now ≡ made_in d.entry.now list.now limit) × Fits (device_of d.exit.now) }
 {
     let r = (*d).make(copied(list), list.len(), limit);
     *d = r.image;
     r.answer
 }
 
-#[unsafe(no_mangle)]
-pub extern "C" fn recorder_step(d: &mut Image) -> u8
-    ensures { tells result d.new ≡ told_of d.old machine.step }
+pub fn recorder_step(d: &mut Image) -> u8
+    ensures { tells result d.exit.now ≡ told_of d.entry.now machine.step }
 {
     let r = (*d).step();
     *d = r.image;
     r.answer
 }
 
-#[unsafe(no_mangle)]
-pub extern "C" fn recorder_media_error(d: &mut Image) -> u8
-    ensures { tells result d.new ≡ told_of d.old machine.media_error }
+pub fn recorder_media_error(d: &mut Image) -> u8
+    ensures { tells result d.exit.now ≡ told_of d.entry.now machine.media_error }
 {
     let r = (*d).media_error();
     *d = r.image;
     r.answer
 }
 
-#[unsafe(no_mangle)]
-pub extern "C" fn recorder_power_cut(d: &mut Image) -> u8
-    ensures { tells result d.new ≡ told_of d.old machine.power_cut }
+pub fn recorder_power_cut(d: &mut Image) -> u8
+    ensures { tells result d.exit.now ≡ told_of d.entry.now machine.power_cut }
 {
     let r = (*d).power_cut();
     *d = r.image;
     r.answer
 }
 
-#[unsafe(no_mangle)]
-pub extern "C" fn recorder_comreset(d: &mut Image) -> u8
-    ensures { tells result d.new ≡ told_of d.old machine.comreset }
+pub fn recorder_comreset(d: &mut Image) -> u8
+    ensures { tells result d.exit.now ≡ told_of d.entry.now machine.comreset }
 {
     let r = (*d).comreset();
     *d = r.image;
     r.answer
 }
 
-#[unsafe(no_mangle)]
-pub extern "C" fn recorder_hardware_reset(d: &mut Image) -> u8
-    ensures { tells result d.new ≡ told_of d.old machine.hardware_reset }
+pub fn recorder_hardware_reset(d: &mut Image) -> u8
+    ensures { tells result d.exit.now ≡ told_of d.entry.now machine.hardware_reset }
 {
     let r = (*d).hardware_reset();
     *d = r.image;
     r.answer
 }
 
-#[unsafe(no_mangle)]
-pub extern "C" fn recorder_software_reset(d: &mut Image) -> u8
-    ensures { tells result d.new ≡ told_of d.old machine.software_reset }
+pub fn recorder_software_reset(d: &mut Image) -> u8
+    ensures { tells result d.exit.now ≡ told_of d.entry.now machine.software_reset }
 {
     let r = (*d).software_reset();
     *d = r.image;
     r.answer
 }
 
-#[unsafe(no_mangle)]
-pub extern "C" fn recorder_grade(d: &mut Image, id: ElementId, health: u8) -> u8
-    ensures { tells result d.new ≡ told_of d.old (machine.grade id health) }
+pub fn recorder_grade(d: &mut Image, id: ElementId, health: u8) -> u8
+    ensures { tells result d.exit.now ≡ told_of d.entry.now (machine.grade id health) }
 {
     let r = (*d).grade(id, health);
     *d = r.image;
     r.answer
 }
 
-#[unsafe(no_mangle)]
-pub extern "C" fn recorder_command(
+pub fn recorder_command(
     d: &mut Image,
     security: u8,
     code: u8,
@@ -121,8 +111,8 @@ pub extern "C" fn recorder_command(
     lba: Lba,
     buf: &mut [u8],
 ) -> u8
-    ensures { (tells result d.new ≡ told_of d.old (machine.command (security_of security) (record { code = code; feature = feature; count = count; lba = lba }) (length buf.old)))
-        × (buf.new ≡ lent (device_of d.old) (security_of security) (record { code = code; feature = feature; count = count; lba = lba }) buf.old) }
+    ensures { (tells result d.exit.now ≡ told_of d.entry.now (machine.command (security_of security) (record { code = code; feature = feature; count = count; lba = lba }) (length buf.old)))
+        × (buf.new ≡ lent (device_of d.entry.now) (security_of security) (record { code = code; feature = feature; count = count; lba = lba }) buf.old) }
 {
     let r = (*d).command(security, code, feature, count, lba, buf.len());
     *d = r.image;
@@ -132,15 +122,13 @@ pub extern "C" fn recorder_command(
     r.answer
 }
 
-#[unsafe(no_mangle)]
-pub extern "C" fn recorder_show(d: &Image, security: u8, request: Request, buf: &mut [u8]) -> u8
+pub fn recorder_show(d: &Image, security: u8, request: Request, buf: &mut [u8]) -> u8
     ensures { tells result buf.new ≡ shown (device_of d.now) (security_of security) request buf.old }
 {
     (*d).show(security, request, buf)
 }
 
-#[unsafe(no_mangle)]
-pub extern "C" fn recorder_send(d: &Image, query: Query, allocation: u32, buf: &mut [u8]) -> Count
+pub fn recorder_send(d: &Image, query: Query, allocation: u32, buf: &mut [u8]) -> Count
     ensures { tells result.answer (output result.count buf.new) ≡ sender.sent (device_of d.now) query allocation buf.old }
 {
     sent(*d, query, allocation, buf)
@@ -152,8 +140,7 @@ fn sent(d: Image, query: Query, allocation: u32, buf: &mut [u8]) -> Count
     spelt::count_of(d.send(query, allocation, buf))
 }
 
-#[unsafe(no_mangle)]
-pub extern "C" fn recorder_sense(number: u8) -> Sense
+pub fn recorder_sense(number: u8) -> Sense
     ensures { result ≡ spelt.sense_of (paper.sense_of number) }
 {
     spelt::sense_of(paper::sense_at(number))
@@ -161,82 +148,63 @@ pub extern "C" fn recorder_sense(number: u8) -> Sense
 
 // ---- The host
 
-#[unsafe(no_mangle)]
-pub extern "C" fn recorder_read(page: &[u8], request: Request) -> Reading
+pub fn recorder_read(page: &[u8], request: Request) -> Reading
     ensures { result ≡ spelt.page_reading (pages.read_of Little page.now request) }
 {
     spelt::page_reading(reader::read(page, request))
 }
 
-#[unsafe(no_mangle)]
-pub extern "C" fn recorder_descriptor(page: &[u8], k: u32) -> Stand
+pub fn recorder_descriptor(page: &[u8], k: u32) -> Stand
     ensures { result ≡ spelt.stand_of (pages.slot_of Little page.now k) }
 {
     spelt::stand_of(reader::descriptor(page, k))
 }
 
-#[unsafe(no_mangle)]
-pub extern "C" fn recorder_scsi_read(bytes: &[u8], query: Query) -> Reading
+pub fn recorder_scsi_read(bytes: &[u8], query: Query) -> Reading
     ensures { result ≡ spelt.data_reading (dock.read_of Big bytes.now query) }
 {
     spelt::data_reading(scsi::read(bytes, query))
 }
 
-#[unsafe(no_mangle)]
-pub extern "C" fn recorder_scsi_descriptor(bytes: &[u8], k: u32) -> Stand
+pub fn recorder_scsi_descriptor(bytes: &[u8], k: u32) -> Stand
     ensures { result ≡ spelt.stand_of (dock.slot_of Big bytes.now k) }
 {
     spelt::stand_of(scsi::descriptor(bytes, k))
 }
 
-#[unsafe(no_mangle)]
-pub extern "C" fn recorder_list(page: &[u8], out: &mut [u8]) -> Count
+pub fn recorder_list(page: &[u8], out: &mut [u8]) -> Count
     ensures { tells result.answer (output result.count out.new) ≡ listing.listed page.now out.old }
 {
     spelt::count_of(listing::list(page, out))
 }
 
-#[unsafe(no_mangle)]
-pub extern "C" fn recorder_scsi_list(bytes: &[u8], out: &mut [u8]) -> Count
+pub fn recorder_scsi_list(bytes: &[u8], out: &mut [u8]) -> Count
     ensures { tells result.answer (output result.count out.new) ≡ docklist.listed bytes.now out.old }
 {
     spelt::count_of(docklist::list(bytes, out))
 }
 
-#[unsafe(no_mangle)]
-pub extern "C" fn recorder_to_scsi(page: &[u8], request: Request, out: &mut [u8]) -> Turned
+pub fn recorder_to_scsi(page: &[u8], request: Request, out: &mut [u8]) -> Turned
     ensures { (result ≡ spelt.turned_of (to_scsi page.now request out.old))
         × (out.new ≡ buffer_of (to_scsi page.now request out.old).state) }
 {
     spelt::turned_of(convert::to_scsi(page, request, out))
 }
 
-#[unsafe(no_mangle)]
-pub extern "C" fn recorder_to_ata(
-    bytes: &[u8],
-    query: Query,
-    pages: PageCount,
-    out: &mut [u8],
-) -> Turned
+pub fn recorder_to_ata(bytes: &[u8], query: Query, pages: PageCount, out: &mut [u8]) -> Turned
     ensures { (result ≡ spelt.turned_of (to_ata bytes.now query pages.0 out.old))
         × (out.new ≡ buffer_of (to_ata bytes.now query pages.0 out.old).state) }
 {
     spelt::turned_of(convert::to_ata(bytes, query, pages, out))
 }
 
-#[unsafe(no_mangle)]
-pub extern "C" fn recorder_next(page: &[u8], request: Request) -> Onward
+pub fn recorder_next(page: &[u8], request: Request) -> Onward
     ensures { result ≡ spelt.onward_of (walk.next_of page.now request) }
 {
     spelt::onward_of(walk::next(page, request))
 }
 
-#[unsafe(no_mangle)]
-pub extern "C" fn recorder_next_request(
-    request: Request,
-    start: ElementId,
-    pages: PageCount,
-) -> Request
+pub fn recorder_next_request(request: Request, start: ElementId, pages: PageCount) -> Request
     ensures { result ≡ walk.next_request request start pages }
 {
     walk::next_request(request, start, pages)
@@ -244,22 +212,19 @@ pub extern "C" fn recorder_next_request(
 
 // ---- Two pages compared
 
-#[unsafe(no_mangle)]
-pub extern "C" fn recorder_open(older: &[u8], newer: &[u8], request: Request) -> Opened
+pub fn recorder_open(older: &[u8], newer: &[u8], request: Request) -> Opened
     ensures { result ≡ spelt.opened_of (open_of older.now newer.now request) }
 {
     spelt::opened_of(reach::open(older, newer, request))
 }
 
-#[unsafe(no_mangle)]
-pub extern "C" fn recorder_next_difference(older: &[u8], newer: &[u8], from: Cursor) -> Difference
+pub fn recorder_next_difference(older: &[u8], newer: &[u8], from: Cursor) -> Difference
     ensures { result ≡ spelt.difference_of (comparing.next_of older.now newer.now from) }
 {
     spelt::difference_of(compare::next(older, newer, from))
 }
 
-#[unsafe(no_mangle)]
-pub extern "C" fn recorder_span(older: &[u8], newer: &[u8], difference: Difference) -> Span
+pub fn recorder_span(older: &[u8], newer: &[u8], difference: Difference) -> Span
     ensures { result ≡ spans.span_of older.now newer.now difference }
 {
     spelt::span_of(older, newer, difference)
