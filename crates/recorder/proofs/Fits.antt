@@ -2,12 +2,9 @@
 -- length and one of each element.
 use Prim.Native.Nat.{ℕ, ◌^◌, ◌<◌}
 use mathlib.Core.Bool.{Bool, true, false, cond}
-use mathlib.Core.List.{map}
-use mathlib.Core.Path.{◌≡◌, sym, subst, ◌∙◌}
+use mathlib.Core.Path.{◌≡◌, subst}
 use native.Mathlib.Omega.{arith}
-use lib.ListN.{length-map}
-use mir.Syntax.{w8}
-use denote.Plain.{UInt}
+use denote.Builtin.{u8}
 use Rattle.calls.proofs.Fits.{of_each, part_fits}
 use Rattle.cells.specs.declared.Note.TheVariants.{Empty, Full}
 use Rattle.cells.specs.declared.Note.{Note}
@@ -32,10 +29,10 @@ image_fits i is =
     let parts = fields.0 in
     let healths = fields.1.1.1.1.1.1.1.1.1.1.1.0 in
     record {
-      full = sym (length-map i.parts (Part.the_type).to) ∙ parts.1.0.1;
-      each = of_each (Part.the_field).row (Part.the_type).to PartFits part_fits i.parts parts.0 parts.1.1;
-      celled = sym (length-map i.healths (λ (h : ℕ). h)) ∙ healths.1.0.1;
-      healths = of_each (UInt w8) (λ (h : ℕ). h) (λ (h : ℕ). h < 2 ^ 8) (λ h vs low. low.1) i.healths healths.0 healths.1.1;
+      full = parts.1.0.1;
+      each = of_each Part.the_row PartFits part_fits i.parts parts.0 parts.1.1;
+      celled = healths.1.0.1;
+      healths = of_each u8 (λ h. h < 2 ^ 8) (λ h vs low. low.1) i.healths healths.0 healths.1.1;
       limit = fields.1.1.1.1.1.1.1.0.1;
       noted = noted_fits (removal_in i) fields.1.1.1.1.1.0.1.1.0.1 (is_on i.full);
     }
