@@ -2,7 +2,8 @@
 // reading fails, it says so on standard error and lists nothing.
 #![tactic(auto)]
 
-use libc::{STDIN_FILENO, STDOUT_FILENO};
+use input::Told;
+use std::process::ExitCode;
 
 // A byte more than may be listed, so that a longer input is seen.
 fn page_room() -> [u8; 65537] {
@@ -14,43 +15,45 @@ fn text_room() -> [u8; 80000] {
     [0u8; 80000]
 }
 
-fn list(bytes: &[u8]) {
+fn list(rt: &HostRuntime, bytes: &[u8]) -> Result<(), Told> {
     let mut out = text_room();
     let listed = docklist::list(bytes, &mut out);
     let size = listed.count;
-    if !io::write_all(STDOUT_FILENO, &out[..size]) {
-        os::fail(b"list: standard output");
-    }
+    input::hand_out(rt, b"list: standard output", &out[..size])
 }
 
-fn list_input() {
+fn list_input(rt: &HostRuntime) -> Result<(), Told> {
     let mut buf = page_room();
-    let data = input::read_whole(STDIN_FILENO, &mut buf);
-    if data.failed {
-        os::fail(b"list: standard input");
-        return;
-    }
-    let n = data.count;
-    list(&buf[..n]);
+    let n = input::read_input(rt, b"list: standard input", &mut buf)?;
+    list(rt, &buf[..n])
 }
 
-fn list_file(i: usize) {
-    input::write_name(i, b"\n");
+fn list_file(rt: &HostRuntime, i: usize) -> Result<(), Told> {
+    input::write_name(rt, b"list: standard output", i, b"\n")?;
     let mut buf = page_room();
-    let data = input::read_file(i, &mut buf);
-    if data.failed {
-        return;
-    }
-    let n = data.count;
-    list(&buf[..n]);
+    let n = input::read_file(rt, i, &mut buf)?;
+    list(rt, &buf[..n])
 }
 
-fn main() {
-    let n = os::arg_count();
-    if n < 2 {
-        list_input();
-    }
+// A file that cannot be listed does not keep the next from being listed.
+fn list_files(rt: &HostRuntime, n: usize) -> Result<(), Told> {
+    let mut ended = Ok(());
     for i in 1..n {
-        list_file(i);
+        if let Err(told) = list_file(rt, i) {
+            ended = Err(told);
+        }
     }
+    ended
+}
+
+fn list_all(rt: &HostRuntime) -> Result<(), Told> {
+    let n = input::arg_count(rt);
+    if n < 2 {
+        return list_input(rt);
+    }
+    list_files(rt, n)
+}
+
+fn main(rt: HostRuntime) -> ExitCode {
+    input::status(list_all(&rt))
 }

@@ -1,7 +1,8 @@
 // Lists the status page on standard input. If reading fails, it says so on standard error and lists nothing.
 #![tactic(auto)]
 
-use libc::{STDIN_FILENO, STDOUT_FILENO};
+use input::Told;
+use std::process::ExitCode;
 
 // A byte more than may be listed, so that a longer input is seen.
 fn page_room() -> [u8; 65537] {
@@ -13,18 +14,15 @@ fn text_room() -> [u8; 80000] {
     [0u8; 80000]
 }
 
-fn main() {
+fn list(rt: &HostRuntime) -> Result<(), Told> {
     let mut buf = page_room();
-    let page = input::read_whole(STDIN_FILENO, &mut buf);
-    if page.failed {
-        os::fail(b"list: standard input");
-        return;
-    }
-    let n = page.count;
+    let n = input::read_input(rt, b"list: standard input", &mut buf)?;
     let mut out = text_room();
     let listed = listing::list(&buf[..n], &mut out);
     let size = listed.count;
-    if !io::write_all(STDOUT_FILENO, &out[..size]) {
-        os::fail(b"list: standard output");
-    }
+    input::hand_out(rt, b"list: standard output", &out[..size])
+}
+
+fn main(rt: HostRuntime) -> ExitCode {
+    input::status(list(&rt))
 }

@@ -1,7 +1,8 @@
 // Lists each page of data/ that an argument names, after a line with its name. What the program must write is in `stdout`.
 #![tactic(auto)]
 
-use libc::STDOUT_FILENO;
+use input::Told;
+use std::process::ExitCode;
 
 // A byte more than may be listed, so that a longer input is seen.
 fn page_room() -> [u8; 65537] {
@@ -13,29 +14,31 @@ fn text_room() -> [u8; 80000] {
     [0u8; 80000]
 }
 
-fn list(page: &[u8]) {
+fn list(rt: &HostRuntime, page: &[u8]) -> Result<(), Told> {
     let mut out = text_room();
     let listed = listing::list(page, &mut out);
     let size = listed.count;
-    io::write_all(STDOUT_FILENO, &out[..size]);
+    input::hand_out(rt, b"pages: standard output", &out[..size])
 }
 
-fn list_file(i: usize) {
-    input::write_name(i, b"\n");
+fn list_file(rt: &HostRuntime, i: usize) -> Result<(), Told> {
+    input::write_name(rt, b"pages: standard output", i, b"\n")?;
     let mut buf = page_room();
-    let page = input::read_file(i, &mut buf);
-    if page.failed {
-        return;
-    }
-    let n = page.count;
-    list(&buf[..n]);
+    let n = input::read_file(rt, i, &mut buf)?;
+    list(rt, &buf[..n])
 }
 
-fn main() {
-    let n = os::arg_count();
-    let mut i: usize = 1;
-    while i < n {
-        list_file(i);
-        i += 1;
+// A file that cannot be listed does not keep the next from being listed.
+fn list_files(rt: &HostRuntime) -> Result<(), Told> {
+    let mut ended = Ok(());
+    for i in 1..input::arg_count(rt) {
+        if let Err(told) = list_file(rt, i) {
+            ended = Err(told);
+        }
     }
+    ended
+}
+
+fn main(rt: HostRuntime) -> ExitCode {
+    input::status(list_files(&rt))
 }

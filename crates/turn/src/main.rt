@@ -3,8 +3,10 @@
 #![tactic(auto)]
 
 use convert::Converted;
-use libc::{STDERR_FILENO, STDIN_FILENO, STDOUT_FILENO};
+use input::Told;
 use paper::PageCount;
+use std::io::Write;
+use std::process::ExitCode;
 
 // A byte more than may be converted, so that a longer input is seen.
 fn input_room() -> [u8; 65537] {
@@ -16,30 +18,32 @@ fn room() -> [u8; 65536] {
     [0u8; 65536]
 }
 
-fn refuse(place: usize) {
-    let mut words = io::buffer();
+// Room for an argument, and for the words of a refusal.
+fn word_room() -> [u8; 4096] {
+    [0u8; 4096]
+}
+
+// If even these words cannot be written, nothing is left to do.
+fn say(rt: &HostRuntime, words: &[u8]) {
+    let mut to = rt.stderr();
+    let _ = to.write_all(words);
+}
+
+fn refuse(rt: &HostRuntime, place: usize) {
+    let mut words = word_room();
     let size = heading::put_refused(&mut words, 0, place);
-    io::write_all(STDERR_FILENO, slices::head(&words, size));
+    say(rt, slices::head(&words, size));
 }
 
-// No call has failed, so errno says nothing.
-fn lack_room() {
-    io::write_all(
-        STDERR_FILENO,
-        b"convert: more pages than there is room for\n",
-    );
-}
-
-fn answer(outcome: Converted, out: &[u8]) {
+fn answer(rt: &HostRuntime, outcome: Converted, out: &[u8]) -> Result<(), Told> {
     match outcome {
         Converted::Done(size) => {
-            if !io::write_all(STDOUT_FILENO, slices::head(out, size)) {
-                os::fail(b"convert: standard output");
-            }
+            return input::hand_out(rt, b"convert: standard output", slices::head(out, size));
         }
-        Converted::SmallBuffer => lack_room(),
-        Converted::Refused(place) => refuse(place),
+        Converted::SmallBuffer => say(rt, b"convert: more pages than there is room for\n"),
+        Converted::Refused(place) => refuse(rt, place),
     }
+    Ok(())
 }
 
 fn digit(word: &[u8], place: usize) -> u16 {
@@ -57,32 +61,31 @@ fn number(word: &[u8]) -> u16 {
     digit(word, 0) % 10 * 100 + digit(word, 1) % 10 * 10 + digit(word, 2) % 10
 }
 
-fn to_scsi(input: &[u8]) {
+fn to_scsi(rt: &HostRuntime, input: &[u8]) -> Result<(), Told> {
     let mut out = room();
     let outcome = turning::to_scsi(input, &mut out);
-    answer(outcome, &out);
+    answer(rt, outcome, &out)
 }
 
-fn to_ata(input: &[u8]) {
-    let mut word = io::buffer();
-    let length = os::arg(1, &mut word);
+fn to_ata(rt: &HostRuntime, input: &[u8]) -> Result<(), Told> {
+    let mut word = word_room();
+    let length = input::arg(rt, 1, &mut word);
     let pages = PageCount(number(&word[..length]));
     let mut out = room();
     let outcome = turning::to_ata(input, pages, &mut out);
-    answer(outcome, &out);
+    answer(rt, outcome, &out)
 }
 
-fn main() {
+fn turn(rt: &HostRuntime) -> Result<(), Told> {
     let mut buf = input_room();
-    let read = input::read_whole(STDIN_FILENO, &mut buf);
-    if read.failed {
-        os::fail(b"convert: standard input");
-        return;
-    }
-    let n = read.count;
-    if os::arg_count() < 2 {
-        to_scsi(&buf[..n]);
+    let n = input::read_input(rt, b"convert: standard input", &mut buf)?;
+    if input::arg_count(rt) < 2 {
+        to_scsi(rt, &buf[..n])
     } else {
-        to_ata(&buf[..n]);
+        to_ata(rt, &buf[..n])
     }
+}
+
+fn main(rt: HostRuntime) -> ExitCode {
+    input::status(turn(&rt))
 }

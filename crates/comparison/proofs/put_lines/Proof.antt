@@ -29,4 +29,4 @@ put_lines_spec =
     (λ c. search (put_end))
     (λ c κs. search rules)
     (λ c. search (found_less))
-    (λ c. (search (put_next), c.before.before.before.put_line-size.auto.out.1.1.0 ∙ c.before.before.before.before.before.before.before.before.before.loop-hit.invariant.1)))
+    (λ c. (search (put_next), c.before.before.before.put_line-size.auto.out ∙ c.before.before.before.before.before.before.before.loop-hit.invariant.1)))

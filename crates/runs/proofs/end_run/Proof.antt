@@ -13,4 +13,4 @@ end_run_spec =
     (λ c. search rules)
     (λ c. search rules)
     (λ c. search rules)
-    (λ c. (ap (λ (o : Obeyed). o.said) c.before.before.before.before.before.before.obey.ensures.0, search rules)))
+    (λ c. (ap (λ (o : Obeyed). o.said) c.before.before.before.before.before.before.obey-obeyed.ensures.0, search rules)))
