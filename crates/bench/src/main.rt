@@ -9,7 +9,6 @@ ghost use Rattle.std.specs.Io.KnownBytes.{Consumes, IsAtEnd, Keeps};
 use input::Told;
 use runs::Run;
 use std::io::Read;
-use std::process::ExitCode;
 
 // Room for every reply.
 fn text_room() -> [u8; 140000]
@@ -132,6 +131,7 @@ fn run_all(rt: &HostRuntime) -> Result<(), Told> {
     run_files(rt, n)
 }
 
-fn main(rt: HostRuntime) -> ExitCode {
-    input::status(run_all(&rt))
+// The words tell of a failure; the exit status is 0 all the same.
+fn main(rt: HostRuntime) {
+    let _ = run_all(&rt);
 }

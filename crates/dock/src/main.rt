@@ -3,7 +3,6 @@
 #![tactic(auto)]
 
 use input::Told;
-use std::process::ExitCode;
 
 // A byte more than may be listed, so that a longer input is seen.
 fn page_room() -> [u8; 65537] {
@@ -54,6 +53,7 @@ fn list_all(rt: &HostRuntime) -> Result<(), Told> {
     list_files(rt, n)
 }
 
-fn main(rt: HostRuntime) -> ExitCode {
-    input::status(list_all(&rt))
+// The words tell of a failure; the exit status is 0 all the same.
+fn main(rt: HostRuntime) {
+    let _ = list_all(&rt);
 }

@@ -4,14 +4,12 @@
 
 ghost use Rattle.io.specs.Counts.{IsPrefixLen};
 ghost use Rattle.std.specs.Io.KnownBytes.{Consumes, IsAtEnd};
-ghost use Rattle.std.specs.Prelude.{◌≡◌, ◌<◌, ℕ, length, take, IfOk, OnOk, OnErr};
-ghost use Rattle.std.specs.Process.{exit_status};
+ghost use Rattle.std.specs.Prelude.{◌≡◌, ◌<◌, ℕ, length, take, IfOk, OnErr};
 
 use std::env::{Env, FillError};
 use std::fs::File;
 use std::io;
 use std::io::{ErrorKind, Read, Write};
-use std::process::ExitCode;
 
 // Something failed, and standard error has the words.
 #[derive(Clone, Copy, Debug, PartialEq, Eq)]
@@ -49,17 +47,6 @@ pub fn tell(rt: &HostRuntime, what: &[u8], error: io::Error) -> Told {
     let _ = to.write_all(&text[..size]);
     let _ = to.write_all(b"\n");
     Told
-}
-
-// The exit status of a program: 0, or 1 if something failed.
-pub fn status(ended: Result<(), Told>) -> ExitCode
-    ensures ok { OnOk ended (exit_status result ≡ 0) }
-    ensures err { OnErr ended (exit_status result ≡ 1) }
-{
-    match ended {
-        Ok(()) => ExitCode::SUCCESS,
-        Err(Told) => ExitCode::FAILURE,
-    }
 }
 
 // How many arguments there are, the program's own name among them.

@@ -2,7 +2,6 @@
 #![tactic(auto)]
 
 use input::Told;
-use std::process::ExitCode;
 
 // A byte more than may be listed, so that a longer input is seen.
 fn page_room() -> [u8; 65537] {
@@ -23,6 +22,7 @@ fn list(rt: &HostRuntime) -> Result<(), Told> {
     input::hand_out(rt, b"list: standard output", &out[..size])
 }
 
-fn main(rt: HostRuntime) -> ExitCode {
-    input::status(list(&rt))
+// The words tell of a failure; the exit status is 0 all the same.
+fn main(rt: HostRuntime) {
+    let _ = list(&rt);
 }

@@ -2,7 +2,6 @@
 #![tactic(auto)]
 
 use input::Told;
-use std::process::ExitCode;
 
 // A byte more than may be listed, so that a longer input is seen.
 fn page_room() -> [u8; 65537] {
@@ -39,6 +38,7 @@ fn list_files(rt: &HostRuntime) -> Result<(), Told> {
     ended
 }
 
-fn main(rt: HostRuntime) -> ExitCode {
-    input::status(list_files(&rt))
+// The words tell of a failure; the exit status is 0 all the same.
+fn main(rt: HostRuntime) {
+    let _ = list_files(&rt);
 }

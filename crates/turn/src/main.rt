@@ -6,7 +6,6 @@ use convert::Converted;
 use input::Told;
 use paper::PageCount;
 use std::io::Write;
-use std::process::ExitCode;
 
 // A byte more than may be converted, so that a longer input is seen.
 fn input_room() -> [u8; 65537] {
@@ -86,6 +85,7 @@ fn turn(rt: &HostRuntime) -> Result<(), Told> {
     }
 }
 
-fn main(rt: HostRuntime) -> ExitCode {
-    input::status(turn(&rt))
+// The words tell of a failure; the exit status is 0 all the same.
+fn main(rt: HostRuntime) {
+    let _ = turn(&rt);
 }
