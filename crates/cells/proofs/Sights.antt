@@ -1,5 +1,5 @@
 -- What the search sees, from the table's sight and the cell of its place.
-use Prim.Native.Nat.{ℕ, ◌-◌}
+use Prim.Native.Nat.{ℕ}
 use mathlib.Core.Path.{◌≡◌, ap, ◌∙◌}
 use lib.ListN.{get_or}
 use Rattle.paper.specs.declared.ElementId.{ElementId}

@@ -1,5 +1,5 @@
 -- The lent making starts a run (specs/Starts): it is the making of the list's offer, whose array is full. Calls that follow are a script.
-use Prim.Native.Nat.{ℕ, ◌-◌}
+use Prim.Native.Nat.{ℕ}
 use mathlib.Core.Bool.{Bool, true, false, cond, false≢true}
 use mathlib.Core.List.{List}
 use mathlib.Core.Path.{◌≡◌, refl, ap, subst, subst⁻¹, ◌∙◌}

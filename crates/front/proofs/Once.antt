@@ -1,7 +1,6 @@
 -- No second answer fits the front call's promise (specs/Promises).
 use mathlib.Core.Path.{◌≡◌, ap}
 use Rattle.paper.proofs.Once.{number_injective}
-use Rattle.paper.specs.declared.Answer.{Answer}
 use Rattle.front.specs.Front.{Fronted}
 use Rattle.front.specs.Promises.{OneLeft}
 

@@ -1,9 +1,9 @@
 -- With an empty note the position is not looked at (specs/Runs, `RestsAlike`): two devices that differ in it alone stay so, or become one.
 use Prim.Native.Nat.{ℕ}
 use mathlib.Core.Bool.{Bool, true, false, cond, not, ◌&&◌, ◌||◌}
-use mathlib.Core.List.{List, ◌∷◌}
+use mathlib.Core.List.{◌∷◌}
 use mathlib.Core.Logic.{◌⊎◌, inl, inr}
-use mathlib.Core.Path.{◌≡◌, refl, sym, ap, subst, ◌∙◌}
+use mathlib.Core.Path.{◌≡◌, refl, ap, subst}
 use native.Mathlib.Omega.{arith}
 use lib.Dec.{eqb}
 use Rattle.cells.specs.Cells.{make, is_full, removed_in}
@@ -14,7 +14,6 @@ use Rattle.cells.specs.declared.Note.TheVariants.{Empty, Full}
 use Rattle.cells.specs.declared.Note.{Note}
 use Rattle.cells.specs.declared.Position.{Position}
 use Rattle.cells.specs.declared.Store.{Store}
-use Rattle.conduct.specs.Promises.{ButPosition}
 use Rattle.device.specs.Commands.{media_number, other_number}
 use Rattle.device.specs.Machine.{Event, command, step, media_error, power_cut, comreset, hardware_reset, software_reset, grade, rule, told}
 use Rattle.device.specs.declared.Device.{Device}

@@ -1,15 +1,14 @@
 -- The calls: a law for each way out. A call's device is told by the call by value; what is put down of it is all that can have changed.
 use Prim.Native.Nat.{ℕ}
-use mathlib.Core.Bool.{Bool, true, false, cond}
+use mathlib.Core.Bool.{cond}
 use mathlib.Core.List.{List}
 use mathlib.Core.Path.{◌≡◌, refl, sym, ap, ◌∙◌}
 use borrow.Author.Tests.{eq-eqb, ne_eqb}
 use lib.Dec.{eqb}
 use Rattle.cells.specs.Rulings.{Ruled}
-use Rattle.cells.specs.declared.Cells.{Cells}
 use Rattle.conduct.proofs.EveryCall.{refusal_leaves}
-use Rattle.conduct.proofs.Shapes.{Kind, still, stopping, Shape, quiet, clears, notes, advances, winds, Grading, refuses, grades, each}
-use Rattle.device.specs.Machine.{Event, command, media_error, power_cut, comreset, hardware_reset, software_reset, grade, rule, told}
+use Rattle.conduct.proofs.Shapes.{still, stopping, Shape, quiet, clears, notes, winds, Grading, refuses, grades, each}
+use Rattle.device.specs.Machine.{Event, command, media_error, power_cut, comreset, hardware_reset, software_reset, grade, told}
 use Rattle.device.specs.Record.{carried_out}
 use Rattle.device.specs.declared.Device.{Device}
 use Rattle.making.specs.Making.{made_of}

@@ -1,11 +1,10 @@
 -- What is put down is what is read, and a byte that need not change does not (specs/Promises).
-use Prim.Native.Nat.{ℕ, ◌≤◌, min}
+use Prim.Native.Nat.{◌≤◌, min}
 use mathlib.Core.Bool.{Bool, true, false, cond}
-use mathlib.Core.Path.{◌≡◌, refl, sym, ap, ◌∙◌}
+use mathlib.Core.Path.{◌≡◌, refl, ap, ◌∙◌}
 use native.Mathlib.Nat.{min-eq_left}
 use Rattle.conduct.proofs.EveryCall.{refusal_leaves}
 use Rattle.device.specs.Machine.{told}
-use Rattle.device.specs.declared.Device.{Device}
 use Rattle.making.specs.Making.{fresh, made_of}
 use Rattle.offer.proofs.Laws.{good_count}
 use Rattle.offer.specs.Check.{good}
@@ -14,7 +13,7 @@ use Rattle.offer.specs.declared.Offer.{Offer}
 use Rattle.paper.specs.Told.{tells}
 use Rattle.table.specs.declared.Table.{Table}
 use Rattle.image.specs.Calls.{told_of, made_as, made_by}
-use Rattle.image.specs.Keeping.{keeps, built, image_of}
+use Rattle.image.specs.Keeping.{keeps, built}
 use Rattle.image.specs.Promises.{ReadsOn, ReadsMade, RefusalLeavesImage, RefusedMakingLeaves, ResetLeavesImage}
 use Rattle.image.specs.Reading.{device_of}
 use Rattle.image.specs.declared.Image.{Image}

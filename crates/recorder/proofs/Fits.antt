@@ -7,7 +7,6 @@ use native.Mathlib.Omega.{arith}
 use denote.Builtin.{u8}
 use Rattle.calls.proofs.Fits.{of_each, part_fits}
 use Rattle.cells.specs.declared.Note.TheVariants.{Empty, Full}
-use Rattle.cells.specs.declared.Note.{Note}
 use Rattle.cells.specs.declared.Removal.{Removal}
 use Rattle.conduct.proofs.Fits.{one_removal}
 use Rattle.conduct.specs.Fits.{PartFits, Fits}

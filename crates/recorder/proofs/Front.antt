@@ -7,7 +7,7 @@ use lib.ListN.{length}
 use borrow.Author.Tests.{ne_eqb}
 use Rattle.calls.proofs.Lists.{made_alike}
 use Rattle.calls.specs.Offered.{offer_of}
-use Rattle.device.specs.Machine.{command, told}
+use Rattle.device.specs.Machine.{command}
 use Rattle.device.specs.declared.Device.{Device}
 use Rattle.image.proofs.Every.{reads_on}
 use Rattle.image.specs.Calls.{told_of, made_as, made_by}

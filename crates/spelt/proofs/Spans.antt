@@ -9,7 +9,6 @@ use borrow.Author.Tests.{ltb-false, eq-eqb, ne_eqb}
 use lib.Dec.{eqb, ltb}
 use lib.ListN.{length, take, drop, length-take, length-drop}
 use Rattle.compare.specs.declared.Line.TheVariants.{OnlyOlder, OnlyNewer, Changed}
-use Rattle.compare.specs.declared.Line.{Line}
 use Rattle.offences.specs.Checks.{base_of}
 use Rattle.parts.specs.Parts.{descriptor_part}
 use Rattle.reach.specs.Pages.{count_of}

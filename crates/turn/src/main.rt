@@ -34,12 +34,16 @@ fn refuse(rt: &HostRuntime, place: usize) {
     say(rt, slices::head(&words, size));
 }
 
+fn lack_room(rt: &HostRuntime) {
+    say(rt, b"convert: more pages than there is room for\n");
+}
+
 fn answer(rt: &HostRuntime, outcome: Converted, out: &[u8]) -> Result<(), Told> {
     match outcome {
         Converted::Done(size) => {
             return input::hand_out(rt, b"convert: standard output", slices::head(out, size));
         }
-        Converted::SmallBuffer => say(rt, b"convert: more pages than there is room for\n"),
+        Converted::SmallBuffer => lack_room(rt),
         Converted::Refused(place) => refuse(rt, place),
     }
     Ok(())

@@ -1,5 +1,5 @@
 -- `calls::copied`.
-use Prim.Native.Nat.{◌<◌, min}
+use Prim.Native.Nat.{◌<◌}
 use native.Mathlib.Nat.{min-le_left, min-le_right}
 use Rattle.std.proofs.Common.{◌≡◌, ◌∙◌, ap, length, set, get_or, arith}
 use Rattle.datum.proofs.SoFar.{held, held_next}

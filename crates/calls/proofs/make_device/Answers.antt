@@ -8,8 +8,7 @@ use Rattle.calls.proofs.Lists.{made_alike}
 use Rattle.calls.proofs.make_device.Goals as goal
 
 pub returns : goal.returns
-returns c =
-    (
-      rw c.copied.ensures at c.make_in-r.ensures ∙ sym (made_alike c.args.d.now c.args.list.now c.args.limit),
-      device_fits c.make_in-r.result.device (owed Stepped.the_type Stepped'.the_laws c.make_in-r.result _ c.make_in-r.type_inv).0,
-    )
+returns c = (
+  rw c.copied.ensures at c.make_in-r.ensures ∙ sym (made_alike c.args.d.now c.args.list.now c.args.limit),
+  device_fits c.make_in-r.result.device (owed Stepped.the_type Stepped'.the_laws c.make_in-r.result _ c.make_in-r.type_inv).0,
+)

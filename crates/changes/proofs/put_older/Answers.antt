@@ -1,5 +1,4 @@
 -- `changes::put_older`.
-use borrow.Author.Rules.{rules}
 use Rattle.changes.proofs.Changes.{older_puts}
 use Rattle.changes.proofs.put_older.Goals as goal
 

@@ -3,7 +3,7 @@ use Prim.Native.Nat.{◌+◌, ◌-◌, ◌≤◌}
 use mathlib.Core.Path.{◌≡◌}
 use native.Mathlib.Omega.{arith}
 use borrow.Author.Rules.{rules}
-use borrow.Author.Tests.{not-true, not-false}
+use borrow.Author.Tests.{not-true}
 use Rattle.compare.specs.Walk.{cursor, next_to}
 use Rattle.compare.proofs.Steps.{pair_first, pair_again, pair_ends, pair_rest}
 use Rattle.compare.proofs.next_to.Statement.{statement}

@@ -1,5 +1,4 @@
 -- `contents::put_held`.
-use borrow.Author.Rules.{rules}
 use Rattle.contents.proofs.Contents.{held_puts}
 use Rattle.contents.proofs.put_held.Goals as goal
 

@@ -1,6 +1,5 @@
 -- `contents::put_judged`.
-use borrow.Author.Rules.{rules}
-use Rattle.contents.proofs.Contents.{judged-accepted, judged-refused}
+use Rattle.contents.proofs.Contents.{judged-refused}
 use Rattle.contents.proofs.put_judged.Goals as goal
 
 pub returns-in-Refused : goal.returns-in-Refused

@@ -1,5 +1,4 @@
 -- `contents::put_list`.
-use borrow.Author.Rules.{rules}
 use Rattle.contents.proofs.Contents.{list_puts}
 use Rattle.contents.proofs.put_list.Goals as goal
 

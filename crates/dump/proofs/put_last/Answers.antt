@@ -1,5 +1,4 @@
 -- `dump::put_last`.
-use borrow.Author.Rules.{rules}
 use Rattle.dump.proofs.Data.{last_none, last_puts}
 use Rattle.dump.proofs.put_last.Goals as goal
 

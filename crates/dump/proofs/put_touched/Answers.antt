@@ -1,5 +1,4 @@
 -- `dump::put_touched`.
-use borrow.Author.Rules.{rules}
 use Rattle.dump.proofs.Dump.{untouched_stored, untouched_ended, touched_stored, touched_ended}
 use Rattle.dump.proofs.put_touched.Goals as goal
 

@@ -1,5 +1,4 @@
 -- `dump::put_zeros`.
-use borrow.Author.Rules.{rules}
 use Rattle.dump.proofs.Dump.{zeros_none, zeros_puts}
 use Rattle.dump.proofs.put_zeros.Goals as goal
 

@@ -1,5 +1,4 @@
 -- `ending::put_bound`.
-use borrow.Author.Rules.{rules}
 use Rattle.ending.proofs.Ending.{bound_puts}
 use Rattle.ending.proofs.put_bound.Goals as goal
 

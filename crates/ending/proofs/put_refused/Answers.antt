@@ -1,5 +1,4 @@
 -- `ending::put_refused`.
-use borrow.Author.Rules.{rules}
 use Rattle.ending.proofs.Ending.{refused_older, refused_newer}
 use Rattle.ending.proofs.put_refused.Goals as goal
 

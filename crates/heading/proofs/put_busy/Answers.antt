@@ -1,5 +1,4 @@
 -- `heading::put_busy`.
-use borrow.Author.Rules.{rules}
 use Rattle.heading.proofs.Heading.{busy_puts}
 use Rattle.heading.proofs.put_busy.Goals as goal
 

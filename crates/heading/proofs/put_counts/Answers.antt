@@ -1,5 +1,4 @@
 -- `heading::put_counts`.
-use borrow.Author.Rules.{rules}
 use Rattle.heading.proofs.Heading.{counts_puts}
 use Rattle.heading.proofs.put_counts.Goals as goal
 

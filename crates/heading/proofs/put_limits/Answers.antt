@@ -1,5 +1,4 @@
 -- `heading::put_limits`.
-use borrow.Author.Rules.{rules}
 use Rattle.heading.proofs.Heading.{limits_puts}
 use Rattle.heading.proofs.put_limits.Goals as goal
 

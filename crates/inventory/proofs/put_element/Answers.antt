@@ -1,5 +1,4 @@
 -- `inventory::put_element`.
-use borrow.Author.Rules.{rules}
 use Rattle.inventory.proofs.Inventory.{element_puts}
 use Rattle.inventory.proofs.put_element.Goals as goal
 

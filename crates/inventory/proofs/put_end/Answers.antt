@@ -1,5 +1,4 @@
 -- `inventory::put_end`.
-use borrow.Author.Rules.{rules}
 use Rattle.inventory.proofs.Inventory.{end_puts}
 use Rattle.inventory.proofs.put_end.Goals as goal
 

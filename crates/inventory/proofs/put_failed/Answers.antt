@@ -1,5 +1,4 @@
 -- `inventory::put_failed`.
-use borrow.Author.Rules.{rules}
 use Rattle.inventory.proofs.Inventory.{failed_puts}
 use Rattle.inventory.proofs.put_failed.Goals as goal
 

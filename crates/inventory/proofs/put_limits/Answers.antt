@@ -1,5 +1,4 @@
 -- `inventory::put_limits`.
-use borrow.Author.Rules.{rules}
 use Rattle.inventory.proofs.Inventory.{limits_puts}
 use Rattle.inventory.proofs.put_limits.Goals as goal
 

@@ -1,5 +1,4 @@
 -- `inventory::put_line`.
-use borrow.Author.Rules.{rules}
 use Rattle.inventory.proofs.Inventory.{line_puts}
 use Rattle.inventory.proofs.put_line.Goals as goal
 

@@ -1,6 +1,5 @@
 -- `inventory::put_note`.
-use borrow.Author.Rules.{rules}
-use Rattle.inventory.proofs.Inventory.{note_empty, note_full}
+use Rattle.inventory.proofs.Inventory.{note_empty}
 use Rattle.inventory.proofs.put_note.Goals as goal
 
 pub returns-in-Empty : goal.returns-in-Empty

@@ -1,5 +1,4 @@
 -- `inventory::put_removal`.
-use borrow.Author.Rules.{rules}
 use Rattle.inventory.proofs.Inventory.{removal_puts}
 use Rattle.inventory.proofs.put_removal.Goals as goal
 

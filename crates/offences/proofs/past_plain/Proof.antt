@@ -2,7 +2,6 @@
 use Prim.Native.Nat.{◌-◌, ◌≤◌}
 use native.Mathlib.Omega.{arith}
 use borrow.Author.Rules.{rules}
-use borrow.Author.Tests.{not-false}
 use Rattle.offences.specs.Private.{Swept}
 use Rattle.offences.proofs.Checks.{swept_plain}
 use Rattle.offences.proofs.past_plain.Statement.{statement}

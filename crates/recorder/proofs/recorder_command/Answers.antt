@@ -1,7 +1,5 @@
 -- `recorder_command`: the page of 12h is shown of the image that the command leaves.
-use Rattle.std.proofs.Common.{ℕ}
 use Rattle.image.specs.Reading.{security_of}
-use Rattle.paper.specs.Registers.{Registers}
 use Rattle.recorder.proofs.Front.{front_status}
 use Rattle.recorder.proofs.recorder_command.Goals as goal
 

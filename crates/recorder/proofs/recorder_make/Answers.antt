@@ -8,8 +8,7 @@ use Rattle.recorder.proofs.Front.{made_in_lem}
 use Rattle.recorder.proofs.recorder_make.Goals as goal
 
 pub returns : goal.returns
-returns c =
-    (
-      rw c.copied.ensures at c.make-r.ensures ∙ made_in_lem c.args.d.now c.args.list.now c.args.limit,
-      image_fits c.make-r.result.image (owed Imaged.the_type Imaged'.the_laws c.make-r.result _ c.make-r.type_inv).0,
-    )
+returns c = (
+  rw c.copied.ensures at c.make-r.ensures ∙ made_in_lem c.args.d.now c.args.list.now c.args.limit,
+  image_fits c.make-r.result.image (owed Imaged.the_type Imaged'.the_laws c.make-r.result _ c.make-r.type_inv).0,
+)

@@ -1,5 +1,4 @@
 -- `replies::put_answer`.
-use borrow.Author.Rules.{rules}
 use Rattle.replies.proofs.Answers.{answer_puts}
 use Rattle.replies.proofs.put_answer.Goals as goal
 

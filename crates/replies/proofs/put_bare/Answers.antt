@@ -1,5 +1,4 @@
 -- `replies::put_bare`.
-use borrow.Author.Rules.{rules}
 use Rattle.replies.proofs.DockReplies.{at_bare}
 use Rattle.replies.proofs.put_bare.Goals as goal
 

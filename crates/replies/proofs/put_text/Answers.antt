@@ -1,6 +1,5 @@
 -- `replies::put_text`.
-use borrow.Author.Rules.{rules}
-use Rattle.replies.proofs.Replies.{at_nothing, at_stored, at_puts, at_cells, at_reading}
+use Rattle.replies.proofs.Replies.{at_nothing, at_stored, at_cells, at_reading}
 use Rattle.replies.proofs.put_text.Goals as goal
 
 pub returns-in-Nothing : goal.returns-in-Nothing

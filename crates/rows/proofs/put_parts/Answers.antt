@@ -1,5 +1,4 @@
 -- `rows::put_parts`.
-use borrow.Author.Rules.{rules}
 use Rattle.rows.proofs.Rows.{line_puts}
 use Rattle.rows.proofs.put_parts.Goals as goal
 

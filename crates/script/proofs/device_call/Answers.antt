@@ -1,5 +1,4 @@
 -- `script::device_call`.
-use borrow.Author.Rules.{rules}
 use Rattle.script.specs.Names.{device_call}
 use Rattle.script.proofs.Says.{this_call, other_call}
 use Rattle.script.proofs.device_call.Goals as goal

@@ -1,5 +1,4 @@
 -- `script::event_call`.
-use borrow.Author.Rules.{rules}
 use Rattle.script.specs.Names.{event_call}
 use Rattle.script.proofs.Says.{this_call, other_call}
 use Rattle.script.proofs.event_call.Goals as goal

@@ -1,10 +1,9 @@
 -- `script::meaning_of`.
-use Prim.Native.Nat.{ℕ}
 use mathlib.Core.Path.{◌≡◌, sym}
 use native.Mathlib.Omega.{arith}
 use lib.ListN.{length}
 use lib.Seq.{length-take-le}
-use borrow.Author.Rules.{rules, length_unmapped}
+use borrow.Author.Rules.{rules}
 use Rattle.script.proofs.meaning_of.Statement.{statement}
 use Rattle.script.proofs.meaning_of.Tie as tie
 use Rattle.script.proofs.Says.{meaning_long, meaning_short}

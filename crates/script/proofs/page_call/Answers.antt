@@ -1,5 +1,4 @@
 -- `script::page_call`.
-use borrow.Author.Rules.{rules}
 use Rattle.script.specs.Names.{page_call}
 use Rattle.script.proofs.Says.{this_call, other_call}
 use Rattle.script.proofs.page_call.Goals as goal

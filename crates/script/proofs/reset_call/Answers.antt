@@ -1,5 +1,4 @@
 -- `script::reset_call`.
-use borrow.Author.Rules.{rules}
 use Rattle.script.specs.Names.{reset_call}
 use Rattle.script.proofs.Says.{this_call, other_call}
 use Rattle.script.proofs.reset_call.Goals as goal

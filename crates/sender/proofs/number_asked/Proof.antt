@@ -1,6 +1,5 @@
 -- `sender::number_asked`. The invariant: the number is of what is asked for of the first i.
 use Prim.Native.Nat.{◌-◌}
-use lib.ListN.{length-map}
 use borrow.Author.Rules.{rules}
 use Rattle.status.proofs.Places.{count_fits}
 use Rattle.sender.proofs.Sending.{Counted, counted_none, counted_low, counted_less, counted_next, counted_all}

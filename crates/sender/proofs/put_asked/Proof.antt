@@ -1,6 +1,5 @@
 -- `sender::put_asked`. The invariant: the descriptors of what is asked for of the first i stand behind the header.
 use Prim.Native.Nat.{◌-◌}
-use lib.ListN.{length-map}
 use borrow.Author.Rules.{rules}
 use borrow.Author.Tests.{not-true, not-false}
 use Rattle.sender.proofs.Sending.{Walked, walk_none, walk-past, walk_next, asked_cut, asked-all}

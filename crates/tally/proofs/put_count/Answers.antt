@@ -1,5 +1,4 @@
 -- `tally::put_count`.
-use borrow.Author.Rules.{rules}
 use Rattle.tally.proofs.Tally.{count_puts}
 use Rattle.tally.proofs.put_count.Goals as goal
 

@@ -1,6 +1,5 @@
 -- `contents::docking::put_judged`.
-use borrow.Author.Rules.{rules}
-use Rattle.contents.proofs.DockContents.{data_accepted, data_refused}
+use Rattle.contents.proofs.DockContents.{data_refused}
 use Rattle.contents.proofs.dock.put_judged.Goals as goal
 
 pub returns-in-Refused : goal.returns-in-Refused

@@ -4,7 +4,6 @@ use mathlib.Core.Path.{◌≡◌, refl, sym, ◌∙◌}
 use native.Mathlib.Omega.{arith}
 use lib.ListN.{length, drop}
 use borrow.Author.Rules.{rules}
-use borrow.Author.Tests.{not-true, not-false}
 use Rattle.lines.specs.Parts.{drop_while}
 use Rattle.lines.specs.Private.{space_or}
 use Rattle.lines.proofs.Words.{skip_next, skip_stop, skip_end}
