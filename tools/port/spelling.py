@@ -60,7 +60,7 @@ def hump(word):
 
 def spelt(word, known):
     if word[0].isupper():
-        return "".join(p[:1].upper() + p[1:] for p in word.split("-"))
+        return "".join(p[:1].upper() + p[1:] for p in re.split("[-_]", word))
     parts = [hump(p) for p in word.split("-")]
     out, i = "", 0
     while i < len(parts):
@@ -73,7 +73,7 @@ def spelt(word, known):
 
 
 def changes(word):
-    return bool(re.search(r"[a-z0-9][A-Z]", word) and not word[0].isupper()) or "-" in word
+    return "-" in word or bool(re.search("[a-z0-9]_[a-z]" if word[0].isupper() else "[a-z0-9][A-Z]", word))
 
 
 def definitions(root):

@@ -86,19 +86,19 @@ pub record Alike (d x : Device) : Type 0 where
   pub cells : d.cells ≡ x.cells
   pub rests : (d.cells.note ≡ Empty) ⊎ (d.position ≡ x.position)
 
-abbrev Goes_on : Event → Device → Device → Type 0
-Goes_on e d x = ((told d e).number ≡ (told x e).number) × Alike (told d e).state (told x e).state
+abbrev GoesOn : Event → Device → Device → Type 0
+GoesOn e d x = ((told d e).number ≡ (told x e).number) × Alike (told d e).state (told x e).state
 
-alike_on : (d x : Device) → Alike d x → (e : Event) → Goes_on e d x
+alike_on : (d x : Device) → Alike d x → (e : Event) → GoesOn e d x
 alike_on d x a e = go a.rests
   where
-    go : (d.cells.note ≡ Empty) ⊎ (d.position ≡ x.position) → Goes_on e d x
+    go : (d.cells.note ≡ Empty) ⊎ (d.position ≡ x.position) → GoesOn e d x
     go (inl empty) =
         let same = same-rule d.table d.cells d.position x.position empty e in
-        subst (Goes_on e d) (λ i. record { table = a.table i; cells = a.cells i; position = x.position })
+        subst (GoesOn e d) (λ i. record { table = a.table i; cells = a.cells i; position = x.position })
         (same.number, record { table = refl; cells = ap (λ (s : Store). make s d.cells) same.store; rests = same.next })
     go (inr one) =
-        subst (Goes_on e d) (λ i. record { table = a.table i; cells = a.cells i; position = one i })
+        subst (GoesOn e d) (λ i. record { table = a.table i; cells = a.cells i; position = one i })
         (refl, record { table = refl; cells = refl; rests = inr refl })
 
 alike-after : (d x : Device) → Alike d x → (s : Script) → (answers_in (history d s) ≡ answers_in (history x s)) × Alike (after d s) (after x s)

@@ -89,7 +89,8 @@ pub fn read_whole<R: Read>(reader: &mut R, buf: &mut [u8]) -> io::Result<usize>
 
 // What is on standard input. If it cannot be read, that is said on standard error.
 pub fn read_input(rt: &HostRuntime, what: &[u8], buf: &mut [u8]) -> Result<usize, Told>
-    ensures { IfOk result (λ n. IsPrefixLen n buf.new) }
+    ensures ok { IfOk result (λ n. IsPrefixLen n buf.new) }
+    ensures err { OnErr result ((n : ℕ) × IsPrefixLen n buf.new) }
 {
     let mut stdin = rt.stdin();
     match read_whole(&mut stdin, buf) {
@@ -107,7 +108,8 @@ pub fn open(rt: &HostRuntime, name: &[u8]) -> io::Result<File> {
 }
 
 fn read_named(rt: &HostRuntime, name: &[u8], buf: &mut [u8]) -> io::Result<usize>
-    ensures { IfOk result (λ n. IsPrefixLen n buf.new) }
+    ensures ok { IfOk result (λ n. IsPrefixLen n buf.new) }
+    ensures err { OnErr result ((n : ℕ) × IsPrefixLen n buf.new) }
 {
     let mut file = open(rt, name)?;
     read_whole(&mut file, buf)
@@ -115,7 +117,8 @@ fn read_named(rt: &HostRuntime, name: &[u8], buf: &mut [u8]) -> io::Result<usize
 
 // The file that an argument names. If it cannot be read, that is said on standard error.
 pub fn read_file(rt: &HostRuntime, i: usize, buf: &mut [u8]) -> Result<usize, Told>
-    ensures { IfOk result (λ n. IsPrefixLen n buf.new) }
+    ensures ok { IfOk result (λ n. IsPrefixLen n buf.new) }
+    ensures err { OnErr result ((n : ℕ) × IsPrefixLen n buf.new) }
 {
     let mut path = name_room();
     let length = arg(rt, i, &mut path);

@@ -11,7 +11,7 @@ use lib.Seq.{take-append_seam, append_snoc}
 use borrow.Author.Tests.{lt-ltb, ltb-true, ltb-false}
 use Rattle.slices.proofs.Lists.{padded, padded_more}
 use Rattle.pieces.specs.Pieces.{nothing, pushed, gathered, taken_from}
-use Rattle.pieces.specs.Promises.{CutAnywhere, no_newline, EndsAtNewline, Goes_on, PlaceCounts, KeptWhole, LongerTold}
+use Rattle.pieces.specs.Promises.{CutAnywhere, no_newline, EndsAtNewline, GoesOn, PlaceCounts, KeptWhole, LongerTold}
 use Rattle.pieces.specs.declared.Gathered.{Gathered}
 use Rattle.pieces.specs.declared.Taken.{Taken}
 
@@ -51,7 +51,7 @@ ends_at_newline g (x ∷ l) rest at none = by_test (eqb x 10) none (ends_at_newl
         let same : at + 1 + length l + 1 ≡ at + suc (length l) + 1 = omega arith in
         h e ∙ rw same
 
-pub goes_on : Goes_on
+pub goes_on : GoesOn
 unfolding taken_from gathered
 goes_on g [] at none = rw (add-zero at)
 goes_on g (x ∷ l) at none = by_test (eqb x 10) none (goes_on (pushed g x) l (at + 1))

@@ -21,8 +21,8 @@ EndsAtNewline =
     → taken_from g (l ++ (10 ∷ rest)) at ≡ record { line = gathered g l; at = at + length l + 1; whole = true }
 
 -- a piece without a newline is added whole, and so is the last line
-abbrev pub Goes_on : Type 0
-Goes_on = (g : Gathered) (l : List ℕ) (at : ℕ) → no_newline l ≡ true → taken_from g l at ≡ record { line = gathered g l; at = at + length l; whole = false }
+abbrev pub GoesOn : Type 0
+GoesOn = (g : Gathered) (l : List ℕ) (at : ℕ) → no_newline l ≡ true → taken_from g l at ≡ record { line = gathered g l; at = at + length l; whole = false }
 
 -- the place where a piece starts only counts
 abbrev pub PlaceCounts : Type 0
