@@ -1,5 +1,5 @@
 #!/usr/bin/env python3
-"""Brings the repository's own definitions and lemmas to today's spelling, over the text that /opt/rattle/port/port.py has left.
+"""Brings the repository's own definitions and lemmas to today's spelling, over the text that the kit's port.py has left.
 
 usage: tools/port/spelling.py            at the top of the repository, once, after port.py
        tools/port/spelling.py --list     prints the names that would change, and changes nothing

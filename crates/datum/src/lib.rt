@@ -1,2 +1,2 @@
-// Walks of calls over what is lent, written once for each shape of a call: proofs in proofs/. There is no function here.
+// Laws of plain data, and of an array while a list is copied into it: proofs in proofs/. There is no function here.
 #![tactic(auto)]

@@ -87,10 +87,10 @@ pub fn read_whole<R: Read>(reader: &mut R, buf: &mut [u8]) -> io::Result<usize>
     Ok(n)
 }
 
-// What is on standard input. If it cannot be read, that is said on standard error.
+// What is on standard input. If it cannot be read, that is said on standard error, and the buffer may hold a part of it.
 pub fn read_input(rt: &HostRuntime, what: &[u8], buf: &mut [u8]) -> Result<usize, Told>
     ensures ok { IfOk result (λ n. IsPrefixLen n buf.new) }
-    ensures err { OnErr result ((n : ℕ) × IsPrefixLen n buf.new) }
+    ensures err { OnErr result (length buf.new ≡ length buf.old) }
 {
     let mut stdin = rt.stdin();
     match read_whole(&mut stdin, buf) {
@@ -109,16 +109,16 @@ pub fn open(rt: &HostRuntime, name: &[u8]) -> io::Result<File> {
 
 fn read_named(rt: &HostRuntime, name: &[u8], buf: &mut [u8]) -> io::Result<usize>
     ensures ok { IfOk result (λ n. IsPrefixLen n buf.new) }
-    ensures err { OnErr result ((n : ℕ) × IsPrefixLen n buf.new) }
+    ensures err { OnErr result (length buf.new ≡ length buf.old) }
 {
     let mut file = open(rt, name)?;
     read_whole(&mut file, buf)
 }
 
-// The file that an argument names. If it cannot be read, that is said on standard error.
+// The file that an argument names. If it cannot be read, that is said on standard error, and the buffer may hold a part of it.
 pub fn read_file(rt: &HostRuntime, i: usize, buf: &mut [u8]) -> Result<usize, Told>
     ensures ok { IfOk result (λ n. IsPrefixLen n buf.new) }
-    ensures err { OnErr result ((n : ℕ) × IsPrefixLen n buf.new) }
+    ensures err { OnErr result (length buf.new ≡ length buf.old) }
 {
     let mut path = name_room();
     let length = arg(rt, i, &mut path);
