@@ -223,9 +223,9 @@ static int does_exceed_lent(const struct row *row)
     const struct figures *p = &row->run->figures, *beside = &in_lent.figures;
     int shows = row->kase->call == COMMAND && row->kase->asked.code == 0x12;
     int frames = shows ? 2 * FRAME : row->kase->call == SHOW ? AROUND + FRAME : FRAME;
-    int over = is_over(row, "copies of the table", p->tables, beside->tables);
+    int over = is_over(row, "copies of the table", p->tables, beside->tables + COPIES);
     over |= is_over(row, "bytes of stack", p->stack, frames);
-    return over | is_over(row, "instructions", p->own, beside->own + MORE);
+    return over | is_over(row, "instructions", p->own, beside->own + beside->own / 10 + MORE);
 }
 
 // Prints a row, unless there is trouble, and says it.

@@ -18,7 +18,7 @@
 #include <string.h>
 #include <unistd.h>
 
-enum { BENCH_BUFFER = 65536, ROOM = 1 << 20 };
+enum { BENCH_BUFFER = 65536, ROOM = 1 << 22 };
 
 struct store {
     uint64_t at, size;
