@@ -8,8 +8,8 @@
    A cut is between calls: a call writes several fields, in no promised order. Firmware that keeps the record itself through a loss of power
    saves it whole after a call, in two copies, say; the note is one cell, its four fields are saved together.
 
-   The stack, as measured with the older Rattle kit rattle-kit-5b-plain and not again with today's: up to 2.6 KB for a call on a device, 4.8 KB for
-   12h in the front call, 6.5 KB for recorder_make. */
+   The stack, as measured: up to 2.6 KB for a call on a device, 4.5 KB for recorder_send, 4.8 KB for 12h in the front call; 6.5 KB for
+   recorder_make with the older Rattle kit rattle-kit-5b-plain, and not again with today's. */
 #ifndef RECORDER_H
 #define RECORDER_H
 
