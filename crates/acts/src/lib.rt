@@ -144,40 +144,23 @@ fn on_dock(bench: Bench, c: Dock, page: &mut [u8], lent: &mut [u8]) -> Acted
 fn does_ask_device(call: DockCall) -> bool
     ensures { result ≡ paper.asks_device call }
 {
-    match call {
-        DockCall::Send(_) => true,
-        DockCall::ToScsi(_) => false,
-        DockCall::ToAta(_) => false,
-    }
+    matches!(call, DockCall::Send(_))
 }
 
 fn needs_device(line: Line) -> bool
     ensures { result ≡ paper.needs_device line }
 {
     match line {
-        Line::Passed => false,
-        Line::NotACall => false,
-        Line::Element(_) => false,
-        Line::Make(_) => false,
-        Line::Command(_) => true,
-        Line::Bare(_) => true,
-        Line::Grade(_) => true,
-        Line::Cells => true,
-        Line::Page(_) => false,
-        Line::Dock(c) => {
-            let call = c.call;
-            does_ask_device(call)
-        }
+        Line::Command(_) | Line::Bare(_) | Line::Grade(_) | Line::Cells => true,
+        Line::Dock(c) => does_ask_device(c.call),
+        Line::Passed | Line::NotACall | Line::Element(_) | Line::Make(_) | Line::Page(_) => false,
     }
 }
 
 fn lacks_device(made: bool, line: Line) -> bool
     ensures { result ≡ paper.lacks_device made line }
 {
-    if made {
-        return false;
-    }
-    needs_device(line)
+    !made && needs_device(line)
 }
 
 // Makes the call of a line, for which a device is there if it needs one.

@@ -9,6 +9,7 @@ use lib.Dec.{ltb}
 use lib.ListN.{length, get_or, take, replicate, length-take, length-map, get_or-replicate, get_or-map}
 use lib.Seq.{get_or-append-add, get_or-take}
 use borrow.Author.Tests.{lt-ltb, leb-true}
+use Rattle.std.proofs.Common.{Some}
 use Rattle.cells.specs.declared.Note.TheVariants.{Empty, Full}
 use Rattle.cells.specs.declared.Note.{Note}
 use Rattle.cells.specs.declared.Removal.{Removal}
@@ -27,7 +28,6 @@ use Rattle.paper.specs.Told.{tells}
 use Rattle.reader.proofs.LayoutTheorem.{and_both, asked_to, type_exactly, health_exactly}
 use Rattle.reader.proofs.Taken.{Listed, Taken, takes}
 use Rattle.reader.specs.Judgement.{header, slot_of}
-use Rattle.reader.specs.declared.Slot.TheVariants.{Holds}
 use Rattle.request.proofs.Requests.{accepted}
 use Rattle.request.specs.Requests.{filter_of, report_type_of, pages_of, refused, takes_id, takes_type}
 use Rattle.request.specs.declared.Request.{Request}
@@ -208,10 +208,10 @@ module _ (d : Device) (q : Request) (fits : Fits d) (asc : ascending 0 (identifi
         padding = subst (λ (m : ℕ). (i : ℕ) → i < length (page_of d q) - base_of m → get_or (page_of d q) (base_of m + i) 0 ≡ 0) (sym returned_here) padding_here;
       }
 
-  slot_here : (k : ℕ) → k < n → slot_of Little (page_of d q) k ≡ Holds (get_or (list_of d q) k none)
+  slot_here : (k : ℕ) → k < n → slot_of Little (page_of d q) k ≡ Some (get_or (list_of d q) k none)
   slot_here k l =
       let less : ltb k (header_in Little (page_of d q)).returned ≡ true = rw returned_here (lt-ltb k n l) in
-      rw less (ap Holds (descriptor_here k l))
+      rw less (ap Some (descriptor_here k l))
 
 pub agrees : Agrees
 agrees d q fits asc ok =

@@ -8,6 +8,7 @@ use native.Mathlib.Omega.{arith}
 use lib.Dec.{ltb}
 use lib.ListN.{length, get_or, take, length-take}
 use borrow.Author.Tests.{lt-ltb}
+use Rattle.std.proofs.Common.{Some}
 use Rattle.conduct.specs.Fits.{Fits}
 use Rattle.device.specs.declared.Device.{Device}
 use Rattle.layout.specs.Bytes.{header_in, laid}
@@ -19,7 +20,6 @@ use Rattle.paper.specs.Told.{tells}
 use Rattle.query.proofs.Queries.{not_due}
 use Rattle.query.specs.Queries.{due_four, asked}
 use Rattle.query.specs.declared.Query.{Query}
-use Rattle.reader.specs.declared.Slot.TheVariants.{Holds}
 use Rattle.scsi.proofs.Taken.{Taken, takes}
 use Rattle.scsi.specs.Data.{whole_of, torn_of}
 use Rattle.scsi.specs.Judgement.{reading, read_of, slot_of}
@@ -88,10 +88,10 @@ module _ (o : Order) (d : Device) (q : Query) (fits : Fits d) where
     taken : read_of o s q ≡ tells 0 (reading (sent_header d q) whole (torn_of n (length s)))
     taken = takes o s q keeps ∙ (λ i. tells 0 (reading (header_here i) (whole_of (number_here i) (length s)) (torn_of (number_here i) (length s))))
 
-    slot_here : (k : ℕ) → k < whole → slot_of o s k ≡ Holds (get_or list k none)
+    slot_here : (k : ℕ) → k < whole → slot_of o s k ≡ Some (get_or list k none)
     slot_here k l =
         let less : ltb k (whole_of (header_in o s).number (length s)) ≡ true = rw number_here (lt-ltb k whole l) in
-        rw less (ap Holds (here k l))
+        rw less (ap Some (here k l))
 
 pub sent_agrees : SentAgrees
 sent_agrees o d q a fits asc ok there = (taken o d q fits asc ok a there, slot_here o d q fits asc ok a there)

@@ -4,15 +4,12 @@
 mod calls;
 mod dock_calls;
 
-ghost use Rattle.std.specs.Prelude.{cond, ◌≡◌};
-ghost use Rattle.arguments.specs.declared.Line.TheVariants.{NotACall};
-
 pub use calls::{
     command_call, element_call, grade_call, length_call, make_call, next_call, poke_call, read_call,
 };
 pub use dock_calls::{scsi_call, scsiread_call, toata_call, toscsi_call};
 use offer::Element;
-use paper::{ElementId, Lba, PageCount, Security};
+use paper::{ElementId, PageCount, Registers, Security};
 use query::Query;
 use request::Request;
 
@@ -20,10 +17,7 @@ use request::Request;
 #[derive(Clone, Copy)]
 pub struct Command {
     pub security: Security,
-    pub code: u8,
-    pub feature: u16,
-    pub count: u16,
-    pub lba: Lba,
+    pub registers: Registers,
     pub length: usize,
 }
 
@@ -102,11 +96,4 @@ pub enum Line {
     Cells,
     Page(PageCall),
     Dock(Dock),
-}
-
-// A call if its words fit.
-fn fitting(fits: bool, call: Line) -> Line
-    ensures { result ≡ cond fits call NotACall }
-{
-    if fits { call } else { Line::NotACall }
 }

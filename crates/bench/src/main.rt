@@ -11,31 +11,17 @@ use runs::Run;
 use std::io::Read;
 
 // Room for every reply.
-fn text_room() -> [u8; 140000]
-    ensures { 140000 ≡ length result }
-{
-    [0u8; 140000]
-}
+const TEXT_ROOM: usize = 140000;
 
 // Room for a page, and for a piece of input.
-fn room() -> [u8; 65536]
-    ensures { 65536 ≡ length result }
-{
-    [0u8; 65536]
-}
-
-// Room for the name of a file.
-fn name_room() -> [u8; 4096]
-    ensures { 4096 ≡ length result }
-{
-    [0u8; 4096]
-}
+const ROOM: usize = 65536;
 
 fn hand_out(rt: &HostRuntime, text: &[u8]) -> Result<(), Told> {
     input::hand_out(rt, b"bench: standard output", text)
 }
 
-// Runs the lines that end in a piece of input, over the kept page, the buffer of the front call and room for what a line says.
+// Runs the lines that end in a piece of input, over the kept page, the buffer of the front call and room for what a line says. Each line ends
+// where `go_on` says, so no `for` counts the places.
 fn run_piece(
     rt: &HostRuntime,
     begun: Run,
@@ -67,21 +53,20 @@ fn read_piece<R: Read>(
     ensures end { IfOk result (λ n. n ≡ 0 → 0 < length piece.old → IsAtEnd (R.remaining script.new)) }
     ensures err { OnErr result (Keeps (R.remaining script.old) (R.remaining script.new)) }
 {
-    match script.read(piece) {
-        Ok(n) => Ok(n),
-        Err(error) => Err(input::tell(rt, name, error)),
-    }
+    script
+        .read(piece)
+        .map_err(|error| input::tell(rt, name, error))
 }
 
 // A script from an empty bench; its end ends its last line. Nothing says that input ends, so its pieces are counted up to a number that
 // no run reaches.
 fn run_script<R: Read>(rt: &HostRuntime, script: &mut R, name: &[u8]) -> Result<(), Told> {
-    let mut page = room();
-    let mut lent = room();
-    let mut out = text_room();
+    let mut page = [0u8; ROOM];
+    let mut lent = [0u8; ROOM];
+    let mut out = [0u8; TEXT_ROOM];
     let mut run = runs::new_run();
     for _ in 0..u64::MAX {
-        let mut piece = room();
+        let mut piece = [0u8; ROOM];
         let n = read_piece(rt, script, name, &mut piece)?;
         if n == 0 {
             break;
@@ -92,46 +77,25 @@ fn run_script<R: Read>(rt: &HostRuntime, script: &mut R, name: &[u8]) -> Result<
     hand_out(rt, slices::head(&out, said))
 }
 
-fn run_named(rt: &HostRuntime, name: &[u8]) -> Result<(), Told> {
+fn run_file(rt: &HostRuntime, i: usize) -> Result<(), Told> {
+    let mut path = [0u8; input::NAME_ROOM];
+    let length = input::arg(rt, i, &mut path);
+    let name = &path[..length];
     hand_out(rt, b"script ")?;
     hand_out(rt, name)?;
     hand_out(rt, b"\n")?;
-    match input::open(rt, name) {
-        Ok(file) => {
-            let mut script = file;
-            run_script(rt, &mut script, name)
-        }
-        Err(error) => Err(input::tell(rt, name, error)),
-    }
+    let mut script = input::open(rt, name).map_err(|error| input::tell(rt, name, error))?;
+    run_script(rt, &mut script, name)
 }
 
-fn run_file(rt: &HostRuntime, i: usize) -> Result<(), Told> {
-    let mut path = name_room();
-    let length = input::arg(rt, i, &mut path);
-    run_named(rt, &path[..length])
-}
-
-// A script that cannot be run to its end does not keep the next from being run.
-fn run_files(rt: &HostRuntime, n: usize) -> Result<(), Told> {
-    let mut ended = Ok(());
-    for i in 1..n {
-        if let Err(told) = run_file(rt, i) {
-            ended = Err(told);
-        }
-    }
-    ended
-}
-
-fn run_all(rt: &HostRuntime) -> Result<(), Told> {
-    let n = input::arg_count(rt);
-    if n < 2 {
-        let mut stdin = rt.stdin();
-        return run_script(rt, &mut stdin, b"bench: standard input");
-    }
-    run_files(rt, n)
-}
-
-// The words tell of a failure; the exit status is 0 all the same.
+// A script that cannot be run to its end does not keep the next from being run: the words tell of a failure, and the exit status is 0 all the
+// same.
 fn main(rt: HostRuntime) {
-    let _ = run_all(&rt);
+    let arguments = input::arg_count(&rt);
+    if arguments < 2 {
+        let _ = run_script(&rt, &mut rt.stdin(), b"bench: standard input");
+    }
+    for i in 1..arguments {
+        let _ = run_file(&rt, i);
+    }
 }

@@ -1,4 +1,4 @@
--- What is proved of the calls' data, of the front call, of a lent list, of the answers and of refusals.
+-- What is proved of the calls' data, of what a page shows, of a lent list, of the answers and of refusals.
 pub mod Data
 pub mod Fits
 pub mod Front

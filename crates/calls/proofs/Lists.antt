@@ -9,6 +9,7 @@ use lib.Dec.{leb}
 use lib.ListN.{length, take, replicate}
 use lib.Seq.{take_all, take_at}
 use borrow.Author.Tests.{leb-true, leb-false, le-leb, lt-leb}
+use Rattle.std.proofs.Common.{Option, None}
 use Rattle.conduct.specs.Promises.{Leaves}
 use Rattle.making.specs.Making.{fresh, made_of}
 use Rattle.offer.proofs.Laws.{good-ascending, good_count}
@@ -17,8 +18,6 @@ use Rattle.offer.specs.Check.{good, check_of}
 use Rattle.offer.specs.Elements.{offered, blank, block_sum}
 use Rattle.offer.specs.Search.{find}
 use Rattle.offer.specs.declared.Element.{Element}
-use Rattle.offer.specs.declared.Found.TheVariants.{Missing}
-use Rattle.offer.specs.declared.Found.{Found}
 use Rattle.paper.specs.Told.{tells}
 use Rattle.slices.proofs.Lists.{take_min}
 use Rattle.calls.specs.Offered.{check_list, find_list, array_of, offer_of, made_from}
@@ -58,21 +57,21 @@ module _ (es : List Element) (limit : ℕ) where
   unfolding check_of check_list
   check_offer = alike (λ (l : List Element). tells 0 (block_sum l ∷ [])) (tells 8 [])
 
-pub find_offer : (es : List Element) (id : ℕ) → cond (leb (length es) 128) (find id (take (length es) (array_of es))) Missing ≡ find_list id es
+pub find_offer : (es : List Element) (id : ℕ) → cond (leb (length es) 128) (find id (take (length es) (array_of es))) None ≡ find_list id es
 unfolding find_list
 find_offer es id = go (leb (length es) 128) refl
   where
-    go : (b : Bool) → leb (length es) 128 ≡ b → cond b (find id (take (length es) (array_of es))) Missing ≡ cond b (find id es) Missing
+    go : (b : Bool) → leb (length es) 128 ≡ b → cond b (find id (take (length es) (array_of es))) None ≡ cond b (find id es) None
     go true e = rw (taken es (leb-true (length es) 128 e))
     go false e = refl
 
 -- ## `find_in`
 
-module _ (count : ℕ) (f : Found) where
-  pub found_long : 128 < count → Missing ≡ cond (leb count 128) f Missing
+module _ (count : ℕ) (f : Option Element) where
+  pub found_long : 128 < count → None ≡ cond (leb count 128) f None
   found_long h = sym (rw (lt-leb count 128 h))
 
-  pub found_within : count ≤ 128 → (r : Found) → r ≡ f → r ≡ cond (leb count 128) f Missing
+  pub found_within : count ≤ 128 → (r : Option Element) → r ≡ f → r ≡ cond (leb count 128) f None
   found_within h r e = e ∙ sym (rw (le-leb count 128 h))
 
 -- ## What holds of a list (specs/Promises)

@@ -1,14 +1,12 @@
 -- Document 01: "a table offered for a new device is checked and searched in the caller's own list of records, then copied into the device".
 -- A list of more than 128 records is no table: "1 to 128 elements".
-use Rattle.std.specs.Prelude.{ℕ, ◌-◌, cond, List, [], ◌∷◌, ◌++◌, leb, length, take, replicate}
+use Rattle.std.specs.Prelude.{ℕ, ◌-◌, cond, Option, None, List, [], ◌∷◌, ◌++◌, leb, length, take, replicate}
 use Rattle.device.specs.declared.Device.{Device}
 use Rattle.making.specs.Making.{fresh}
 use Rattle.offer.specs.Check.{good}
 use Rattle.offer.specs.Elements.{blank, block_sum}
 use Rattle.offer.specs.Search.{find}
 use Rattle.offer.specs.declared.Element.{Element}
-use Rattle.offer.specs.declared.Found.TheVariants.{Missing}
-use Rattle.offer.specs.declared.Found.{Found}
 use Rattle.offer.specs.declared.Offer.{Offer}
 use Rattle.paper.specs.Told.{Told, tells}
 
@@ -17,8 +15,8 @@ unfoldable pub check_list : List Element → ℕ → Told (List ℕ)
 check_list es limit = cond (good (length es) es limit) (tells 0 (block_sum es ∷ [])) (tells 8 [])
 
 -- the element of an identifier in a list
-unfoldable pub find_list : ℕ → List Element → Found
-find_list id es = cond (leb (length es) 128) (find id es) Missing
+unfoldable pub find_list : ℕ → List Element → Option Element
+find_list id es = cond (leb (length es) 128) (find id es) None
 
 -- the array of a list: its records, as many as the array takes, then blanks
 abbrev pub array_of : List Element → List Element

@@ -1,19 +1,16 @@
 -- What holds of the lent calls. Each is a statement; proofs/ has the proof under the same name in lower case.
-use Rattle.std.specs.Prelude.{ℕ, ◌<◌, true, List, [], ◌≡◌, length, get_or}
+use Rattle.std.specs.Prelude.{ℕ, ◌<◌, true, Option, None, Some, List, [], ◌≡◌, length, get_or}
 use Rattle.conduct.specs.Promises.{OneAnswer, Leaves, ButPosition}
 use Rattle.device.specs.Machine.{command, told}
 use Rattle.device.specs.declared.Device.{Device}
 use Rattle.making.specs.Making.{made_of}
 use Rattle.offer.specs.Check.{verdict, good}
 use Rattle.offer.specs.Elements.{blank}
-use Rattle.offer.specs.declared.Checked.{Checked}
 use Rattle.offer.specs.declared.Element.{Element}
-use Rattle.offer.specs.declared.Found.TheVariants.{Missing, One}
-use Rattle.offer.specs.declared.Found.{Found}
-use Rattle.paper.specs.Promises.{OneOutput}
-use Rattle.paper.specs.Registers.{Registers}
-use Rattle.paper.specs.Told.{tells, said}
+use Rattle.paper.specs.Output.{Output, output}
+use Rattle.paper.specs.Told.{Told, tells, said}
 use Rattle.paper.specs.declared.Answer.{Answer}
+use Rattle.paper.specs.declared.Registers.{Registers}
 use Rattle.paper.specs.declared.Security.{Security}
 use Rattle.status.specs.Lent.{lent}
 use Rattle.status.specs.Promises.{OnePage}
@@ -29,22 +26,26 @@ OneCommand =
     → (a ≡ b) × (x ≡ y) × (u ≡ v)
 
 abbrev pub OneCheck : Type 0
-OneCheck = (es : List Element) (limit : ℕ) (a b : Checked) → verdict a ≡ check_list es limit → verdict b ≡ check_list es limit → a ≡ b
+OneCheck = (es : List Element) (limit : ℕ) (a b : Option ℕ) → verdict a ≡ check_list es limit → verdict b ≡ check_list es limit → a ≡ b
 
 abbrev pub OneFind : Type 0
-OneFind = (es : List Element) (id : ℕ) (a b : Found) → a ≡ find_list id es → b ≡ find_list id es → a ≡ b
+OneFind = (es : List Element) (id : ℕ) (a b : Option Element) → a ≡ find_list id es → b ≡ find_list id es → a ≡ b
 
 abbrev pub OneMaking : Type 0
 OneMaking =
     (d : Device) (es : List Element) (limit : ℕ) (a b : Answer) (x y : Device)
     → said a x ≡ made_from d es limit → said b y ≡ made_from d es limit → (a ≡ b) × (x ≡ y)
 
+abbrev pub OneSending : Type 0
+OneSending =
+    (t : Told Output) (a b : Answer) (m n : ℕ) (x y : List ℕ) → said a (output m x) ≡ t → said b (output n y) ≡ t → (a ≡ b) × (m ≡ n) × (x ≡ y)
+
 -- of every lent call
 pub record OneFits : Type 0 where
   pub changing : OneAnswer
   pub command : OneCommand
   pub showing : OnePage
-  pub sending : OneOutput
+  pub sending : OneSending
   pub checking : OneCheck
   pub finding : OneFind
   pub making : OneMaking
@@ -55,7 +56,7 @@ pub record OneFits : Type 0 where
 abbrev pub LongListRefused : Type 0
 LongListRefused =
     (d : Device) (es : List Element) (limit id : ℕ) → 128 < length es
-    → (check_list es limit ≡ tells 8 []) × (find_list id es ≡ Missing) × (made_from d es limit ≡ tells 8 d)
+    → (check_list es limit ≡ tells 8 []) × (find_list id es ≡ None) × (made_from d es limit ≡ tells 8 d)
 
 -- a device made of a list is the one made of its offer, from which demand 3 starts (demands/specs/Starts, `ListedStarts`)
 abbrev pub MadeAlike : Type 0
@@ -65,8 +66,8 @@ MadeAlike = (d : Device) (es : List Element) (limit : ℕ) → made_from d es li
 abbrev pub FindsExactly : Type 0
 FindsExactly =
     (es : List Element) (limit : ℕ) → good (length es) es limit ≡ true
-    → ((i : ℕ) → i < length es → find_list (get_or es i blank).id.0 es ≡ One (get_or es i blank))
-    × ((id : ℕ) (e : Element) → find_list id es ≡ One e → (i : ℕ) × (i < length es) × (get_or es i blank ≡ e) × (e.id.0 ≡ id))
+    → ((i : ℕ) → i < length es → find_list (get_or es i blank).id.0 es ≡ Some (get_or es i blank))
+    × ((id : ℕ) (e : Element) → find_list id es ≡ Some e → (i : ℕ) × (i < length es) × (get_or es i blank ≡ e) × (e.id.0 ≡ id))
 
 -- ## "Only the position in the step list is lost with power."
 

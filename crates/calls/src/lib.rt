@@ -2,7 +2,7 @@
 // device copies it out, makes the call by value and stores back the device that it hands back; one that only reads stores nothing.
 #![tactic(auto)]
 
-ghost use Rattle.std.specs.Prelude.{◌≡◌, cond, leb, length, take, replicate};
+ghost use Rattle.std.specs.Prelude.{None, ◌≡◌, cond, leb, length, take, replicate};
 ghost use Rattle.conduct.specs.Fits.{Fits};
 ghost use Rattle.device.specs.Machine as machine;
 ghost use Rattle.device.specs.Machine.{told};
@@ -18,79 +18,80 @@ ghost use Rattle.sender.specs.Sent.{sent};
 ghost use Rattle.calls.specs.Offered.{array_of, check_list, find_list, made_from};
 
 use device::{Device, Stepped};
-use offer::{Checked, Element, Found, Offer};
-use paper::{Answer, ElementId, Lba, Security, Written};
+use offer::{Element, Offer};
+use paper::{Answer, ElementId, Lba, Registers, Security};
 use query::Query;
 use request::Request;
 
+// What `send` says, and how many bytes it wrote: none unless it says 0. No `Result`: that comes back through memory, and each element sent costs two
+// instructions more.
+#[derive(Clone, Copy)]
+pub struct Sent {
+    pub answer: Answer,
+    pub count: usize,
+}
+
 // ---- The device, changed in place
+
+// Stores back the device that a call by value hands back.
+fn stored_back(s: Stepped, d: &mut Device) -> Answer
+    ensures answer { result ≡ s.answer }
+    ensures device { d.new ≡ s.device }
+{
+    *d = s.device;
+    s.answer
+}
 
 pub fn remove(d: &mut Device, security: Security, feature: u16, count: u16, lba: Lba) -> Answer
     ensures { said result d.new ≡ told d.old (machine.command security (record { code = 0x7C; feature = feature; count = count; lba = lba }) 0) }
 {
-    let r = (*d).remove(security, feature, count, lba);
-    *d = r.device;
-    r.answer
+    stored_back((*d).remove(security, feature, count, lba), d)
 }
 
 pub fn step(d: &mut Device) -> Answer
     ensures { said result d.new ≡ told d.old machine.step }
 {
-    let r = (*d).step();
-    *d = r.device;
-    r.answer
+    stored_back((*d).step(), d)
 }
 
 pub fn media_error(d: &mut Device) -> Answer
     ensures { said result d.new ≡ told d.old machine.media_error }
 {
-    let r = (*d).media_error();
-    *d = r.device;
-    r.answer
+    stored_back((*d).media_error(), d)
 }
 
 pub fn power_cut(d: &mut Device) -> Answer
     ensures { said result d.new ≡ told d.old machine.power_cut }
 {
-    let r = (*d).power_cut();
-    *d = r.device;
-    r.answer
+    stored_back((*d).power_cut(), d)
 }
 
 pub fn comreset(d: &mut Device) -> Answer
     ensures { said result d.new ≡ told d.old machine.comreset }
 {
-    let r = (*d).comreset();
-    *d = r.device;
-    r.answer
+    stored_back((*d).comreset(), d)
 }
 
 pub fn hardware_reset(d: &mut Device) -> Answer
     ensures { said result d.new ≡ told d.old machine.hardware_reset }
 {
-    let r = (*d).hardware_reset();
-    *d = r.device;
-    r.answer
+    stored_back((*d).hardware_reset(), d)
 }
 
 pub fn software_reset(d: &mut Device) -> Answer
     ensures { said result d.new ≡ told d.old machine.software_reset }
 {
-    let r = (*d).software_reset();
-    *d = r.device;
-    r.answer
+    stored_back((*d).software_reset(), d)
 }
 
 pub fn grade(d: &mut Device, id: ElementId, health: u8) -> Answer
     ensures { said result d.new ≡ told d.old (machine.grade id health) }
 {
-    let r = (*d).grade(id, health);
-    *d = r.device;
-    r.answer
+    stored_back((*d).grade(id, health), d)
 }
 
 // The front call. The page of 12h is filled by `show` below: called from two places, the call by value would be compiled apart, and take a
-// copy of the device.
+// copy of the device. The registers come one by one: as a struct they would be read back from memory, 6 instructions more on every path.
 pub fn command(
     d: &mut Device,
     security: Security,
@@ -103,10 +104,16 @@ pub fn command(
     ensures { (said result d.new ≡ told d.old (machine.command security (record { code = code; feature = feature; count = count; lba = lba }) (length buf.old)))
         × (buf.new ≡ lent d.old security (record { code = code; feature = feature; count = count; lba = lba }) buf.old) }
 {
-    let r = commands::command(*d, security, code, feature, count, lba, buf.len());
+    let registers = Registers {
+        code,
+        feature,
+        count,
+        lba,
+    };
+    let r = commands::command(*d, security, registers, buf.len());
     *d = r.device;
     if code == 0x12 {
-        show(d, security, commands::asked(feature, count, lba), buf);
+        show(d, security, Request::from(registers), buf);
     }
     r.answer
 }
@@ -121,10 +128,19 @@ pub fn show(d: &Device, security: Security, request: Request, buf: &mut [u8]) ->
 }
 
 // The data for a SCSI host.
-pub fn send(d: &Device, query: Query, allocation: u32, buf: &mut [u8]) -> Written
+pub fn send(d: &Device, query: Query, allocation: u32, buf: &mut [u8]) -> Sent
     ensures { said result.answer (output result.count buf.new) ≡ sent d.now query allocation buf.old }
 {
-    sender::send(*d, query, allocation, buf)
+    match sender::send(*d, query, allocation, buf) {
+        Ok(count) => Sent {
+            answer: Answer::Done,
+            count,
+        },
+        Err(why) => Sent {
+            answer: Answer::from(why),
+            count: 0,
+        },
+    }
 }
 
 // ---- The caller's own list of records
@@ -147,7 +163,7 @@ pub fn copied(list: &[Element]) -> [Element; 128]
     es
 }
 
-fn check_in(elements: [Element; 128], count: usize, limit: u16) -> Checked
+fn check_in(elements: [Element; 128], count: usize, limit: u16) -> Option<u64>
     ensures { verdict result ≡ check_of (record { elements = elements; count = count; limit = limit }) }
 {
     let o = Offer {
@@ -158,11 +174,11 @@ fn check_in(elements: [Element; 128], count: usize, limit: u16) -> Checked
     o.check()
 }
 
-fn find_in(elements: [Element; 128], count: usize, id: ElementId) -> Found
-    ensures { result ≡ cond (leb count 128) (search.find id.0 (take count elements)) Found.Missing }
+fn find_in(elements: [Element; 128], count: usize, id: ElementId) -> Option<Element>
+    ensures { result ≡ cond (leb count 128) (search.find id.0 (take count elements)) None }
 {
     if 128 < count {
-        return Found::Missing;
+        return None;
     }
     let o = Offer {
         elements,
@@ -183,15 +199,15 @@ fn make_in(there: Device, elements: [Element; 128], count: usize, limit: u16) ->
     making::make_device(there, o)
 }
 
-// Whether document 01 accepts a list as a table, and then its blocks in all.
-pub fn check(list: &[Element], limit: u16) -> Checked
+// Where document 01 accepts a list as a table, its blocks in all.
+pub fn check(list: &[Element], limit: u16) -> Option<u64>
     ensures { verdict result ≡ check_list list.now limit }
 {
     check_in(copied(list), list.len(), limit)
 }
 
 // The element of an identifier in a list.
-pub fn find(list: &[Element], id: ElementId) -> Found
+pub fn find(list: &[Element], id: ElementId) -> Option<Element>
     ensures { result ≡ find_list id.0 list.now }
 {
     find_in(copied(list), list.len(), id)
@@ -203,6 +219,5 @@ pub fn make_device(d: &mut Device, list: &[Element], limit: u16) -> Answer
     ensures { (said result d.new ≡ made_from d.old list.now limit) × Fits d.new }
 {
     let r = make_in(*d, copied(list), list.len(), limit);
-    *d = r.device;
-    r.answer
+    stored_back(r, d)
 }

@@ -1,4 +1,3 @@
--- What is proved of the cells' functions.
+-- What is proved of the rulings, and of what the search sees.
 pub mod Once
 pub mod Sights
-pub mod Stores

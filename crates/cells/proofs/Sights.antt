@@ -1,18 +1,37 @@
--- What the search sees, from the table's sight and the cell of its place.
-use Prim.Native.Nat.{ℕ}
-use mathlib.Core.Path.{◌≡◌, ap, ◌∙◌}
+-- What the search sees: an element where the table's search hits, and then the one at the place where it stops.
+use mathlib.Core.Bool.{Bool, true, false, cond}
+use mathlib.Core.Path.{◌≡◌, refl, sym}
 use lib.ListN.{get_or}
+use Rattle.std.proofs.Common.{Option, Some, None}
+use Rattle.std.proofs.lemmas.Option.{same_Some, none-some}
+use Rattle.std.specs.Option.{option_map}
 use Rattle.paper.specs.declared.ElementId.{ElementId}
-use Rattle.table.specs.Search.{sight}
+use Rattle.table.specs.Elements.{live, blank_part, identifiers}
+use Rattle.table.specs.Search.{place, hits, sight_in}
 use Rattle.table.specs.declared.Sight.{Sight}
 use Rattle.table.specs.declared.Table.{Table}
 use Rattle.cells.specs.Cells.{health_in}
 use Rattle.cells.specs.Sights.{see_in}
 use Rattle.cells.specs.declared.Cells.{Cells}
+use Rattle.cells.specs.declared.Seen.{Seen}
 
-pub seen : (t : Table) (c : Cells) (id : ElementId) (x : Sight) (h : ℕ) → x ≡ sight id.0 t → h ≡ get_or c.healths x.place 0
-    → record { part = x.part; place = x.place; health = h; hit = x.hit } ≡ see_in t c id
-unfolding see_in
-seen t c id x h is_x is_h =
-    let is_health : h ≡ health_in c (sight id.0 t).place = is_h ∙ ap (λ (y : Sight). health_in c y.place) is_x in
-    λ i. record { part = (is_x i).part; place = (is_x i).place; health = is_health i; hit = (is_x i).hit }
+module _ (t : Table) (c : Cells) (id : ElementId) where
+  abbrev at : Sight
+  at = record { part = get_or (live t) (place id.0 (identifiers t)) blank_part; place = place id.0 (identifiers t) }
+
+  abbrev pub found : Seen
+  found = record { part = at.part; place = at.place; health = health_in c at.place }
+
+  pub hit_seen : hits id.0 (identifiers t) ≡ true → see_in t c id ≡ Some found
+  unfolding see_in sight_in
+  hit_seen q = rw q
+
+  pub seen_hit : (s : Seen) → see_in t c id ≡ Some s → (hits id.0 (identifiers t) ≡ true) × (found ≡ s)
+  unfolding see_in sight_in
+  seen_hit s e = go (hits id.0 (identifiers t)) refl e
+    where
+      go : (b : Bool) → hits id.0 (identifiers t) ≡ b
+          → option_map (λ (x : Sight). record { part = x.part; place = x.place; health = health_in c x.place }) (cond b (Some at) None) ≡ Some s
+          → (hits id.0 (identifiers t) ≡ true) × (found ≡ s)
+      go true q r = (q, same_Some found s r)
+      go false q r = absurd (none-some s r)

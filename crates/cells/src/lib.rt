@@ -9,7 +9,7 @@ ghost use Rattle.cells.specs.Rulings.{ruled};
 ghost use Rattle.cells.specs.Sights.{see_in};
 
 use paper::{Answer, ElementId, Lba};
-use table::{Part, Table};
+use table::{Part, Sight, Table};
 
 // What a note holds of the removal under way.
 #[derive(Clone, Copy)]
@@ -19,6 +19,7 @@ pub struct Removal {
     pub new: Lba,
 }
 
+// An enum of its own and no Option: empty and full are the document's words for this cell, and its stores and questions are named by them.
 #[derive(Clone, Copy)]
 pub enum Note {
     Empty,
@@ -46,7 +47,8 @@ pub enum Position {
     Wind4,
 }
 
-// "Cells that survive power loss, each written whole or not at all". A health is the cell of its place in the table.
+// "Cells that survive power loss, each written whole or not at all". A health is a cell of its own, that of its place in the table: so the healths
+// are an array beside the table's parts, and 128, in fixed memory.
 #[derive(Clone, Copy)]
 pub struct Cells {
     pub native: Lba,
@@ -77,13 +79,12 @@ pub struct Ruling {
     pub next: Position,
 }
 
-// What the search sees of an element: where it stopped, the part and the health there, and whether it is the one sought.
+// What the search sees of an element: its part, its place and the health there.
 #[derive(Clone, Copy)]
 pub struct Seen {
     pub part: Part,
     pub place: usize,
     pub health: u8,
-    pub hit: bool,
 }
 
 // ---- Each cell after a store, whatever the others are
@@ -160,21 +161,16 @@ impl Note {
     pub fn is_full(self) -> bool
         ensures { result ≡ is_full self }
     {
-        match self {
-            Note::Empty => false,
-            Note::Full(_) => true,
-        }
+        matches!(self, Note::Full(_))
     }
 }
 
 impl Mark {
+    #[tactic(auto, unfolding(crate::specs::Cells::is_set))]
     pub fn is_set(self) -> bool
         ensures { result ≡ is_set self }
     {
-        match self {
-            Mark::Clear => false,
-            Mark::Set => true,
-        }
+        matches!(self, Mark::Set)
     }
 }
 
@@ -227,17 +223,14 @@ pub fn goes(store: Store, next: Position) -> Ruling
     }
 }
 
-// What the search sees of an element.
-pub fn see(t: Table, c: Cells, id: ElementId) -> Seen
+// What the search sees of an element, if it is in the table.
+pub fn see(t: Table, c: Cells, id: ElementId) -> Option<Seen>
     ensures { result ≡ see_in t c id }
 {
-    let healths = c.healths;
-    let s = t.sight(id);
-    let part = s.part;
-    Seen {
+    let Sight { part, place } = t.sight(id)?;
+    Some(Seen {
         part,
-        place: s.place,
-        health: table::health_at(healths, s.place),
-        hit: s.hit,
-    }
+        place,
+        health: table::health_at(c.healths, place),
+    })
 }

@@ -8,53 +8,30 @@ ghost use Rattle.device.specs.Machine.{told};
 ghost use Rattle.open.specs.Open.{is_open};
 ghost use Rattle.paper.specs.Answers.{number_of};
 ghost use Rattle.paper.specs.Told.{said};
-ghost use Rattle.request.specs.Requests as requests;
-ghost use Rattle.slices.specs.Lists.{one_of};
 
 use cells::Mark;
 use device::{Device, Stepped};
-use paper::{Answer, Lba, PageCount, Security};
+use paper::{Answer, Lba, Registers, Security};
 use request::Request;
-
-fn is_one_of(code: u8, codes: &[u8]) -> bool
-    ensures { result ≡ one_of code codes.now }
-{
-    let mut i: usize = 0;
-    while i < codes.len() {
-        if code == codes[i] {
-            return true;
-        }
-        i += 1;
-    }
-    false
-}
 
 // EXT reads, writes, verify: media access.
 fn is_media(code: u8) -> bool
     ensures { result ≡ is_media code }
 {
-    let codes = [0x24, 0x25, 0x34, 0x35, 0x42];
-    is_one_of(code, &codes)
+    matches!(code, 0x24 | 0x25 | 0x34 | 0x35 | 0x42)
 }
 
 fn is_named(code: u8) -> bool
     ensures { result ≡ is_named code }
 {
-    if is_media(code) {
-        return true;
-    }
-    let codes = [0xEC, 0xE1, 0x2F, 0x47, 0x0B, 0xF2, 0xEF, 0xB0];
-    is_one_of(code, &codes)
+    is_media(code) || matches!(code, 0xEC | 0xE1 | 0x2F | 0x47 | 0x0B | 0xF2 | 0xEF | 0xB0)
 }
 
 // Whether a removal is under way that the command must wait for.
-fn is_shut(busy: bool, code: u8, feature: u16, lba: u64) -> bool
-    ensures { result ≡ (busy && not (is_open code feature lba)) }
+fn is_shut(busy: bool, registers: Registers) -> bool
+    ensures { result ≡ (busy && not (is_open registers.code registers.feature registers.lba.0)) }
 {
-    if busy {
-        return !open::is_open(code, feature, lba);
-    }
-    false
+    busy && !open::is_open(registers.code, registers.feature, registers.lba.0)
 }
 
 // COUNT 0 means 65,536 sectors.
@@ -73,79 +50,51 @@ fn is_beyond(accessible: Lba, lba: Lba, count: u16) -> bool
     accessible.0 < last
 }
 
-fn media_answer(failed: Mark, accessible: Lba, count: u16, lba: Lba) -> Answer
-    ensures { number_of result ≡ media_number failed accessible count lba }
+#[tactic(auto, unfolding(device::specs::Commands::media_number))]
+fn media_answer(failed: Mark, accessible: Lba, registers: Registers) -> Answer
+    ensures { number_of result ≡ media_number failed accessible registers.count registers.lba }
 {
     if failed.is_set() {
         return Answer::Failed;
     }
-    if is_beyond(accessible, lba, count) {
+    if is_beyond(accessible, registers.lba, registers.count) {
         return Answer::BeyondMax;
     }
     Answer::Done
 }
 
 // The judgement of a code that has no rules of its own.
-fn other_answer(d: Device, code: u8, feature: u16, count: u16, lba: Lba) -> Answer
-    ensures { number_of result ≡ other_number d (record { code = code; feature = feature; count = count; lba = lba }) }
+#[tactic(auto, unfolding(device::specs::Commands::other_number))]
+fn other_answer(d: Device, registers: Registers) -> Answer
+    ensures { number_of result ≡ other_number d registers }
 {
     let cells = d.cells;
-    let note = cells.note;
-    if is_shut(note.is_full(), code, feature, lba.0) {
+    if is_shut(cells.note.is_full(), registers) {
         return Answer::InProgress;
     }
-    if !is_named(code) {
-        return Answer::UnknownCommand;
+    if is_media(registers.code) {
+        return media_answer(cells.failed, cells.accessible, registers);
     }
-    if is_media(code) {
-        let failed = cells.failed;
-        let accessible = cells.accessible;
-        return media_answer(failed, accessible, count, lba);
+    if !is_named(registers.code) {
+        return Answer::UnknownCommand;
     }
     Answer::Done
 }
 
-// What 12h asks for.
-pub fn asked(feature: u16, count: u16, lba: Lba) -> Request
-    ensures { result ≡ requests.asked (record { code = 0x12; feature = feature; count = count; lba = lba }) }
-{
-    Request {
-        feature,
-        count: PageCount(count),
-        lba,
-    }
-}
-
 // What a code that changes nothing is answered; 12h has rules of its own. It is asked of 7Ch too, whose ruling does not need it.
-fn quiet_answer(
-    d: Device,
-    security: Security,
-    code: u8,
-    feature: u16,
-    count: u16,
-    lba: Lba,
-    room: usize,
-) -> Answer
-    ensures { number_of result ≡ machine.quiet_number d security (record { code = code; feature = feature; count = count; lba = lba }) room }
+fn quiet_answer(d: Device, security: Security, registers: Registers, room: usize) -> Answer
+    ensures { number_of result ≡ machine.quiet_number d security registers room }
 {
-    if code == 0x12 {
-        return request::judge(security, asked(feature, count, lba), room);
+    if registers.code == 0x12 {
+        return request::judge(security, Request::from(registers), room);
     }
-    other_answer(d, code, feature, count, lba)
+    other_answer(d, registers)
 }
 
 // Any command, with the length of the lent buffer. It fills no page: of 12h that is left to `status::show`.
-pub fn command(
-    d: Device,
-    security: Security,
-    code: u8,
-    feature: u16,
-    count: u16,
-    lba: Lba,
-    room: usize,
-) -> Stepped
-    ensures { said result.answer result.device ≡ told d (machine.command security (record { code = code; feature = feature; count = count; lba = lba }) room) }
+pub fn command(d: Device, security: Security, registers: Registers, room: usize) -> Stepped
+    ensures { said result.answer result.device ≡ told d (machine.command security registers room) }
 {
-    let other = quiet_answer(d, security, code, feature, count, lba, room);
-    d.command(security, code, feature, count, lba, other)
+    let other = quiet_answer(d, security, registers, room);
+    d.command(security, registers, other)
 }

@@ -10,14 +10,14 @@ use lib.Dec.{eqb, ltb}
 use borrow.Author.Tests.{ltb-true, ltb-false, eqb-true, eqb-false}
 use Rattle.paper.specs.declared.ElementId.{ElementId}
 use Rattle.reach.specs.Pages.{count_of, element_at, bound_of, end_of}
+use Rattle.std.specs.Prelude.{Option, Some, None}
 use Rattle.compare.specs.Differences.{alike, absent, standing, difference_at, differences_in, differences_of}
 use Rattle.compare.specs.Promises.{WalkGives}
 use Rattle.compare.specs.Walk.{cursor, first, frame_of, key_at, agree_at, found_by, step_at, next_of, ahead, after, walk_from}
 use Rattle.compare.specs.declared.Cursor.{Cursor}
+use Rattle.compare.specs.declared.Hit.{Hit}
 use Rattle.compare.specs.declared.Line.TheVariants.{OnlyOlder, OnlyNewer, Changed}
 use Rattle.compare.specs.declared.Line.{Line}
-use Rattle.compare.specs.declared.Step.TheVariants.{Done}
-use Rattle.compare.specs.declared.Step.{Step}
 use Rattle.compare.proofs.Ascending.{Ascends, ascends}
 use Rattle.compare.proofs.Places.{inside}
 use Rattle.compare.proofs.Standings.{Split, between, nearer_to, not-below, stands_there, past_it}
@@ -78,13 +78,13 @@ module _ (s t : List ℕ) where
         skip (m - a) (suc (end.0 - m)) n a m (omega (arith, all)) (omega arith) (nowhere m l r)
         ∙ ap (λ (k : ℕ). difference_at s t (numbered m) ++ differences_in s t k (end.0 - m)) (sym (add-one m))
 
-    steps : (r : Step) → agree_at s t (frame_of s t) c ≡ false → r ≡ step_at s t (frame_of s t) c → r ≡ next_of s t c
+    steps : (r : Option Hit) → agree_at s t (frame_of s t) c ≡ false → r ≡ step_at s t (frame_of s t) c → r ≡ next_of s t c
     unfolding next_of
     steps r n is_r = next_here s t (frame_of s t) c n r is_r
 
-    finds : (r : Step) → agree_at s t (frame_of s t) c ≡ false → min x y ≤ end.0 → r ≡ found_by x y c → r ≡ next_of s t c
+    finds : (r : Hit) → agree_at s t (frame_of s t) c ≡ false → min x y ≤ end.0 → r ≡ found_by x y c → Some r ≡ next_of s t c
     unfolding x y
-    finds r n l is_r = steps r n (step_by_lem s t (frame_of s t) c x y refl refl r (step_found x y end c (min x y) refl l r is_r))
+    finds r n l is_r = steps (Some r) n (step_by_lem s t (frame_of s t) c x y refl refl (Some r) (step_found x y end c (min x y) refl l r is_r))
 
     apart : (x ≡ y → ⊥) → agree_at s t (frame_of s t) c ≡ false
     unfolding x y
@@ -103,7 +103,7 @@ module _ (s t : List ℕ) where
     none_left : end.0 < x → end.0 < y → Right c a n
     unfolding x y differences_in Right
     none_left l r =
-        walk_done s t c (steps Done (beyond l) (step_by_lem s t (frame_of s t) c x y refl refl Done (step_done x y end c (min x y) refl (le-min l r))))
+        walk_done s t c (steps None (beyond l) (step_by_lem s t (frame_of s t) c x y refl refl None (step_done x y end c (min x y) refl (le-min l r))))
         ∙ sym (skip n 0 n a (a + n) (omega arith) refl (nowhere (a + n) (omega (arith, all)) (omega (arith, all))))
 
     only_older : x < y → x ≤ end.0 → Right c a n
@@ -164,7 +164,7 @@ module _ (s t : List ℕ) where
       unchanged e =
           let none : difference_at s t (numbered x) ≡ [] = both_stand ∙ ap (λ (b : Bool). cond b [] (Changed c ∷ [])) e in
           let next : next_of s t c ≡ next_of s t on = next_on s t (frame_of s t) c (sym agree ∙ e) in
-          walk_ends s t c ∙ ap (λ (r : Step). after r (walk_from s t)) next ∙ sym (walk_ends s t on) ∙ rest
+          walk_ends s t c ∙ ap (λ (r : Option Hit). after r (walk_from s t)) next ∙ sym (walk_ends s t on) ∙ rest
           ∙ ap (λ (ls : List Line). ls ++ differences_in s t (x + 1) (end.0 - x)) (sym none)
 
       changed : alike (element_at s c.older) (element_at t c.newer) ≡ false → walk_from s t c ≡ difference_at s t (numbered x) ++ differences_in s t (x + 1) (end.0 - x)

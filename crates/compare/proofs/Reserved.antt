@@ -9,6 +9,7 @@ use Rattle.paper.specs.declared.ElementId.{ElementId}
 use Rattle.reach.proofs.Reserved.{count_same, element-same, bound_same}
 use Rattle.reach.specs.Pages.{bound_of, end_of}
 use Rattle.reader.specs.Reserved.{LooksAlike}
+use Rattle.std.specs.Prelude.{Some, None}
 use Rattle.words.specs.declared.Order.TheVariants.{Little}
 use Rattle.compare.specs.Differences.{alike, Standing, absent, stands, standing_in, standing, difference, difference_at, differences_in, differences_of}
 use Rattle.compare.specs.Promises.{ReservedUncompared}
@@ -16,7 +17,6 @@ use Rattle.compare.specs.Walk.{cursor, frame_of, key_at, agree_at, found_by, ste
 use Rattle.compare.specs.declared.Cursor.{Cursor}
 use Rattle.compare.specs.declared.Frame.{Frame}
 use Rattle.compare.specs.declared.Line.TheVariants.{Changed}
-use Rattle.compare.specs.declared.Step.TheVariants.{Done}
 
 -- ## One page
 
@@ -75,7 +75,7 @@ module _ (s s' t t' : List ℕ) (older : LooksAlike Little s s') (newer : LooksA
     step_same c = λ i.
         let a = key_same s s' older f.last.older c.older f.end i in
         let b = key_same t t' newer f.last.newer c.newer f.end i in
-        cond (ltb f.end.0 (min a b)) Done (found_by a b c)
+        cond (ltb f.end.0 (min a b)) None (Some (found_by a b c))
 
     past_same : (n : ℕ) (c : Cursor) → past s t f n c ≡ past s' t' f n c
     unfolding past

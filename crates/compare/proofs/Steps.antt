@@ -11,14 +11,14 @@ use Rattle.layout.specs.declared.Descriptor.{Descriptor}
 use Rattle.paper.specs.declared.ElementId.{ElementId}
 use Rattle.reach.specs.Pages.{element_at}
 use Rattle.reader.proofs.LayoutTheorem.{and_both}
+use Rattle.std.specs.Prelude.{Option, Some, None}
 use Rattle.compare.specs.Differences.{alike}
 use Rattle.compare.specs.Private.{is_inside, agree_by, step_by, Pairs}
 use Rattle.compare.specs.Walk.{cursor, frame_of, key_at, agree_at, found, found_by, step_at, past, next_to, next_of}
 use Rattle.compare.specs.declared.Cursor.{Cursor}
 use Rattle.compare.specs.declared.Frame.{Frame}
+use Rattle.compare.specs.declared.Hit.{Hit}
 use Rattle.compare.specs.declared.Line.TheVariants.{OnlyOlder, OnlyNewer, Changed}
-use Rattle.compare.specs.declared.Step.TheVariants.{Done}
-use Rattle.compare.specs.declared.Step.{Step}
 use Rattle.compare.proofs.Places.{id_whole, key_there, inside, inside_both}
 
 -- ## At a cursor
@@ -43,11 +43,11 @@ module _ (s t : List ℕ) (f : Frame) (c : Cursor) (a b : ℕ) (is_a : a ≡ key
   unfolding agree_at
   agree_if i l = sym (rw (← is_a, ← is_b, eq-eqb _ _ i, le-leb _ _ l))
 
-  pub step_by_lem : (x : Step) → x ≡ step_by a b f.end c → x ≡ step_at s t f c
+  pub step_by_lem : (x : Option Hit) → x ≡ step_by a b f.end c → x ≡ step_at s t f c
   unfolding step_by step_at
   step_by_lem x is_x = is_x ∙ sym (rw (← is_a, ← is_b))
 
-module _ (a b : ℕ) (c : Cursor) (x : Step) where
+module _ (a b : ℕ) (c : Cursor) (x : Hit) where
   pub found_older : a < b → x ≡ found (OnlyOlder c.older) (c.older + 1) c.newer → x ≡ found_by a b c
   found_older l is_x = is_x ∙ sym (rw (lt-ltb _ _ l))
 
@@ -58,20 +58,20 @@ module _ (a b : ℕ) (c : Cursor) (x : Step) where
   found-changed l g is_x = is_x ∙ sym (rw (le-ltb _ _ g, le-ltb _ _ l))
 
 module _ (a b : ℕ) (end : ElementId) (c : Cursor) (m : ℕ) (is_m : m ≡ min a b) where
-  pub step_done : end.0 < m → Done ≡ step_by a b end c
+  pub step_done : end.0 < m → None ≡ step_by a b end c
   unfolding step_by
   step_done l = sym (rw (← is_m, lt-ltb _ _ l))
 
-  pub step_found : m ≤ end.0 → (x : Step) → x ≡ found_by a b c → x ≡ step_by a b end c
+  pub step_found : m ≤ end.0 → (x : Hit) → x ≡ found_by a b c → Some x ≡ step_by a b end c
   unfolding step_by
-  step_found l x is_x = is_x ∙ sym (rw (← is_m, le-ltb _ _ l))
+  step_found l x is_x = ap Some is_x ∙ sym (rw (← is_m, le-ltb _ _ l))
 
 -- one element in both pages
 module _ (a b : ℕ) (end : ElementId) (c : Cursor) (same : a ≡ b) where
-  pub same_done : end.0 < a → Done ≡ step_by a b end c
+  pub same_done : end.0 < a → None ≡ step_by a b end c
   same_done = step_done a b end c a (sym (min-eq_left (omega arith)))
 
-  pub same-found : a ≤ end.0 → (x : Step) → x ≡ found (Changed c) (c.older + 1) (c.newer + 1) → x ≡ step_by a b end c
+  pub same-found : a ≤ end.0 → (x : Hit) → x ≡ found (Changed c) (c.older + 1) (c.newer + 1) → Some x ≡ step_by a b end c
   same-found l x is_x = step_found a b end c a (sym (min-eq_left (omega arith))) l x (found-changed a b c x (omega arith) (omega arith) is_x)
 
 -- ## Past what agrees
@@ -131,9 +131,6 @@ module _ (s t : List ℕ) (f : Frame) where
         let out : agree_at s t f c ≡ false = sym (agree_keys c) ∙ rw (sym is_b ∙ off) in
         sym (inv ∙ stays c (f.last.older - c.older) out)
 
-    pub turn_less : b ≡ true → f.last.older - (c.older + 1) < f.last.older - c.older
-    turn_less so = omega (arith, (inside_both f.last c b is_b so).0)
-
     module _ (so : b ≡ true) (d e : Descriptor) (is_d : d ≡ element_at s c.older) (is_e : e ≡ element_at t c.newer) (r : Bool) (is_r : r ≡ agree_by d e f.end) where
       meets : r ≡ agree_at s t f c
       meets = agree_by_lem c (inside_both f.last c b is_b so) d e is_d is_e r is_r
@@ -149,15 +146,9 @@ module _ (s t : List ℕ) (f : Frame) where
   unfolding next_to
   next_on c so = ap (step_at s t f) (past_on c so)
 
-  pub next_here : (c : Cursor) → agree_at s t f c ≡ false → (x : Step) → x ≡ step_at s t f c → x ≡ next_to s t f c
+  pub next_here : (c : Cursor) → agree_at s t f c ≡ false → (x : Option Hit) → x ≡ step_at s t f c → x ≡ next_to s t f c
   unfolding next_to
   next_here c off x is_x = is_x ∙ ap (step_at s t f) (sym (stays c (f.last.older - c.older) off))
-
-  pub pair_first : (c : Cursor) → next_to s t f c ≡ next_to s t f (cursor (c.older + 0) (c.newer + 0))
-  pair_first c =
-      let older_same : c.older ≡ c.older + 0 = omega arith in
-      let newer_same : c.newer ≡ c.newer + 0 = omega arith in
-      λ i. next_to s t f (cursor (older_same i) (newer_same i))
 
   -- a turn over the k-th of n pairs
   module _ (c : Cursor) (n k : ℕ) (there : Pairs s t f.last c n) (l : k < n) (d e : Descriptor) (is_d : d ≡ element_at s (c.older + k)) (is_e : e ≡ element_at t (c.newer + k)) (r : Bool) (is_r : r ≡ agree_by d e f.end)
@@ -171,20 +162,17 @@ module _ (s t : List ℕ) (f : Frame) where
         let newer_on : c.newer + k + 1 ≡ c.newer + (k + 1) = omega arith in
         inv ∙ next_on (cursor (c.older + k) (c.newer + k)) (sym agrees ∙ so) ∙ (λ i. next_to s t f (cursor (older_on i) (newer_on i)))
 
-    pub pair_ends : r ≡ false → (x : Step) → x ≡ step_by d.id.0 e.id.0 f.end (cursor (c.older + k) (c.newer + k)) → x ≡ next_to s t f c
+    pub pair_ends : r ≡ false → (x : Option Hit) → x ≡ step_by d.id.0 e.id.0 f.end (cursor (c.older + k) (c.newer + k)) → x ≡ next_to s t f c
     pair_ends off x is_x =
         let here : Cursor = cursor (c.older + k) (c.newer + k) in
         let a = key_there s f.last.older (c.older + k) f.end (there.both.inside k l).0 d.id (id_whole s (c.older + k) d is_d) in
         let b = key_there t f.last.newer (c.newer + k) f.end (there.both.inside k l).1 e.id (id_whole t (c.newer + k) e is_e) in
         next_here here (sym agrees ∙ off) x (step_by_lem s t f here d.id.0 e.id.0 a b x is_x) ∙ sym inv
 
-  pub pair_rest : (c d : Cursor) → next_to s t f c ≡ next_to s t f d → (x : Step) → x ≡ next_to s t f d → x ≡ next_to s t f c
-  pair_rest c d inv x is_x = is_x ∙ sym inv
-
-  pub next_past : (c p : Cursor) → p ≡ past s t f (f.last.older - c.older) c → (x : Step) → x ≡ step_at s t f p → x ≡ next_to s t f c
+  pub next_past : (c p : Cursor) → p ≡ past s t f (f.last.older - c.older) c → (x : Option Hit) → x ≡ step_at s t f p → x ≡ next_to s t f c
   unfolding next_to
   next_past c p is_p x is_x = is_x ∙ ap (step_at s t f) is_p
 
-  pub next_whole : f ≡ frame_of s t → (c : Cursor) (x : Step) → x ≡ next_to s t f c → x ≡ next_of s t c
+  pub next_whole : f ≡ frame_of s t → (c : Cursor) (x : Option Hit) → x ≡ next_to s t f c → x ≡ next_of s t c
   unfolding next_of
   next_whole is_f c x is_x = is_x ∙ ap (λ (g : Frame). next_to s t g c) is_f

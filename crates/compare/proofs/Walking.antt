@@ -9,6 +9,7 @@ use borrow.Author.Tests.{ltb-true, ltb-false}
 use Rattle.paper.specs.declared.ElementId.{ElementId}
 use Rattle.reach.specs.Pages.{count_of, bound_of, end_of}
 use Rattle.slices.specs.Lists.{sum}
+use Rattle.std.specs.Prelude.{Option, Some, None}
 use Rattle.compare.specs.Promises.{WalkEnds}
 use Rattle.compare.specs.Walk.{cursor, frame_of, key_at, agree_at, found, step_at, past, next_to, next_of, ahead, after, walk, walk_from}
 use Rattle.compare.specs.declared.Cursor.{Cursor}
@@ -16,8 +17,6 @@ use Rattle.compare.specs.declared.Frame.{Frame}
 use Rattle.compare.specs.declared.Hit.{Hit}
 use Rattle.compare.specs.declared.Line.TheVariants.{OnlyOlder, OnlyNewer, Changed}
 use Rattle.compare.specs.declared.Line.{Line}
-use Rattle.compare.specs.declared.Step.TheVariants.{Done, Found}
-use Rattle.compare.specs.declared.Step.{Step}
 use Rattle.compare.proofs.Places.{inside}
 use Rattle.compare.proofs.Steps.{least_first, least_second}
 
@@ -35,9 +34,9 @@ some (OnlyNewer k) = omega arith
 some (Changed c) = omega arith
 
 -- those that a step passes, if it finds anything, and those that it leaves ahead are at most n
-abbrev Leaves : List ℕ → List ℕ → ℕ → Step → Type 0
-Leaves s t n Done = Unit {0}
-Leaves s t n (Found d) = passed d.line + ahead s t d.next ≤ n
+abbrev Leaves : List ℕ → List ℕ → ℕ → Option Hit → Type 0
+Leaves s t n None = Unit {0}
+Leaves s t n (Some d) = passed d.line + ahead s t d.next ≤ n
 
 module _ (s t : List ℕ) where
   step_leaves : (c : Cursor) → Leaves s t (ahead s t c) (step_at s t (frame_of s t) c)
@@ -55,9 +54,10 @@ module _ (s t : List ℕ) where
 
       by_tests : (x : Bool) → ltb end.0 (min a b) ≡ x → (y : Bool) → ltb a b ≡ y → (z : Bool) → ltb b a ≡ z
           → Leaves s t (ahead s t c)
-          (cond x Done
+          (cond x None
+          (Some
           (cond y (found (OnlyOlder c.older) (c.older + 1) c.newer)
-          (cond z (found (OnlyNewer c.newer) c.older (c.newer + 1)) (found (Changed c) (c.older + 1) (c.newer + 1)))))
+          (cond z (found (OnlyNewer c.newer) c.older (c.newer + 1)) (found (Changed c) (c.older + 1) (c.newer + 1))))))
       by_tests true p y q z r = tt
       by_tests false p true q z r =
           omega (arith, inside s (count_of s) c.older end (least_first a b _ end.0 refl (ltb-false _ _ p) (omega (arith, ltb-true a b q))))
@@ -80,9 +80,9 @@ module _ (s t : List ℕ) where
       by_test true l = omega (arith, l)
       by_test false l = omega arith
 
-  more : (x : Step) (m n : ℕ) → m ≤ n → Leaves s t m x → Leaves s t n x
-  more Done m n l f = tt
-  more (Found d) m n l f = omega (arith, f)
+  more : (x : Option Hit) (m n : ℕ) → m ≤ n → Leaves s t m x → Leaves s t n x
+  more None m n l f = tt
+  more (Some d) m n l f = omega (arith, f)
 
   next_leaves : (c : Cursor) → Leaves s t (ahead s t c) (next_of s t c)
   unfolding next_of next_to
@@ -94,13 +94,13 @@ module _ (s t : List ℕ) where
   -- ## The walk
 
   module _ (n m : ℕ) (IH : (c : Cursor) → ahead s t c ≤ n → ahead s t c ≤ m → walk s t n c ≡ walk s t m c) where
-    after_same : (k : ℕ) (x : Step) → k ≤ suc n → k ≤ suc m → Leaves s t k x → after x (walk s t n) ≡ after x (walk s t m)
-    after_same k Done l r f = refl
-    after_same k (Found d) l r f = ap (λ (ls : List Line). d.line ∷ ls) (IH d.next (omega (arith, f, some d.line)) (omega (arith, f, some d.line)))
+    after_same : (k : ℕ) (x : Option Hit) → k ≤ suc n → k ≤ suc m → Leaves s t k x → after x (walk s t n) ≡ after x (walk s t m)
+    after_same k None l r f = refl
+    after_same k (Some d) l r f = ap (λ (ls : List Line). d.line ∷ ls) (IH d.next (omega (arith, f, some d.line)) (omega (arith, f, some d.line)))
 
-  after_none : (x : Step) (rest : Cursor → List Line) → Leaves s t 0 x → [] ≡ after x rest
-  after_none Done rest f = refl
-  after_none (Found d) rest f = absurd (omega (arith, f, some d.line))
+  after_none : (x : Option Hit) (rest : Cursor → List Line) → Leaves s t 0 x → [] ≡ after x rest
+  after_none None rest f = refl
+  after_none (Some d) rest f = absurd (omega (arith, f, some d.line))
 
   -- with enough room its length does not matter
   walk_same : (n m : ℕ) (c : Cursor) → ahead s t c ≤ n → ahead s t c ≤ m → walk s t n c ≡ walk s t m c
@@ -114,26 +114,26 @@ module _ (s t : List ℕ) where
   unfolding walk walk_from
   walk_on c = walk_same (ahead s t c) (suc (ahead s t c)) c (omega arith) (omega arith) ∙ from_there (next_of s t c) (next_leaves c)
     where
-      from_there : (x : Step) → Leaves s t (ahead s t c) x → after x (walk s t (ahead s t c)) ≡ after x (walk_from s t)
-      from_there Done f = refl
-      from_there (Found d) f =
+      from_there : (x : Option Hit) → Leaves s t (ahead s t c) x → after x (walk s t (ahead s t c)) ≡ after x (walk_from s t)
+      from_there None f = refl
+      from_there (Some d) f =
           ap (λ (ls : List Line). d.line ∷ ls) (walk_same (ahead s t c) (ahead s t d.next) d.next (omega (arith, f)) (omega arith))
 
-  pub walk_done : (c : Cursor) → Done ≡ next_of s t c → walk_from s t c ≡ []
-  walk_done c e = walk_on c ∙ ap (λ (x : Step). after x (walk_from s t)) (sym e)
+  pub walk_done : (c : Cursor) → None ≡ next_of s t c → walk_from s t c ≡ []
+  walk_done c e = walk_on c ∙ ap (λ (x : Option Hit). after x (walk_from s t)) (sym e)
 
-  module _ (c : Cursor) (d : Hit) (e : Found d ≡ next_of s t c) where
+  module _ (c : Cursor) (d : Hit) (e : Some d ≡ next_of s t c) where
     pub walk-found : walk_from s t c ≡ d.line ∷ walk_from s t d.next
-    walk-found = walk_on c ∙ ap (λ (x : Step). after x (walk_from s t)) (sym e)
+    walk-found = walk_on c ∙ ap (λ (x : Option Hit). after x (walk_from s t)) (sym e)
 
     pub found-leaves : ahead s t d.next < ahead s t c
     found-leaves =
         let left : passed d.line + ahead s t d.next ≤ ahead s t c = subst (Leaves s t (ahead s t c)) (sym e) (next_leaves c) in
         omega (arith, left, some d.line)
 
-  after_few : (x : Step) (n : ℕ) (rest : Cursor → List Line) → ((c : Cursor) → sum passed (rest c) ≤ ahead s t c) → Leaves s t n x → sum passed (after x rest) ≤ n
-  after_few Done n rest l f = omega arith
-  after_few (Found d) n rest l f = omega (arith, f, l d.next)
+  after_few : (x : Option Hit) (n : ℕ) (rest : Cursor → List Line) → ((c : Cursor) → sum passed (rest c) ≤ ahead s t c) → Leaves s t n x → sum passed (after x rest) ≤ n
+  after_few None n rest l f = omega arith
+  after_few (Some d) n rest l f = omega (arith, f, l d.next)
 
   walk_few : (n : ℕ) (c : Cursor) → sum passed (walk s t n c) ≤ ahead s t c
   unfolding walk

@@ -35,18 +35,11 @@ pub struct Frame {
     pub end: ElementId,
 }
 
-// What the walk hits: a difference, and where it goes on.
+// What the walk hits: a difference, and where it goes on. Where there is none any more, a walk is done.
 #[derive(Clone, Copy)]
 pub struct Hit {
     pub line: Line,
     pub next: Cursor,
-}
-
-// What is next from a cursor on.
-#[derive(Clone, Copy)]
-pub enum Step {
-    Done,
-    Found(Hit),
 }
 
 impl Cursor {
@@ -80,37 +73,31 @@ fn id_at(page: &[u8], k: u32) -> ElementId
     ensures { result ≡ (element_at page.now k).id }
 {
     if is_there(page, k) {
-        let d = whole_at(page, k);
-        return d.id;
+        whole_at(page, k).id
+    } else {
+        offences::descriptor_at(page, k, Order::Little).id
     }
-    let d = offences::descriptor_at(page, k, Order::Little);
-    d.id
 }
 
 // The key of place k, by which the pages are merged, of a page with `count` descriptors. After a key up to the end there is a place.
 fn key_at(page: &[u8], count: u32, k: u32, end: ElementId) -> usize
     ensures { (result ≡ key_at page.now count k end) × (result ≤ end.0 → k + 1 < 2 ^ 32) }
 {
-    if count <= k {
-        return end.0 as usize + 1;
+    if k < count {
+        id_at(page, k).0 as usize
+    } else {
+        end.0 as usize + 1
     }
-    let id = id_at(page, k);
-    id.0 as usize
 }
 
+// Unchanged: of all fields but the identifier, so no derived `==`.
 fn is_alike(d: Descriptor, e: Descriptor) -> bool
     ensures { result ≡ alike d e }
 {
-    if d.kind != e.kind {
-        return false;
-    }
-    if d.health != e.health {
-        return false;
-    }
-    if d.restorable != e.restorable {
-        return false;
-    }
-    d.capacity == e.capacity
+    d.kind == e.kind
+        && d.health == e.health
+        && d.restorable == e.restorable
+        && d.capacity == e.capacity
 }
 
 // ---- Past what agrees
@@ -119,24 +106,14 @@ fn is_alike(d: Descriptor, e: Descriptor) -> bool
 fn is_inside(last: Cursor, at: Cursor) -> bool
     ensures { (result ≡ private.is_inside last at) × (result ≡ true → (at.older + 1 < 2 ^ 32) × (at.newer + 1 < 2 ^ 32)) }
 {
-    if last.older <= at.older {
-        return false;
-    }
-    at.newer < last.newer
+    at.older < last.older && at.newer < last.newer
 }
 
 // Whether two descriptors are one element, not above the end, and unchanged.
 fn do_agree(d: Descriptor, e: Descriptor, end: ElementId) -> bool
     ensures { result ≡ private.agree_by d e end }
 {
-    let id = d.id;
-    if id.0 != e.id.0 {
-        return false;
-    }
-    if end.0 < id.0 {
-        return false;
-    }
-    is_alike(d, e)
+    d.id.0 == e.id.0 && d.id.0 <= end.0 && is_alike(d, e)
 }
 
 // Past what agrees, of pages that may be short.
@@ -144,37 +121,33 @@ fn past(older: &[u8], newer: &[u8], frame: Frame, from: Cursor) -> Cursor
     ensures { result ≡ paper.past older.now newer.now frame (frame.last.older - from.older) from }
 {
     let mut at = from;
-    loop {
-        let last = frame.last;
-        if !is_inside(last, at) {
-            return at;
-        }
+    while is_inside(frame.last, at) {
         let d = offences::descriptor_at(older, at.older, Order::Little);
         let e = offences::descriptor_at(newer, at.newer, Order::Little);
-        let end = frame.end;
-        if !do_agree(d, e, end) {
-            return at;
+        if !do_agree(d, e, frame.end) {
+            break;
         }
         at = Cursor {
             older: at.older + 1,
             newer: at.newer + 1,
         };
     }
+    at
 }
 
 // ---- A step
 
-fn found(line: Line, older: u32, newer: u32) -> Step
+fn found(line: Line, older: u32, newer: u32) -> Hit
     ensures { result ≡ paper.found line older newer }
 {
-    Step::Found(Hit {
+    Hit {
         line,
         next: Cursor { older, newer },
-    })
+    }
 }
 
 // The difference at the cursor, where the older's key is a, the newer's b. After the nearer one there is a place.
-fn found_by(a: usize, b: usize, at: Cursor) -> Step
+fn found_by(a: usize, b: usize, at: Cursor) -> Hit
     requires { (a ≤ b → at.older + 1 < 2 ^ 32) × (b ≤ a → at.newer + 1 < 2 ^ 32) }
     ensures { result ≡ found_by a b at }
 {
@@ -190,30 +163,29 @@ fn found_by(a: usize, b: usize, at: Cursor) -> Step
 }
 
 // What stands at the cursor, where the older's key is a, the newer's b. After a key up to the end there is a place.
-fn step_by(a: usize, b: usize, end: ElementId, at: Cursor) -> Step
+fn step_by(a: usize, b: usize, end: ElementId, at: Cursor) -> Option<Hit>
     requires { (a ≤ end.0 → at.older + 1 < 2 ^ 32) × (b ≤ end.0 → at.newer + 1 < 2 ^ 32) }
     ensures { result ≡ private.step_by a b end at }
 {
-    if (end.0 as usize) < slices::smaller(a, b) {
-        return Step::Done;
+    if (end.0 as usize) < a.min(b) {
+        return None;
     }
-    found_by(a, b, at)
+    Some(found_by(a, b, at))
 }
 
 // What stands at the cursor, where the pages do not agree.
-fn step_at(older: &[u8], newer: &[u8], frame: Frame, at: Cursor) -> Step
+fn step_at(older: &[u8], newer: &[u8], frame: Frame, at: Cursor) -> Option<Hit>
     ensures { result ≡ step_at older.now newer.now frame at }
 {
-    let last = frame.last;
     let end = frame.end;
-    let a = key_at(older, last.older, at.older, end);
-    let b = key_at(newer, last.newer, at.newer, end);
+    let a = key_at(older, frame.last.older, at.older, end);
+    let b = key_at(newer, frame.last.newer, at.newer, end);
     step_by(a, b, end, at)
 }
 
 // What stands at the cursor, by the two descriptors there, where they do not agree. After each there is a place. Whether they are one element is
 // asked first, as `do_agree` asks it, so that the compiled code asks it once.
-fn step_of(d: Descriptor, e: Descriptor, end: ElementId, at: Cursor) -> Step
+fn step_of(d: Descriptor, e: Descriptor, end: ElementId, at: Cursor) -> Option<Hit>
     requires { (at.older + 1 < 2 ^ 32) × (at.newer + 1 < 2 ^ 32) }
     ensures { result ≡ private.step_by d.id.0 e.id.0 end at }
 {
@@ -223,9 +195,9 @@ fn step_of(d: Descriptor, e: Descriptor, end: ElementId, at: Cursor) -> Step
         return step_by(a.0 as usize, b.0 as usize, end, at);
     }
     if end.0 < a.0 {
-        return Step::Done;
+        return None;
     }
-    found(Line::Changed(at), at.older + 1, at.newer + 1)
+    Some(found(Line::Changed(at), at.older + 1, at.newer + 1))
 }
 
 // ---- The next difference
@@ -241,35 +213,24 @@ fn is_whole(page: &[u8], count: u32) -> bool
 fn in_both(last: Cursor, from: Cursor) -> u32
     ensures { private.Both last from result }
 {
-    if last.older <= from.older {
-        return 0;
-    }
-    if last.newer <= from.newer {
-        return 0;
-    }
-    let n = last.older - from.older;
-    let m = last.newer - from.newer;
-    if m < n {
-        return m;
-    }
-    n
+    let n = last.older.saturating_sub(from.older);
+    let m = last.newer.saturating_sub(from.newer);
+    n.min(m)
 }
 
 // So many pairs of descriptors lie ahead, whose bytes are there: none, where a page is too short for its count.
 fn pairs(older: &[u8], newer: &[u8], last: Cursor, from: Cursor) -> u32
     ensures { private.Pairs older.now newer.now last from result }
 {
-    if !is_whole(older, last.older) {
-        return 0;
+    if is_whole(older, last.older) && is_whole(newer, last.newer) {
+        in_both(last, from)
+    } else {
+        0
     }
-    if !is_whole(newer, last.newer) {
-        return 0;
-    }
-    in_both(last, from)
 }
 
 // The next difference, of pages that may be short.
-fn next_part(older: &[u8], newer: &[u8], frame: Frame, from: Cursor) -> Step
+fn next_part(older: &[u8], newer: &[u8], frame: Frame, from: Cursor) -> Option<Hit>
     ensures { result ≡ next_to older.now newer.now frame from }
 {
     let at = past(older, newer, frame, from);
@@ -293,36 +254,30 @@ pub fn frame_of(older: &[u8], newer: &[u8]) -> Frame
 
 // The next difference from a cursor on, in a frame that was made once for the whole walk. Pairs that are there are not tested for one by one; past
 // them the rest of the way is `next_part`'s.
-pub fn next_to(older: &[u8], newer: &[u8], frame: Frame, from: Cursor) -> Step
+pub fn next_to(older: &[u8], newer: &[u8], frame: Frame, from: Cursor) -> Option<Hit>
     ensures { result ≡ next_to older.now newer.now frame from }
 {
-    let last = frame.last;
-    let end = frame.end;
-    let i = from.older;
-    let j = from.newer;
-    let n = pairs(older, newer, last, from);
-    let mut k: u32 = 0;
-    while k < n {
+    let n = pairs(older, newer, frame.last, from);
+    for k in 0..n {
         let at = Cursor {
-            older: i + k,
-            newer: j + k,
+            older: from.older + k,
+            newer: from.newer + k,
         };
         let d = whole_at(older, at.older);
         let e = whole_at(newer, at.newer);
-        if !do_agree(d, e, end) {
-            return step_of(d, e, end, at);
+        if !do_agree(d, e, frame.end) {
+            return step_of(d, e, frame.end, at);
         }
-        k += 1;
     }
     let rest = Cursor {
-        older: i + k,
-        newer: j + k,
+        older: from.older + n,
+        newer: from.newer + n,
     };
     next_part(older, newer, frame, rest)
 }
 
 // The next difference from a cursor on; what lies before the cursor counts as not there.
-pub fn next(older: &[u8], newer: &[u8], from: Cursor) -> Step
+pub fn next(older: &[u8], newer: &[u8], from: Cursor) -> Option<Hit>
     ensures { result ≡ next_of older.now newer.now from }
 {
     let frame = frame_of(older, newer);

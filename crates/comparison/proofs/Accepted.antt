@@ -14,12 +14,13 @@ use Rattle.compare.specs.Walk.{first, walk_from}
 use Rattle.compare.specs.declared.Cursor.{Cursor}
 use Rattle.ending.specs.Ending.{last_line}
 use Rattle.paper.specs.Told.{tells}
+use Rattle.paper.specs.declared.ElementId.{ElementId}
 use Rattle.reach.specs.Opening.{Values, bound, turn, open_of, accepted, judged}
 use Rattle.reach.specs.Pages.{count_of, bound_of}
-use Rattle.reach.specs.declared.Bound.{Bound}
 use Rattle.reach.specs.declared.Turn.TheVariants.{Older, Newer}
 use Rattle.reach.specs.declared.Turn.{Turn}
 use Rattle.request.specs.Requests.{request_of}
+use Rattle.std.specs.Prelude.{Option}
 use Rattle.comparison.specs.Comparison.{lines_of, differences_for, comparison_of}
 use Rattle.comparison.specs.Private.{is_accepted, lines_from}
 
@@ -29,17 +30,17 @@ tag : Values → ℕ
 tag (bound b) = 0
 tag (turn w) = 1
 
-refused : {A : Type 0} (w : Turn) (b : Bound) → turn w ≡ bound b → A
+refused : {A : Type 0} (w : Turn) (b : Option ElementId) → turn w ≡ bound b → A
 unfolding tag
 refused w b e = absurd (let away : ◌≡◌ {A = ℕ} 1 0 = ap tag e in omega arith)
 
-opened : (x y : Bool) (m b : Bound)
+opened : (x y : Bool) (m b : Option ElementId)
     → (cond x (cond y (tells 0 (bound m)) (tells 9 (turn Newer))) (tells 9 (turn Older))).state ≡ bound b → (x ≡ true) × (y ≡ true)
 opened true true m b e = (refl, refl)
 opened true false m b e = refused Newer b e
 opened false y m b e = refused Older b e
 
-module _ (s t : List ℕ) (b : Bound) where
+module _ (s t : List ℕ) (b : Option ElementId) where
   both_accepted : (judged s t).state ≡ bound b → (length s ≤ 65536) × (accepted s (request_of s) ≡ true) × (accepted t (request_of s) ≡ true)
   unfolding judged
   both_accepted = by_test (ltb 65536 (length s)) refl
@@ -54,7 +55,7 @@ module _ (s t : List ℕ) (b : Bound) where
 -- ## They are short
 
 -- 128 pages have room for 2,047 descriptors
-pub counts : (s t : List ℕ) (b : Bound) → (judged s t).state ≡ bound b → (count_of s ≤ 2047) × (count_of t ≤ 2047)
+pub counts : (s t : List ℕ) (b : Option ElementId) → (judged s t).state ≡ bound b → (count_of s ≤ 2047) × (count_of t ≤ 2047)
 counts s t b e =
     let (short, in_s, in_t) = both_accepted s t b e in
     (omega (arith, count_room s (request_of s) in_s), omega (arith, count_room t (request_of s) in_t))

@@ -13,13 +13,13 @@ use Rattle.compare.specs.Walk.{first, frame_of, next_to, next_of, ahead}
 use Rattle.compare.specs.declared.Cursor.{Cursor}
 use Rattle.compare.specs.declared.Frame.{Frame}
 use Rattle.compare.specs.declared.Hit.{Hit}
-use Rattle.compare.specs.declared.Step.TheVariants.{Done, Found}
-use Rattle.compare.specs.declared.Step.{Step}
 use Rattle.ending.proofs.Ending.{length_last}
 use Rattle.ending.specs.Ending.{last_line}
+use Rattle.paper.specs.declared.ElementId.{ElementId}
 use Rattle.reach.specs.Opening.{heard, judged}
-use Rattle.reach.specs.declared.Opening.{Opening}
+use Rattle.reach.specs.declared.Turn.{Turn}
 use Rattle.slices.specs.Lists.{stored, ended}
+use Rattle.std.specs.Prelude.{Option, Some, None, Result, Ok, Err, is_ok}
 use Rattle.writing.proofs.Puts.{puts_none, puts_one, puts_more}
 use Rattle.writing.specs.Private.{Puts}
 use Rattle.comparison.specs.Comparison.{lines_of, comparison_of}
@@ -29,18 +29,13 @@ use Rattle.comparison.proofs.Lengths.{length_lines}
 
 -- ## A step
 
-pub step_accepted : (s t : List ℕ) (f : Frame) → f ≡ frame_of s t → (a : Bool) (c : Cursor) → a ≡ true → (x : Step) → x ≡ next_to s t f c → x ≡ step_of a s t c
+pub step_accepted : (s t : List ℕ) (f : Frame) → f ≡ frame_of s t → (a : Bool) (c : Cursor) → a ≡ true → (x : Option Hit) → x ≡ next_to s t f c → x ≡ step_of a s t c
 step_accepted s t f is_f a c y x is_x = next_whole s t f is_f c x is_x ∙ rw y
 
 -- ## A turn of a loop
 
-tag : Step → ℕ
-tag Done = 0
-tag (Found d) = 1
-
-not_found : {A : Type 0} (d : Hit) → Done ≡ Found d → A
-unfolding tag
-not_found d e = absurd (let away : ◌≡◌ {A = ℕ} 0 1 = ap tag e in omega arith)
+not_found : {A : Type 0} (d : Hit) → None ≡ Some d → A
+not_found d e = absurd (cc)
 
 pub measure_none : (s t : List ℕ) (a : Bool) → a ≡ false → 0 ≡ length (lines_from a s t first)
 measure_none s t a n = sym (rw (n, lines_none s t first))
@@ -52,20 +47,20 @@ module _ (s t : List ℕ) (c : Cursor) where
   pub measure_first : (a : Bool) → a ≡ true → c ≡ first → 0 + length (lines_from true s t c) ≡ length (lines_from a s t first)
   measure_first a y e = rw (y, e) (omega arith)
 
-  lines_done : (a : Bool) (x : Step) → x ≡ step_of a s t c → x ≡ Done → lines_from a s t c ≡ []
+  lines_done : (a : Bool) (x : Option Hit) → x ≡ step_of a s t c → x ≡ None → lines_from a s t c ≡ []
   unfolding lines_from
   lines_done true x is_x e = ap (lines_of s t) (walk_done s t c (sym e ∙ is_x))
   lines_done false x is_x e = refl
 
-  lines_found : (a : Bool) (x : Step) → x ≡ step_of a s t c → (d : Hit) → x ≡ Found d → lines_from a s t c ≡ line_of s t d.line ++ lines_from a s t d.next
+  lines_found : (a : Bool) (x : Option Hit) → x ≡ step_of a s t c → (d : Hit) → x ≡ Some d → lines_from a s t c ≡ line_of s t d.line ++ lines_from a s t d.next
   unfolding lines_from
   lines_found true x is_x d e = ap (lines_of s t) (walk-found s t c d (sym e ∙ is_x))
   lines_found false x is_x d e = not_found d (sym is_x ∙ e)
 
-  pub next_less : (x : Step) → x ≡ next_of s t c → (d : Hit) → x ≡ Found d → ahead s t d.next < ahead s t c
+  pub next_less : (x : Option Hit) → x ≡ next_of s t c → (d : Hit) → x ≡ Some d → ahead s t d.next < ahead s t c
   next_less x is_x d e = found-leaves s t c d (sym e ∙ is_x)
 
-  pub found_less : (a : Bool) (x : Step) → x ≡ step_of a s t c → (d : Hit) → x ≡ Found d → ahead s t d.next < ahead s t c
+  pub found_less : (a : Bool) (x : Option Hit) → x ≡ step_of a s t c → (d : Hit) → x ≡ Some d → ahead s t d.next < ahead s t c
   found_less true x is_x d e = next_less x is_x d e
   found_less false x is_x d e = not_found d (sym is_x ∙ e)
 
@@ -76,14 +71,14 @@ Rest b s t a d n c = (y : List ℕ) (r : ℕ) → Puts d n (lines_from a s t c) 
 pub rest_first : (s t b : List ℕ) (a : Bool) (c : Cursor) → c ≡ first → Rest b s t a b 0 c
 rest_first s t b a c e y r so = rw (lines_first s t c a e) so
 
-module _ (s t : List ℕ) (a : Bool) (c : Cursor) (x : Step) (is_x : x ≡ step_of a s t c) where
-  pub measure_end : (n m : ℕ) → n + length (lines_from a s t c) ≡ m → x ≡ Done → n ≡ m
+module _ (s t : List ℕ) (a : Bool) (c : Cursor) (x : Option Hit) (is_x : x ≡ step_of a s t c) where
+  pub measure_end : (n m : ℕ) → n + length (lines_from a s t c) ≡ m → x ≡ None → n ≡ m
   measure_end n m so e = omega (arith, ap length (lines_done s t c a x is_x e))
 
-  pub put_end : (b d : List ℕ) (n : ℕ) → Rest b s t a d n c → x ≡ Done → Puts b 0 (lines_from a s t first) d n
+  pub put_end : (b d : List ℕ) (n : ℕ) → Rest b s t a d n c → x ≡ None → Puts b 0 (lines_from a s t first) d n
   put_end b d n so e = so d n (rw (lines_done s t c a x is_x e) (puts_none d n))
 
-  module _ (h : Hit) (is_h : x ≡ Found h) where
+  module _ (h : Hit) (is_h : x ≡ Some h) where
     more : lines_from a s t c ≡ line_of s t h.line ++ lines_from a s t h.next
     more = lines_found s t c a x is_x h is_h
 
@@ -101,9 +96,13 @@ module _ (s t : List ℕ) (a : Bool) (c : Cursor) (x : Step) (is_x : x ≡ step_
 
 -- ## The whole text
 
-module _ (s t : List ℕ) (opening : Opening) (is_opening : heard opening ≡ judged s t) (a : Bool) (is_a : a ≡ is_accepted (heard opening).state) where
+accepted_ok : (opening : Result (Option ElementId) Turn) → is_ok opening ≡ is_accepted (heard opening).state
+accepted_ok (Ok b) = refl
+accepted_ok (Err t) = refl
+
+module _ (s t : List ℕ) (opening : Result (Option ElementId) Turn) (is_opening : heard opening ≡ judged s t) (a : Bool) (is_a : a ≡ is_ok opening) where
   as_judged : lines_from a s t first ≡ lines_from (is_accepted (judged s t).state) s t first
-  as_judged = rw (is_a, is_opening)
+  as_judged = rw (is_a, accepted_ok opening, is_opening)
 
   pub lines_fit : length (lines_from a s t first) < 2 ^ 64
   lines_fit = omega (arith, ap length as_judged, length_lines s t)

@@ -14,11 +14,11 @@ use Rattle.compare.specs.declared.Line.TheVariants.{OnlyOlder, OnlyNewer, Change
 use Rattle.compare.specs.declared.Line.{Line}
 use Rattle.ending.proofs.Ending.{length_last}
 use Rattle.ending.specs.Ending.{refused_line, last_line}
+use Rattle.paper.specs.declared.ElementId.{ElementId}
 use Rattle.reach.specs.Opening.{Values, bound, turn, judged}
-use Rattle.reach.specs.declared.Bound.TheVariants.{Whole, UpTo}
-use Rattle.reach.specs.declared.Bound.{Bound}
 use Rattle.reach.specs.declared.Turn.TheVariants.{Older, Newer}
 use Rattle.reach.specs.declared.Turn.{Turn}
+use Rattle.std.specs.Prelude.{Option, Some, None}
 use Rattle.comparison.specs.Comparison.{lines_of, differences_for, comparison_of, status_for, status_of}
 use Rattle.comparison.specs.Private.{is_accepted, lines_from}
 use Rattle.comparison.specs.Promises.{Enough, TellsStatus}
@@ -49,11 +49,11 @@ module _ (s t : List ℕ) where
   status_line (OnlyNewer k) rest = refl
   status_line (Changed c) rest = refl
 
-  status_last : (b : Bound) → status_of (last_line (bound b)) ≡ 0
-  status_last Whole = refl
-  status_last (UpTo id) = refl
+  status_last : (b : Option ElementId) → status_of (last_line (bound b)) ≡ 0
+  status_last None = refl
+  status_last (Some id) = refl
 
-  status_lines : (b : Bound) (ls : List Line) → status_of (lines_of s t ls ++ last_line (bound b)) ≡ status_for (bound b) ls
+  status_lines : (b : Option ElementId) (ls : List Line) → status_of (lines_of s t ls ++ last_line (bound b)) ≡ status_for (bound b) ls
   status_lines b [] = status_last b
   status_lines b (l ∷ ls) =
       ap status_of (append_assoc (line_of s t l) (lines_of s t ls) (last_line (bound b))) ∙ status_line l (lines_of s t ls ++ last_line (bound b))

@@ -1,38 +1,28 @@
 // The text of a comparison: a line for each difference, and a last one if a page was cut short; or which page was refused.
 #![tactic(auto)]
 
-ghost use Rattle.std.specs.Prelude.{◌≡◌, ◌^◌, ◌<◌, leb, length};
+ghost use Rattle.std.specs.Prelude.{◌≡◌, ◌^◌, ◌<◌, leb, length, IfOk};
 ghost use Rattle.compare.specs.Walk.{first, frame_of};
 ghost use Rattle.io.specs.Counts.{IsPrefixLen};
-ghost use Rattle.paper.specs.Output.{output, written};
-ghost use Rattle.paper.specs.Told.{said};
+ghost use Rattle.paper.specs.Output.{wrote, written};
 ghost use Rattle.reach.specs.Opening.{heard, judged};
 ghost use Rattle.writing.specs.Private as writing·private;
 ghost use Rattle.comparison.specs.Comparison as paper;
 ghost use Rattle.comparison.specs.Private as private;
 
-use compare::{Cursor, Frame, Step};
-use paper::{Answer, Written};
-use reach::Opening;
-
-fn is_accepted(opening: Opening) -> bool
-    ensures { result ≡ private.is_accepted (heard opening).state }
-{
-    match opening {
-        Opening::Accepted(_) => true,
-        Opening::Refused(_) => false,
-    }
-}
+use compare::{Cursor, Frame, Hit};
+use paper::{ElementId, Unwritten};
+use reach::Turn;
 
 // The next difference of two pages, if they were accepted.
-fn next_of(older: &[u8], newer: &[u8], frame: Frame, accepted: bool, at: Cursor) -> Step
+fn next_of(older: &[u8], newer: &[u8], frame: Frame, accepted: bool, at: Cursor) -> Option<Hit>
     requires { frame ≡ frame_of older.now newer.now }
     ensures { result ≡ private.step_of accepted older.now newer.now at }
 {
     if accepted {
         compare::next_to(older, newer, frame, at)
     } else {
-        Step::Done
+        None
     }
 }
 
@@ -47,26 +37,27 @@ fn measure<'a>(older: &'a [u8], newer: &'a [u8], accepted: bool) -> usize
     }
     let mut size: usize = 0;
     let mut at = Cursor::first();
-    loop {
-        let step = compare::next(older, newer, at);
-        let Step::Found(hit) = step else {
-            return size;
-        };
-        let difference = hit.line;
-        size += changes::line_width(older, newer, difference);
+    while let Some(hit) = compare::next(older, newer, at) {
+        size += changes::line_width(older, newer, hit.line);
         at = hit.next;
     }
+    size
 }
 
 // Whether the whole text fits. Each fits 160,000 bytes, so that for these nothing is measured.
-fn has_room<'a>(older: &'a [u8], newer: &'a [u8], opening: Opening, room: usize) -> bool
+fn has_room<'a>(
+    older: &'a [u8],
+    newer: &'a [u8],
+    opening: Result<Option<ElementId>, Turn>,
+    room: usize,
+) -> bool
     requires { heard opening ≡ judged older.now newer.now }
     ensures { result ≡ leb (length (paper.comparison_of older.now newer.now)) room }
 {
     if 160000 <= room {
         return true;
     }
-    measure(older, newer, is_accepted(opening)) + ending::last_width(opening) <= room
+    measure(older, newer, opening.is_ok()) + ending::last_width(opening) <= room
 }
 
 // Stores the lines of all differences at the front, and answers where they end.
@@ -76,33 +67,23 @@ fn put_lines<'a>(older: &'a [u8], newer: &'a [u8], accepted: bool, out: &mut [u8
     let frame = compare::frame_of(older, newer);
     let mut size: usize = 0;
     let mut at = Cursor::first();
-    loop {
-        let step = next_of(older, newer, frame, accepted, at);
-        let Step::Found(hit) = step else {
-            return size;
-        };
-        let difference = hit.line;
-        size = changes::put_line(older, newer, difference, out, size);
+    while let Some(hit) = next_of(older, newer, frame, accepted, at) {
+        size = changes::put_line(older, newer, hit.line, out, size);
         at = hit.next;
     }
+    size
 }
 
 // The whole text, or nothing where it does not fit.
-pub fn write<'a>(older: &'a [u8], newer: &'a [u8], out: &mut [u8]) -> Written
-    ensures out_after { said result.answer (output result.count out.new) ≡ written (paper.comparison_of older.now newer.now) out.old }
-    ensures prefix_len { IsPrefixLen result.count out.new }
+pub fn write<'a>(older: &'a [u8], newer: &'a [u8], out: &mut [u8]) -> Result<usize, Unwritten>
+    ensures out_after { wrote result out.new ≡ written (paper.comparison_of older.now newer.now) out.old }
+    ensures prefix_len { IfOk result (λ size. IsPrefixLen size out.new) }
 {
     let opening = reach::judge(older, newer);
     if !has_room(older, newer, opening, out.len()) {
-        return Written {
-            answer: Answer::SmallBuffer,
-            count: 0,
-        };
+        return Err(Unwritten::SmallBuffer);
     }
-    let lines = put_lines(older, newer, is_accepted(opening), out);
+    let lines = put_lines(older, newer, opening.is_ok(), out);
     let size = ending::put_last(opening, out, lines);
-    Written {
-        answer: Answer::Done,
-        count: size,
-    }
+    Ok(size)
 }

@@ -7,9 +7,10 @@ use mathlib.Core.Path.{◌≡◌, sym, ap, subst, ◌∙◌}
 use native.Mathlib.Omega.{arith}
 use lib.ListN.{length, get_or, set, length-set, length-map, get_or-map}
 use borrow.Author.Tests.{leb-true}
+use Rattle.std.proofs.Common.{Option, Some, None}
+use Rattle.cells.proofs.Sights.{seen_hit}
 use Rattle.cells.specs.Cells.{make}
 use Rattle.cells.specs.Rulings.{Ruled}
-use Rattle.cells.specs.Sights.{see_in}
 use Rattle.cells.specs.declared.Note.TheVariants.{Empty, Full}
 use Rattle.cells.specs.declared.Note.{Note}
 use Rattle.cells.specs.declared.Position.TheVariants.{Work1, Work2, Work3, Work4, Work5, Wind1, Wind2, Wind3, Wind4}
@@ -27,7 +28,7 @@ use Rattle.slices.specs.Lists.{Every}
 use Rattle.steps.specs.Steps.{marking}
 use Rattle.table.proofs.Search.{hits_there}
 use Rattle.table.specs.Elements.{live, blank_part, identifiers}
-use Rattle.table.specs.Search.{place, sight_in}
+use Rattle.table.specs.Search.{place}
 use Rattle.table.specs.declared.Part.{Part}
 use Rattle.conduct.specs.Fits.{PartFits, Fits}
 use Rattle.conduct.specs.Promises.{KeepsFit}
@@ -68,29 +69,25 @@ module _ (d : Device) (fits : Fits d) where
       }
 
   -- what the search hits is an element of the table
-  hit_fits : (id : ElementId) → (see d id).hit ≡ true → id.0 < 2 ^ 32
-  unfolding see_in sight_in
-  hit_fits id q =
-      let there = hits_there id.0 (identifiers d.table) q in
+  hit_fits : (id : ElementId) (s : Seen) → see d id ≡ Some s → id.0 < 2 ^ 32
+  hit_fits id s q =
+      let there = hits_there id.0 (identifiers d.table) (seen_hit d.table d.cells id s q).0 in
       let k : ℕ = place id.0 (identifiers d.table) in
       let same : id.0 ≡ (get_or (live d.table) k blank_part).id.0 = sym there.1 ∙ get_or-map (λ (p : Part). p.id.0) (live d.table) k blank_part in
       let fit = every_at PartFits (live d.table) k blank_part (simp length-map at there.0) (every_take PartFits d.table.count d.table.parts fits.each) in
       rw same fit.id
 
-  noting : (w : Removal) → (see d w.element).hit ≡ true → CellsFit d.cells.healths (Full w)
-  noting w hit =
+  noting : (w : Removal) (s : Seen) → see d w.element ≡ Some s → CellsFit d.cells.healths (Full w)
+  noting w s hit =
       record {
         celled = fits.celled;
         healths = fits.healths;
-        noted = λ v q. subst (λ (u : Removal). u.element.0 < 2 ^ 32) (one_removal q) (hit_fits w.element hit);
+        noted = λ v q. subst (λ (u : Removal). u.element.0 < 2 ^ 32) (one_removal q) (hit_fits w.element s hit);
       }
 
-  marked : (s : Seen) → After (marking s)
-  marked s = go s.hit
-    where
-      go : (b : Bool) → After (cond b (Marked s.place) Nothing)
-      go true = stored s.place 0xFF (omega arith)
-      go false = as_it_was
+  marked : (x : Option Seen) → After (marking x)
+  marked None = as_it_was
+  marked (Some s) = stored s.place 0xFF (omega arith)
 
   stepped : (w : Removal) (p : Position) → After (store_at d w p)
   stepped w Work1 = as_it_was
@@ -106,13 +103,13 @@ module _ (d : Device) (fits : Fits d) where
   fit_shape : (k : Kind) (r : Ruled) → Shape d k r → Fits (carried_out d r)
   fit_shape k r (quiet n) = fits
   fit_shape k r clears = with_cells r as_it_was
-  fit_shape k r (notes id lba n s) = with_cells r (noting _ s.hit)
+  fit_shape k r (notes id lba s n standing) = with_cells r (noting _ s standing.hit)
   fit_shape k r (advances w n) = with_cells r (stepped w d.position)
   fit_shape k r (winds w n) = with_cells r as_it_was
 
   fit_grading : (id : ElementId) (h : ℕ) (r : Ruled) → Grading d id h r → Fits (carried_out d r)
   fit_grading id h r refuses = fits
-  fit_grading id h r (grades s g) = with_cells r (stored (see d id).place h (let low = leb-true h 0xCF g in omega (arith, low)))
+  fit_grading id h r (grades s standing g) = with_cells r (stored s.place h (let low = leb-true h 0xCF g in omega (arith, low)))
 
 pub keeps-fit : KeepsFit
 keeps-fit d e fits = every d (λ (r : Ruled). Fits (carried_out d r)) (fit_shape d fits) (fit_grading d fits) e

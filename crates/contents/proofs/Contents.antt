@@ -6,16 +6,14 @@ use mathlib.Core.Path.{◌≡◌, refl, sym, ap, ◌∙◌}
 use native.Mathlib.Numerals.{add-one}
 use native.Mathlib.Omega.{arith}
 use lib.ListN.{length, take, get_or, length-append, length-take}
+use Rattle.std.proofs.Common.{Option, None, Some, Result, Err}
 use Rattle.heading.proofs.Heading.{length_header}
 use Rattle.layout.specs.declared.Descriptor.{Descriptor}
 use Rattle.layout.specs.declared.Header.{Header}
+use Rattle.offences.specs.declared.Offence.{Offence}
 use Rattle.reader.proofs.LayoutTheorem.{with_header}
 use Rattle.reader.proofs.Taken.{taken, room}
 use Rattle.reader.specs.Judgement.{Values, header, place, heard, read_of, slot_of}
-use Rattle.reader.specs.declared.Judgement.TheVariants.{Accepted, Refused}
-use Rattle.reader.specs.declared.Judgement.{Judgement}
-use Rattle.reader.specs.declared.Slot.TheVariants.{Outside, Holds}
-use Rattle.reader.specs.declared.Slot.{Slot}
 use Rattle.request.specs.declared.Request.{Request}
 use Rattle.rows.proofs.Rows.{length_values}
 use Rattle.rows.specs.Rows.{values_of, header_line}
@@ -52,19 +50,15 @@ held_puts e d x y z h at m n r is_h is_x is_m is_y is_n is_z is_r =
     let two : Puts x m (values_of e) y n = puts_one x y m n (values_of e) is_y is_n in
     puts_more d y at n (head_of e ++ values_of e) (ascii "\n") z r (puts_one y z n r (ascii "\n") is_z is_r) (puts_more d x at m (head_of e) (values_of e) y n two one)
 
-module _ (slot : Slot) (d : List ℕ) (at : ℕ) where
-  pub slot_outside : slot ≡ Outside → Puts d at (slot_line slot) d at
-  slot_outside e = rw e (puts_none d at)
-
-  pub slot_holds : (x : List ℕ) (r : ℕ) (h : Descriptor) → slot ≡ Holds h → Puts d at (held_line h) x r → Puts d at (slot_line slot) x r
-  slot_holds x r h e so = rw e so
+pub slot_none : (slot : Option Descriptor) (d : List ℕ) (at : ℕ) → slot ≡ None → Puts d at (slot_line slot) d at
+slot_none slot d at e = rw e (puts_none d at)
 
 -- the slot, by the order that it was found in
-pub at_order : (o found : Order) → o ≡ found → (s : List ℕ) (k : ℕ) (slot : Slot) → slot ≡ slot_at found s k → slot ≡ slot_at o s k
+pub at_order : (o found : Order) → o ≡ found → (s : List ℕ) (k : ℕ) (slot : Option Descriptor) → slot ≡ slot_at found s k → slot ≡ slot_at o s k
 at_order o found e s k slot is_slot = is_slot ∙ sym (rw e)
 
 -- a turn of the loop
-pub slots_next : (slots : ℕ → Slot) (k : ℕ) (slot : Slot) → slot ≡ slots k → (d x y : List ℕ) (from at r : ℕ) → Puts x at (slot_line slot) y r
+pub slots_next : (slots : ℕ → Option Descriptor) (k : ℕ) (slot : Option Descriptor) → slot ≡ slots k → (d x y : List ℕ) (from at r : ℕ) → Puts x at (slot_line slot) y r
     → Puts d from (slots_below slots k) x at → Puts d from (slots_below slots (k + 1)) y r
 slots_next slots k slot is_slot d x y from at r two one =
     let line : Puts x at (slot_line (slots k)) y r = rw is_slot at two in
@@ -72,37 +66,33 @@ slots_next slots k slot is_slot d x y from at r two one =
 
 -- ## The whole text
 
-pub list_puts : (h : Header) (slots : ℕ → Slot) (count : ℕ) (d x y z : List ℕ) (at m n r : ℕ) → x ≡ stored d at (ascii "0\n") → m ≡ ended d at (ascii "0\n")
+pub list_puts : (h : Header) (slots : ℕ → Option Descriptor) (count : ℕ) (d x y z : List ℕ) (at m n r : ℕ) → x ≡ stored d at (ascii "0\n") → m ≡ ended d at (ascii "0\n")
     → y ≡ stored x m (header_line h) → n ≡ ended x m (header_line h) → Puts y n (slots_below slots count) z r → Puts d at (list_text h slots count) z r
 list_puts h slots count d x y z at m n r is_x is_m is_y is_n three =
     let one : Puts d at (ascii "0\n") x m = puts_one d x at m (ascii "0\n") is_x is_m in
     let two : Puts x m (header_line h) y n = puts_one x y m n (header_line h) is_y is_n in
     puts_more d y at n (ascii "0\n" ++ header_line h) (slots_below slots count) z r three (puts_more d x at m (ascii "0\n") (header_line h) y n two one)
 
-module _ (s : List ℕ) (answer : Judgement) (d x : List ℕ) (at r : ℕ) where
-  pub judged-accepted : (h : Header) → answer ≡ Accepted h → Puts d at (list_text h (slot_at Little s) h.returned) x r → Puts d at (reading_for s (heard answer).state) x r
-  judged-accepted h e so = rw e so
+pub judged-refused : (s : List ℕ) (answer : Result Header Offence) (d x : List ℕ) (at r : ℕ) (p : Offence) → answer ≡ Err p
+    → x ≡ stored d at (refused_line p.0) → r ≡ ended d at (refused_line p.0) → Puts d at (reading_for s (heard answer).state) x r
+judged-refused s answer d x at r p e is_x is_r = rw e (puts_one d x at r (refused_line p.0) is_x is_r)
 
-  pub judged-refused : (p : ℕ) → answer ≡ Refused p → x ≡ stored d at (refused_line p) → r ≡ ended d at (refused_line p)
-      → Puts d at (reading_for s (heard answer).state) x r
-  judged-refused p e is_x is_r = rw e (puts_one d x at r (refused_line p) is_x is_r)
-
-pub reading_puts : (page kept : List ℕ) (q : Request) (answer : Judgement) (d x : List ℕ) (at r : ℕ) → kept ≡ take 65536 page
+pub reading_puts : (page kept : List ℕ) (q : Request) (answer : Result Header Offence) (d x : List ℕ) (at r : ℕ) → kept ≡ take 65536 page
     → heard answer ≡ read_of Little kept q → Puts d at (reading_for kept (heard answer).state) x r → Puts d at (reading_of page q) x r
 unfolding reading_of
 reading_puts page kept q answer d x at r is_kept is_answer so = rw (is_answer, is_kept) at so
 
 -- ## How long: 128 pages have room for 2,047 descriptors
 
-length_slot : (slot : Slot) → length (slot_line slot) ≤ 38
-length_slot Outside = omega arith
-length_slot (Holds d) = simp length-append (omega (arith, ap length (bit_digit d.restorable), length_values d))
+length_slot : (slot : Option Descriptor) → length (slot_line slot) ≤ 38
+length_slot None = omega arith
+length_slot (Some d) = simp length-append (omega (arith, ap length (bit_digit d.restorable), length_values d))
 
-length_slots : (slots : ℕ → Slot) (k : ℕ) → length (slots_below slots k) ≤ 38 * k
+length_slots : (slots : ℕ → Option Descriptor) (k : ℕ) → length (slots_below slots k) ≤ 38 * k
 length_slots slots zero = omega arith
 length_slots slots (suc k) = omega (arith, length-append (slots_below slots k) (slot_line (slots k)), length_slots slots k, length_slot (slots k))
 
-pub length_list : (h : Header) (slots : ℕ → Slot) (k : ℕ) → k ≤ 2047 → length (list_text h slots k) ≤ 79000
+pub length_list : (h : Header) (slots : ℕ → Option Descriptor) (k : ℕ) → k ≤ 2047 → length (list_text h slots k) ≤ 79000
 length_list h slots k less =
     omega (
       arith,

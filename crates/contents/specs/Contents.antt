@@ -1,10 +1,8 @@
 -- docs/BENCH.md, `read`: what the reader makes of the kept page.
-use Rattle.std.specs.Prelude.{ℕ, zero, suc, List, [], ◌++◌, take}
+use Rattle.std.specs.Prelude.{ℕ, zero, suc, List, [], ◌++◌, take, Option, None, Some}
 use Rattle.layout.specs.declared.Descriptor.{Descriptor}
 use Rattle.layout.specs.declared.Header.{Header}
 use Rattle.reader.specs.Judgement.{Values, header, place, read_of, slot_of}
-use Rattle.reader.specs.declared.Slot.TheVariants.{Outside, Holds}
-use Rattle.reader.specs.declared.Slot.{Slot}
 use Rattle.request.specs.declared.Request.{Request}
 use Rattle.rows.specs.Rows.{values_of, header_line}
 use Rattle.slices.specs.Lists.{one}
@@ -18,17 +16,17 @@ abbrev pub held_line : Descriptor → List ℕ
 held_line d = digits 16 8 d.id.0 ++ ascii " " ++ decimal_of (one d.restorable) ++ ascii " " ++ values_of d ++ ascii "\n"
 
 -- what stands at a number
-abbrev pub slot_line : Slot → List ℕ
-slot_line Outside = []
-slot_line (Holds d) = held_line d
+abbrev pub slot_line : Option Descriptor → List ℕ
+slot_line None = []
+slot_line (Some d) = held_line d
 
 -- the lines of the first n numbers
-abbrev pub slots_below : (ℕ → Slot) → ℕ → List ℕ
+abbrev pub slots_below : (ℕ → Option Descriptor) → ℕ → List ℕ
 slots_below slots zero = []
 slots_below slots (suc n) = slots_below slots n ++ slot_line (slots n)
 
 -- "a line `0` (without a sense), then a line `number N ..`, then a line .. for each descriptor"
-abbrev pub list_text : Header → (ℕ → Slot) → ℕ → List ℕ
+abbrev pub list_text : Header → (ℕ → Option Descriptor) → ℕ → List ℕ
 list_text h slots n = ascii "0\n" ++ header_line h ++ slots_below slots n
 
 -- "`9 at PLACE` (decimal)"

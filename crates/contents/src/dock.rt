@@ -6,8 +6,10 @@ ghost use Rattle.writing.specs.Writing.{stored_in, ended_in};
 ghost use Rattle.contents.specs.DockContents.{scsi_reading_for, scsi_reading_of};
 
 use crate::put_list;
+use offences::Offence;
 use query::Query;
-use scsi::{Judgement, Reading};
+use scsi::Reading;
+use tally::Tally;
 use words::Order;
 
 // What is there of the list, and how much of it that is.
@@ -16,15 +18,20 @@ fn put_read(out: &mut [u8], at: usize, bytes: &[u8], r: Reading) -> usize
 {
     let h = r.header;
     let end = put_list(out, at, bytes, h, r.whole, Order::Big);
-    tally::put(out, end, r.whole, h.number, r.torn)
+    let tally = Tally {
+        whole: r.whole,
+        number: h.number,
+        torn: r.torn,
+    };
+    tally.put(out, end)
 }
 
-fn put_judged(out: &mut [u8], at: usize, bytes: &[u8], answer: Judgement) -> usize
+fn put_judged(out: &mut [u8], at: usize, bytes: &[u8], answer: Result<Reading, Offence>) -> usize
     ensures { writing·private.Puts out.old at (scsi_reading_for bytes.now (heard answer).state) out.new result }
 {
     match answer {
-        Judgement::Accepted(r) => put_read(out, at, bytes, r),
-        Judgement::Refused(place) => writing::numbered(out, at, b"9 at ", place as u64),
+        Ok(r) => put_read(out, at, bytes, r),
+        Err(offence) => writing::numbered(out, at, b"9 at ", offence.0 as u64),
     }
 }
 

@@ -12,7 +12,7 @@ ghost use Rattle.contents.specs.Private as private;
 
 pub use dock::put_scsi_reading;
 use layout::{Descriptor, Header};
-use reader::{Judgement, Slot};
+use offences::Offence;
 use request::Request;
 use words::Order;
 
@@ -36,17 +36,17 @@ fn put_held(out: &mut [u8], at: usize, d: Descriptor) -> usize
     writing::word(out, b, b"\n")
 }
 
-fn put_slot(out: &mut [u8], at: usize, slot: Slot) -> usize
+fn put_slot(out: &mut [u8], at: usize, slot: Option<Descriptor>) -> usize
     ensures { writing·private.Puts out.old at (slot_line slot) out.new result }
 {
     match slot {
-        Slot::Outside => at,
-        Slot::Holds(d) => put_held(out, at, d),
+        None => at,
+        Some(d) => put_held(out, at, d),
     }
 }
 
 // The descriptor at a number, of a page or of SCSI data.
-fn slot_at(bytes: &[u8], k: u32, o: Order) -> Slot
+fn slot_at(bytes: &[u8], k: u32, o: Order) -> Option<Descriptor>
     ensures { result ≡ private.slot_at o bytes.now k }
 {
     match o {
@@ -60,10 +60,8 @@ fn put_slots(out: &mut [u8], from: usize, bytes: &[u8], count: u32, o: Order) ->
     ensures { writing·private.Puts out.old from (slots_below (private.slot_at o bytes.now) count) out.new result }
 {
     let mut at = from;
-    let mut k: u32 = 0;
-    while k < count {
+    for k in 0..count {
         at = put_slot(out, at, slot_at(bytes, k, o));
-        k += 1;
     }
     at
 }
@@ -79,12 +77,12 @@ fn put_list(out: &mut [u8], at: usize, bytes: &[u8], h: Header, count: u32, o: O
     put_slots(out, b, bytes, count, o)
 }
 
-fn put_judged(out: &mut [u8], at: usize, page: &[u8], answer: Judgement) -> usize
+fn put_judged(out: &mut [u8], at: usize, page: &[u8], answer: Result<Header, Offence>) -> usize
     ensures { writing·private.Puts out.old at (reading_for page.now (heard answer).state) out.new result }
 {
     match answer {
-        Judgement::Accepted(h) => put_list(out, at, page, h, h.returned, Order::Little),
-        Judgement::Refused(place) => writing::numbered(out, at, b"9 at ", place as u64),
+        Ok(h) => put_list(out, at, page, h, h.returned, Order::Little),
+        Err(offence) => writing::numbered(out, at, b"9 at ", offence.0 as u64),
     }
 }
 

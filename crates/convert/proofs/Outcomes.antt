@@ -1,4 +1,4 @@
--- What is refused, and what is answered: a law for each way out.
+-- What is answered: a law for each way out.
 use Prim.Native.Nat.{ℕ, ◌+◌, ◌-◌, ◌*◌, ◌≤◌, ◌<◌}
 use mathlib.Core.Bool.{Bool, true, false, cond}
 use mathlib.Core.List.{List, [], ◌++◌}
@@ -6,85 +6,46 @@ use mathlib.Core.Path.{◌≡◌, refl, sym, ap, ◌∙◌}
 use native.Mathlib.Omega.{arith}
 use lib.Dec.{eqb, leb}
 use lib.ListN.{length, replicate, length-append, length-replicate}
-use borrow.Author.Tests.{eq-eqb, ne_eqb, eqb-true, leb-true, not-true}
+use borrow.Author.Tests.{eqb-true, leb-true, not-true}
 use Rattle.layout.specs.Bytes.{header_in, laid, returned_of}
 use Rattle.layout.specs.declared.Header.{Header}
 use Rattle.offences.proofs.Laid.{length-laid}
 use Rattle.offences.specs.Checks.{base_of}
+use Rattle.std.proofs.Common.{Result, Ok, Err}
+use Rattle.std.specs.Prelude.{⊤}
 use Rattle.offences.specs.First.{unless, ◌or_else◌}
-use Rattle.offences.specs.declared.Offence.TheVariants.{Clean, At}
 use Rattle.offences.specs.declared.Offence.{Offence}
 use Rattle.paper.proofs.Output.{written_small, written_done, refusal_writes_nothing}
-use Rattle.paper.specs.Output.{Output, output, written}
-use Rattle.paper.specs.Told.{Told, tells, said}
-use Rattle.paper.specs.declared.Answer.TheVariants as answers
+use Rattle.paper.specs.Output.{Output, wrote, written}
+use Rattle.paper.specs.Told.{Told, tells}
 use Rattle.query.specs.declared.Query.{Query}
 use Rattle.reader.proofs.LayoutTheorem.{and_both}
-use Rattle.reader.proofs.LayoutTheorem as page
-use Rattle.reader.specs.Judgement as page·spec
 use Rattle.reader.specs.Page.{page_offence}
-use Rattle.reader.specs.declared.Judgement.TheVariants as page·judgement
-use Rattle.reader.specs.declared.Judgement as page·declared
 use Rattle.request.proofs.Requests.{accepted}
 use Rattle.request.specs.Requests.{pages_of}
 use Rattle.request.specs.declared.Request.{Request}
-use Rattle.scsi.proofs.LayoutTheorem as scsi
 use Rattle.scsi.specs.Data.{whole_of, data_offence}
-use Rattle.scsi.specs.Judgement as scsi·spec
-use Rattle.scsi.specs.declared.Judgement.TheVariants as scsi·judgement
-use Rattle.scsi.specs.declared.Judgement as scsi·declared
-use Rattle.scsi.specs.declared.Reading.{Reading}
 use Rattle.slices.proofs.Lists.{stored-front, stored_more}
 use Rattle.slices.specs.Lists.{stored}
 use Rattle.words.specs.declared.Order.TheVariants.{Little, Big}
 use Rattle.words.specs.declared.Order.{Order}
 use Rattle.convert.specs.Convert.{list_in, turned, paged, scsi_offence, fits_pages, ata_offence, Outcome, put, place, buffer_of, heard, outcome, to_scsi, to_ata}
 use Rattle.convert.specs.Promises.{OneOutcome, RefusalLeavesBytes, DataBytes, PageBytes}
-use Rattle.convert.specs.declared.Converted.TheVariants.{Done, SmallBuffer, Refused}
-use Rattle.convert.specs.declared.Converted.{Converted}
+use Rattle.convert.specs.declared.Refusal.TheVariants as refusals
+use Rattle.convert.specs.declared.Refusal.{Refusal}
 use Rattle.convert.proofs.Turned.{length_list}
-
--- ## What is refused
-
-module _ (s : List ℕ) (q : Request) (j : page·declared.Judgement) (is_j : page·spec.heard j ≡ page·spec.read_of Little s q) where
-  pub page_taken : (h : Header) → j ≡ page·judgement.Accepted h → (f : Offence) → f ≡ unless (eqb h.returned h.number) 4 → f ≡ scsi_offence s q
-  page_taken h e f is_f =
-      let (clean, is_h) = page.heard_clean Little s q h (ap page·spec.heard (sym e) ∙ is_j) in
-      is_f ∙ ap (λ (x : Header). unless (eqb x.returned x.number) 4) is_h ∙ sym (rw clean)
-
-  pub page_refused : (p : ℕ) → j ≡ page·judgement.Refused p → At p ≡ scsi_offence s q
-  page_refused p e = sym (rw (page.heard_at Little s q p (ap page·spec.heard (sym e) ∙ is_j)))
-
-module _ (w n p : ℕ) where
-  pub convertible_cut : (w ≡ n → ⊥) → false ≡ fits_pages w n p
-  convertible_cut ne = sym (rw (ne_eqb _ _ ne))
-
-  pub convertible_whole : w ≡ n → leb (n + 1) (16 * p) ≡ fits_pages w n p
-  convertible_whole e = sym (rw (eq-eqb _ _ e))
-
-module _ (s : List ℕ) (q : Query) (p : ℕ) (j : scsi·declared.Judgement) (is_j : scsi·spec.heard j ≡ scsi·spec.read_of Big s q) where
-  pub data_taken : (r : Reading) → j ≡ scsi·judgement.Accepted r → (b : Bool) → b ≡ fits_pages r.whole r.header.number p → (f : Offence) → f ≡ unless b 4 → f ≡ ata_offence s q p
-  data_taken r e b is_b f is_f =
-      let (clean, is_h, is_w) = scsi.heard_clean Big s q r.header r.whole r.torn (ap scsi·spec.heard (sym e) ∙ is_j) in
-      is_f ∙ ap (λ (x : Bool). unless x 4) (is_b ∙ (λ i. fits_pages (is_w i) (is_h i).number p)) ∙ sym (rw clean)
-
-  pub data_refused : (r : ℕ) → j ≡ scsi·judgement.Refused r → At r ≡ ata_offence s q p
-  data_refused r e = sym (rw (scsi.heard_at Big s q r (ap scsi·spec.heard (sym e) ∙ is_j)))
 
 -- ## What is answered
 
-module _ (g bytes buf : List ℕ) (f : Offence) where
-  refused_at : (p : ℕ) → f ≡ At p → heard (Refused p) buf ≡ outcome f bytes buf
-  refused_at p e = sym (rw e)
-
-  module _ (clean : f ≡ Clean) (n : ℕ) (is_n : n ≡ length bytes) where
-    too_short : length buf < n → heard SmallBuffer buf ≡ outcome f bytes buf
+module _ (g bytes buf : List ℕ) (f : Result ⊤ Offence) where
+  module _ (clean : f ≡ Ok tt) (n : ℕ) (is_n : n ≡ length bytes) where
+    too_short : length buf < n → heard (Err refusals.SmallBuffer) buf ≡ outcome f bytes buf
     too_short less =
         (λ i. tells (written_small bytes buf n is_n less i).number (put (written_small bytes buf n is_n less i).state)) ∙ sym (rw clean)
 
-    all_put : n ≤ length buf → g ≡ stored buf 0 bytes → heard (Done n) g ≡ outcome f bytes buf
+    all_put : n ≤ length buf → g ≡ stored buf 0 bytes → heard (Ok n) g ≡ outcome f bytes buf
     all_put room is_g =
-        let so : said answers.Done (output n g) ≡ written bytes buf = written_done bytes buf n is_n room g (is_g ∙ stored-front buf bytes (omega (arith, is_n))) in
+        let so : wrote (Ok n) g ≡ written bytes buf = written_done bytes buf n is_n room g (is_g ∙ stored-front buf bytes (omega (arith, is_n))) in
         (λ i. tells (so i).number (put (so i).state)) ∙ sym (rw clean)
 
 pub turned-laid : (from to : Order) (s : List ℕ) → laid to (header_in from s) (list_in from s (header_in from s).number) ≡ turned from to s
@@ -97,24 +58,19 @@ length-turned from to s = length-laid to (header_in from s) (list_in from s (hea
 
 -- ## What is not refused
 
-place_of : Offence → ℕ
-place_of Clean = 0
-place_of (At p) = 1
+clean_not : (p : Offence) → ◌≡◌ {A = Result ⊤ Offence} (Err p) (Ok tt) → ⊥
+clean_not p e = cc
 
-clean_not : (p : ℕ) → At p ≡ Clean → ⊥
-unfolding place_of
-clean_not p e = let no : ◌≡◌ {A = ℕ} 1 0 = ap place_of e in omega arith
-
-pub unless_clean : (b : Bool) (p : ℕ) → unless b p ≡ Clean → b ≡ true
+pub unless_clean : (b : Bool) (p : ℕ) → unless b p ≡ Ok tt → b ≡ true
 unless_clean true p e = refl
-unless_clean false p e = absurd (clean_not p e)
+unless_clean false p e = absurd (clean_not _ e)
 
-pub or_clean : (a b : Offence) → (a or_else b) ≡ Clean → (a ≡ Clean) × (b ≡ Clean)
-or_clean Clean b e = (refl, e)
-or_clean (At p) b e = absurd (clean_not p e)
+pub or_clean : (a b : Result ⊤ Offence) → (a or_else b) ≡ Ok tt → (a ≡ Ok tt) × (b ≡ Ok tt)
+or_clean (Ok _) b e = (refl, e)
+or_clean (Err p) b e = absurd (clean_not p e)
 
 -- a page that is not refused: the list is there whole
-pub page_whole : (s : List ℕ) (q : Request) → scsi_offence s q ≡ Clean → base_of (header_in Little s).number ≤ length s
+pub page_whole : (s : List ℕ) (q : Request) → scsi_offence s q ≡ Ok tt → base_of (header_in Little s).number ≤ length s
 page_whole s q clean =
     let n = (header_in Little s).number in
     let both = or_clean (page_offence Little s q) (unless (eqb (header_in Little s).returned n) 4) clean in
@@ -129,25 +85,22 @@ page_whole s q clean =
 
 -- ## To SCSI
 
-module _ (s : List ℕ) (q : Request) (buf : List ℕ) (f : Offence) (is_f : f ≡ scsi_offence s q) where
+module _ (s : List ℕ) (q : Request) (buf : List ℕ) (f : Result ⊤ Offence) (is_f : f ≡ scsi_offence s q) where
   told : (t : Told Outcome) → t ≡ outcome f (turned Little Big s) buf → t ≡ to_scsi s q buf
-  told t so = so ∙ ap (λ (x : Offence). outcome x (turned Little Big s) buf) is_f
+  told t so = so ∙ ap (λ (x : Result ⊤ Offence). outcome x (turned Little Big s) buf) is_f
 
-  pub scsi_refused : (p : ℕ) → f ≡ At p → heard (Refused p) buf ≡ to_scsi s q buf
-  scsi_refused p e = told _ (refused_at buf (turned Little Big s) buf f p e)
-
-  module _ (clean : f ≡ Clean) (h : Header) (is_h : h ≡ header_in Little s) where
+  module _ (clean : f ≡ Ok tt) (h : Header) (is_h : h ≡ header_in Little s) where
     size : 32 + 32 * h.number ≡ length (turned Little Big s)
     size = ap (λ (x : Header). base_of x.number) is_h ∙ sym (length-turned Little Big s)
 
-    pub scsi_short : length buf < 32 + 32 * h.number → heard SmallBuffer buf ≡ to_scsi s q buf
+    pub scsi_short : length buf < 32 + 32 * h.number → heard (Err refusals.SmallBuffer) buf ≡ to_scsi s q buf
     scsi_short less = told _ (too_short buf (turned Little Big s) buf f clean (32 + 32 * h.number) size less)
 
     pub page_there : 32 + 32 * h.number ≤ length s
     page_there = rw is_h (page_whole s q (sym is_f ∙ clean))
 
     pub scsi_done : 32 + 32 * h.number ≤ length buf → (g : List ℕ) → g ≡ stored buf 0 (laid Big (header_in Little s) (list_in Little s h.number))
-        → heard (Done (32 + 32 * h.number)) g ≡ to_scsi s q buf
+        → heard (Ok (32 + 32 * h.number)) g ≡ to_scsi s q buf
     scsi_done room g is_g =
         told _ (all_put g (turned Little Big s) buf f clean (32 + 32 * h.number) size room
         (is_g ∙ ap (λ (x : Header). stored buf 0 (laid Big (header_in Little s) (list_in Little s x.number))) is_h ∙ ap (stored buf 0) (turned-laid Little Big s)))
@@ -155,22 +108,19 @@ module _ (s : List ℕ) (q : Request) (buf : List ℕ) (f : Offence) (is_f : f �
 -- ## To ATA
 
 -- data that is not refused: the list is there whole, and not "above 16p - 1"
-pub fits_clean : (s : List ℕ) (q : Query) (p : ℕ) → ata_offence s q p ≡ Clean
-    → (data_offence Big s q ≡ Clean) × (whole_of (header_in Big s).number (length s) ≡ (header_in Big s).number) × ((header_in Big s).number + 1 ≤ 16 * p)
+pub fits_clean : (s : List ℕ) (q : Query) (p : ℕ) → ata_offence s q p ≡ Ok tt
+    → (data_offence Big s q ≡ Ok tt) × (whole_of (header_in Big s).number (length s) ≡ (header_in Big s).number) × ((header_in Big s).number + 1 ≤ 16 * p)
 fits_clean s q p clean =
     let n = (header_in Big s).number in
     let both = or_clean (data_offence Big s q) (unless (fits_pages (whole_of n (length s)) n p) 4) clean in
     let fits = and_both (eqb (whole_of n (length s)) n) (leb (n + 1) (16 * p)) (unless_clean _ 4 both.1) in
     (both.0, eqb-true _ _ fits.0, leb-true (n + 1) (16 * p) fits.1)
 
-module _ (s : List ℕ) (q : Query) (p : ℕ) (buf : List ℕ) (f : Offence) (is_f : f ≡ ata_offence s q p) where
+module _ (s : List ℕ) (q : Query) (p : ℕ) (buf : List ℕ) (f : Result ⊤ Offence) (is_f : f ≡ ata_offence s q p) where
   answered : (t : Told Outcome) → t ≡ outcome f (paged p s) buf → t ≡ to_ata s q p buf
-  answered t so = so ∙ ap (λ (x : Offence). outcome x (paged p s) buf) is_f
+  answered t so = so ∙ ap (λ (x : Result ⊤ Offence). outcome x (paged p s) buf) is_f
 
-  pub ata_refused : (r : ℕ) → f ≡ At r → heard (Refused r) buf ≡ to_ata s q p buf
-  ata_refused r e = answered _ (refused_at buf (paged p s) buf f r e)
-
-  module _ (clean : f ≡ Clean) where
+  module _ (clean : f ≡ Ok tt) where
     abbrev n : ℕ
     n = (header_in Big s).number
 
@@ -186,7 +136,7 @@ module _ (s : List ℕ) (q : Query) (p : ℕ) (buf : List ℕ) (f : Offence) (is
     unfolding paged
     page_size = sym (length-append (turned Big Little s) (replicate (512 * p - base_of n) 0) ∙ rw (length-turned Big Little s, length-replicate) (omega (arith, few)))
 
-    pub ata_short : length buf < 512 * p → heard SmallBuffer buf ≡ to_ata s q p buf
+    pub ata_short : length buf < 512 * p → heard (Err refusals.SmallBuffer) buf ≡ to_ata s q p buf
     ata_short less = answered _ (too_short buf (paged p s) buf f clean (512 * p) page_size less)
 
     module _ (room : 512 * p ≤ length buf) (h : Header) (is_h : h ≡ header_in Big s) where
@@ -200,7 +150,7 @@ module _ (s : List ℕ) (q : Query) (p : ℕ) (buf : List ℕ) (f : Offence) (is
       list_fits = omega (arith, few, same)
 
       pub ata_done : (x y : List ℕ) → x ≡ stored buf 0 (laid Little (header_in Big s) (list_in Big s h.number))
-          → y ≡ stored x (32 + 32 * h.number) (replicate (512 * p - (32 + 32 * h.number)) 0) → heard (Done (512 * p)) y ≡ to_ata s q p buf
+          → y ≡ stored x (32 + 32 * h.number) (replicate (512 * p - (32 + 32 * h.number)) 0) → heard (Ok (512 * p)) y ≡ to_ata s q p buf
       unfolding paged
       ata_done x y is_x is_y =
           let t : List ℕ = turned Big Little s in
@@ -218,21 +168,21 @@ module _ (s : List ℕ) (q : Query) (p : ℕ) (buf : List ℕ) (f : Offence) (is
 -- ## What holds of every outcome (specs/Promises)
 
 pub refusal_leaves_bytes : RefusalLeavesBytes
-refusal_leaves_bytes (At p) bytes buf n = refl
-refusal_leaves_bytes Clean bytes buf n = ap (λ (o : Output). o.buffer) (refusal_writes_nothing bytes buf n)
+refusal_leaves_bytes (Err p) bytes buf n = refl
+refusal_leaves_bytes (Ok _) bytes buf n = ap (λ (o : Output). o.buffer) (refusal_writes_nothing bytes buf n)
 
-back : Told Outcome → Converted
+back : Told Outcome → Result ℕ Refusal
 back t = of t.number t.state
   where
-    of : ℕ → Outcome → Converted
-    of n (put out) = cond (eqb n 0) (Done out.count) SmallBuffer
-    of n (place p buf) = Refused p
+    of : ℕ → Outcome → Result ℕ Refusal
+    of n (put out) = cond (eqb n 0) (Ok out.count) (Err refusals.SmallBuffer)
+    of n (place p buf) = Err (refusals.Offence (record { 0 = p }))
 
-back_heard : (a : Converted) (x : List ℕ) → (back (heard a x) ≡ a) × (buffer_of (heard a x).state ≡ x)
+back_heard : (a : Result ℕ Refusal) (x : List ℕ) → (back (heard a x) ≡ a) × (buffer_of (heard a x).state ≡ x)
 unfolding back
-back_heard (Done n) x = (refl, refl)
-back_heard SmallBuffer x = (refl, refl)
-back_heard (Refused p) x = (refl, refl)
+back_heard (Ok n) x = (refl, refl)
+back_heard (Err refusals.SmallBuffer) x = (refl, refl)
+back_heard (Err (refusals.Offence p)) x = (refl, refl)
 
 pub one-outcome : OneOutcome
 one-outcome t a b x y is_a is_b = (

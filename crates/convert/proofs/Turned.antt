@@ -31,46 +31,41 @@ module _ (o : Order) (s : List ℕ) (n : ℕ) where
 
 -- ## The loop
 
--- a place in the list, or its end: the descriptors before it are stored behind the header
-pub record PutBefore (from to : Order) (s : List ℕ) (count : ℕ) (d x : List ℕ) (at : ℕ) : Type 0 where
-  pub k : ℕ
-  pub is_at : at ≡ base_of k
-  pub few : k ≤ count
+-- the first k descriptors are stored behind the header
+pub record PutBefore (from to : Order) (s : List ℕ) (count : ℕ) (d x : List ℕ) (k : ℕ) : Type 0 where
   pub long : length x ≡ length d
   pub so : x ≡ stored d 32 (flat (descriptor_bytes to) (take k (list_in from s count)))
 
 module _ (from to : Order) (s : List ℕ) (count : ℕ) (d : List ℕ) where
-  pub put_none : PutBefore from to s count d d 32
-  put_none = record { k = 0; is_at = refl; few = omega arith; long = refl; so = sym (stored_none d 32) }
+  pub put_none : PutBefore from to s count d d 0
+  put_none = record { long = refl; so = sym (stored_none d 32) }
 
-  module _ (x : List ℕ) (at : ℕ) (before : PutBefore from to s count d x at) (room : base_of count ≤ length d) where
+  module _ (x : List ℕ) (k : ℕ) (before : PutBefore from to s count d x k) (room : base_of count ≤ length d) where
     -- m is 32: a descriptor read in a part of the source, and stored in one of the target
-    pub put_on : at < base_of count → (m : ℕ) → m ≡ 32 → (r : Row) → Turned from to (take m (drop at s)) r
-        → (z : List ℕ) → z ≡ stored (take m (drop at x)) 0 (row_bytes r) → PutBefore from to s count d (take at x ++ (z ++ drop m (drop at x))) (at + 32)
+    pub put_on : k < count → (m : ℕ) → m ≡ 32 → (r : Row) → Turned from to (take m (drop (base_of k) s)) r
+        → (z : List ℕ) → z ≡ stored (take m (drop (base_of k) x)) 0 (row_bytes r)
+        → PutBefore from to s count d (take (base_of k) x ++ (z ++ drop m (drop (base_of k) x))) (k + 1)
     put_on less m is_m r turned z is_z =
-        let k = before.k in
+        let at : ℕ = base_of k in
         let b : List ℕ = row_bytes r in
         let y : List ℕ = take at x ++ (z ++ drop m (drop at x)) in
         let whole : turned.descriptor ≡ descriptor_in from (drop at s) = turned.read ∙ rw is_m (part_read from (drop at s)) in
         let wide_b : length b ≡ 32 = ap length turned.written ∙ wide to turned.descriptor in
-        let put : y ≡ stored x at b = part_stored x b at m (omega (arith, before.is_at, before.long)) (omega arith) z is_z in
+        let put : y ≡ stored x at b = part_stored x b at m (omega (arith, before.long)) (omega arith) z is_z in
         let listed : b ≡ descriptor_bytes to (get_or (list_in from s count) k (descriptor_at from s 0)) =
-        turned.written ∙ ap (descriptor_bytes to) (whole ∙ ap (λ (n : ℕ). descriptor_in from (drop n s)) before.is_at ∙ sym (list_at from s count k (omega (arith, before.is_at)))) in
+        turned.written ∙ ap (descriptor_bytes to) (whole ∙ sym (list_at from s count k less)) in
         record {
-          k = k + 1;
-          is_at = omega (arith, before.is_at);
-          few = omega (arith, before.is_at);
           long = ap length put ∙ length-stored x b at ∙ before.long;
           so =
               stored_each (descriptor_bytes to) 32 (wide to) (list_in from s count) d x y 32 k (descriptor_at from s 0)
-              (omega (arith, before.is_at)) (omega (arith, before.is_at, length_list from s count)) before.so
-              (put ∙ (λ i. stored x (before.is_at i) (listed i)));
+              (omega arith) (omega (arith, length_list from s count)) before.so
+              (put ∙ ap (stored x at) listed);
         }
 
-    pub put_all : base_of count ≤ at → to ≡ other from → x ≡ stored d 32 (flat (descriptor_bytes (other from)) (list_in from s count))
+    pub put_all : count ≤ k → to ≡ other from → x ≡ stored d 32 (flat (descriptor_bytes (other from)) (list_in from s count))
     put_all past is_to =
         let l : List Descriptor = list_in from s count in
-        let all : take before.k l ≡ l = take_all before.k l (omega (arith, before.is_at, before.few, length_list from s count)) in
+        let all : take k l ≡ l = take_all k l (omega (arith, length_list from s count)) in
         before.so ∙ (λ i. stored d 32 (flat (descriptor_bytes (is_to i)) (all i)))
 
 -- the header, and the list behind it

@@ -1,10 +1,9 @@
 -- Request 2026-03: "Read it, write it, and turn one kind into the other."
-use Rattle.std.specs.Prelude.{ℕ, ◌+◌, ◌-◌, ◌*◌, Bool, ◌&&◌, List, ◌++◌, map, eqb, leb, length, replicate}
+use Rattle.std.specs.Prelude.{ℕ, ◌+◌, ◌-◌, ◌*◌, Bool, ◌&&◌, List, ◌++◌, map, eqb, leb, length, replicate, Result, Ok, Err, ⊤}
 use Rattle.layout.specs.Bytes.{header_in, laid}
 use Rattle.layout.specs.declared.Descriptor.{Descriptor}
 use Rattle.offences.specs.Checks.{base_of, descriptor_at}
 use Rattle.offences.specs.First.{unless, ◌or_else◌}
-use Rattle.offences.specs.declared.Offence.TheVariants.{Clean, At}
 use Rattle.offences.specs.declared.Offence.{Offence}
 use Rattle.paper.specs.Output.{Output, output, written}
 use Rattle.paper.specs.Told.{Told, tells}
@@ -15,8 +14,8 @@ use Rattle.scsi.specs.Data.{whole_of, data_offence}
 use Rattle.slices.specs.Lists.{up_to}
 use Rattle.words.specs.declared.Order.TheVariants.{Little, Big}
 use Rattle.words.specs.declared.Order.{Order}
-use Rattle.convert.specs.declared.Converted.TheVariants.{Done, SmallBuffer, Refused}
-use Rattle.convert.specs.declared.Converted.{Converted}
+use Rattle.convert.specs.declared.Refusal.TheVariants as refusals
+use Rattle.convert.specs.declared.Refusal.{Refusal}
 
 -- ## The bytes: "the same elements and header numbers", and "Reserved bytes become zero"
 
@@ -35,14 +34,14 @@ paged p s = turned Big Little s ++ replicate (512 * p - base_of (header_in Big s
 -- ## What is refused: "the source reader's refusals", and after these
 
 -- "9 at 4 for a cut list"
-abbrev pub scsi_offence : List ℕ → Request → Offence
+abbrev pub scsi_offence : List ℕ → Request → Result ⊤ Offence
 scsi_offence s q = page_offence Little s q or_else unless (eqb (header_in Little s).returned (header_in Little s).number) 4
 
 -- "9 at 4 for a cut list or one above 16p - 1 for the pages asked": for p = 0 that is -1, so that every N is above it
 abbrev pub fits_pages : ℕ → ℕ → ℕ → Bool
 fits_pages whole n p = eqb whole n && leb (n + 1) (16 * p)
 
-abbrev pub ata_offence : List ℕ → Query → ℕ → Offence
+abbrev pub ata_offence : List ℕ → Query → ℕ → Result ⊤ Offence
 ata_offence s q p =
     let n = (header_in Big s).number in
     data_offence Big s q or_else unless (fits_pages (whole_of n (length s)) n p) 4
@@ -58,15 +57,15 @@ abbrev pub buffer_of : Outcome → List ℕ
 buffer_of (put out) = out.buffer
 buffer_of (place p buf) = buf
 
-abbrev pub heard : Converted → List ℕ → Told Outcome
-heard (Done n) buf = tells 0 (put (output n buf))
-heard SmallBuffer buf = tells 7 (put (output 0 buf))
-heard (Refused p) buf = tells 9 (place p buf)
+abbrev pub heard : Result ℕ Refusal → List ℕ → Told Outcome
+heard (Ok n) buf = tells 0 (put (output n buf))
+heard (Err refusals.SmallBuffer) buf = tells 7 (put (output 0 buf))
+heard (Err (refusals.Offence e)) buf = tells 9 (place e.0 buf)
 
 -- "last, on writing or converting, 7 for a buffer below the bytes to be written"
-abbrev pub outcome : Offence → List ℕ → List ℕ → Told Outcome
-outcome (At p) bytes buf = tells 9 (place p buf)
-outcome Clean bytes buf = tells (written bytes buf).number (put (written bytes buf).state)
+abbrev pub outcome : Result ⊤ Offence → List ℕ → List ℕ → Told Outcome
+outcome (Err e) bytes buf = tells 9 (place e.0 buf)
+outcome (Ok _) bytes buf = tells (written bytes buf).number (put (written bytes buf).state)
 
 abbrev pub to_scsi : List ℕ → Request → List ℕ → Told Outcome
 to_scsi s q buf = outcome (scsi_offence s q) (turned Little Big s) buf

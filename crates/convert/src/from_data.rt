@@ -2,12 +2,12 @@
 ghost use Rattle.std.specs.Prelude.{◌≡◌};
 ghost use Rattle.convert.specs.Convert as paper;
 
-use crate::{Converted, put_turned, unless};
+use crate::{Refusal, put_turned, unless};
 use layout::Header;
 use offences::Offence;
 use paper::PageCount;
 use query::Query;
-use scsi::{Judgement, Reading};
+use scsi::Reading;
 use words::Order;
 
 // Whether the list is there whole, and fits so many pages.
@@ -21,29 +21,29 @@ fn is_convertible(r: Reading, pages: PageCount) -> bool
 }
 
 // The reader's offence, or that the list is cut or too long.
-fn offence_of(bytes: &[u8], query: Query, pages: PageCount) -> Offence
+fn offence_of(bytes: &[u8], query: Query, pages: PageCount) -> Result<(), Offence>
     ensures { result ≡ paper.ata_offence bytes.now query pages.0 }
 {
-    match scsi::read(bytes, query) {
-        Judgement::Accepted(r) => unless(is_convertible(r, pages)),
-        Judgement::Refused(place) => Offence::At(place),
-    }
+    let r = scsi::read(bytes, query)?;
+    unless(is_convertible(r, pages))
 }
 
 // The data that answers a request, as so many pages.
-pub fn to_ata(bytes: &[u8], query: Query, pages: PageCount, buf: &mut [u8]) -> Converted
+pub fn to_ata(
+    bytes: &[u8],
+    query: Query,
+    pages: PageCount,
+    buf: &mut [u8],
+) -> Result<usize, Refusal>
     ensures { paper.heard result buf.new ≡ paper.to_ata bytes.now query pages.0 buf.old }
 {
-    let found = offence_of(bytes, query, pages);
-    if let Offence::At(place) = found {
-        return Converted::Refused(place);
-    }
+    offence_of(bytes, query, pages)?;
     let size = 512 * (pages.0 as usize);
     if buf.len() < size {
-        return Converted::SmallBuffer;
+        return Err(Refusal::SmallBuffer);
     }
     let h = Header::read(bytes, Order::Big);
     put_turned(bytes, h.number, Order::Big, buf);
     slices::clear(buf, 32 + 32 * (h.number as usize), size);
-    Converted::Done(size)
+    Ok(size)
 }

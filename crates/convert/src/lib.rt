@@ -10,6 +10,7 @@ ghost use Rattle.offences.specs.First as first;
 ghost use Rattle.slices.specs.Lists.{flat, stored};
 ghost use Rattle.convert.specs.Convert.{list_in};
 ghost use Rattle.convert.specs.Private as private;
+ghost use Rattle.convert.specs.declared.Refusal.TheVariants as refusals;
 
 pub use from_data::to_ata;
 pub use from_page::to_scsi;
@@ -18,23 +19,26 @@ use offences::Offence;
 use strokes::Row;
 use words::Order;
 
-// How many bytes were written; that the buffer is too short; or the place of the first offence.
+// Why nothing is written: the buffer is too short, or the source's first offence.
 #[derive(Clone, Copy)]
-pub enum Converted {
-    Done(usize),
+pub enum Refusal {
     SmallBuffer,
-    Refused(usize),
+    Offence(Offence),
+}
+
+impl From<Offence> for Refusal {
+    ghost from_gives = { λ offence refusal. refusal ≡ refusals.Offence offence };
+
+    fn from(offence: Offence) -> Refusal {
+        Refusal::Offence(offence)
+    }
 }
 
 // An offence at 4, where the returned number stands, unless a list can be converted.
-fn unless(convertible: bool) -> Offence
+fn unless(convertible: bool) -> Result<(), Offence>
     ensures { result ≡ first.unless convertible 4 }
 {
-    if convertible {
-        Offence::Clean
-    } else {
-        Offence::At(4)
-    }
+    if convertible { Ok(()) } else { Err(Offence(4)) }
 }
 
 fn other(o: Order) -> Order
@@ -60,12 +64,10 @@ fn put_list(bytes: &[u8], count: u32, from: Order, buf: &mut [u8])
     ensures { buf.new ≡ stored buf.old 32 (flat (descriptor_bytes (private.other from)) (list_in from bytes.now count)) }
 {
     let to = other(from);
-    let end = 32 + 32 * (count as usize);
-    let mut at: usize = 32;
-    while at < end {
+    for k in 0..count as usize {
+        let at = 32 + 32 * k;
         let row = turned_part(&bytes[at..at + 32], from, to);
         row.put(&mut buf[at..at + 32], 0);
-        at += 32;
     }
 }
 

@@ -11,9 +11,9 @@ use lib.Seq.{take_at}
 use borrow.Author.Tests.{le-ltb}
 use Rattle.device.specs.Machine.{command, told}
 use Rattle.device.specs.declared.Device.{Device}
-use Rattle.paper.specs.Registers.{Registers}
 use Rattle.paper.specs.Told.{Told, tells}
 use Rattle.paper.specs.declared.Answer.TheVariants.{Done}
+use Rattle.paper.specs.declared.Registers.{Registers}
 use Rattle.paper.specs.declared.Security.TheVariants.{Unlocked}
 use Rattle.paper.specs.declared.Security.{Security}
 use Rattle.request.proofs.Requests.{accepted}

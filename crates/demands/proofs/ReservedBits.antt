@@ -8,8 +8,8 @@ use lib.Dec.{ltb}
 use lib.ListN.{length}
 use Rattle.device.specs.Machine.{command, told}
 use Rattle.device.specs.declared.Device.{Device}
-use Rattle.paper.specs.Registers.{Registers}
 use Rattle.paper.specs.Told.{Told, tells}
+use Rattle.paper.specs.declared.Registers.{Registers}
 use Rattle.paper.specs.declared.Security.{Security}
 use Rattle.reach.specs.Opening.{accepted}
 use Rattle.request.proofs.Requests.{set-refused}

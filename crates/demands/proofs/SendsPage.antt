@@ -6,6 +6,7 @@ use mathlib.Core.List.{List}
 use mathlib.Core.Path.{◌≡◌, sym, ap, ◌∙◌}
 use native.Mathlib.Omega.{arith}
 use lib.ListN.{length, take}
+use Rattle.std.proofs.Common.{Result, Ok}
 use Rattle.agreement.proofs.Agreement.{agrees}
 use Rattle.conduct.specs.Fits.{Fits}
 use Rattle.convert.proofs.Outcomes.{or_clean}
@@ -14,13 +15,10 @@ use Rattle.device.specs.declared.Device.{Device}
 use Rattle.exchange.proofs.Device.{sends_its_page}
 use Rattle.exchange.proofs.Exchange.{or_both}
 use Rattle.exchange.proofs.Lent.{laid-front, front, fits_in, converts}
-use Rattle.offences.specs.declared.Offence.TheVariants.{Clean}
 use Rattle.paper.proofs.Output.{one-output}
-use Rattle.paper.specs.Answers.{number_of}
-use Rattle.paper.specs.Output.{output, written}
-use Rattle.paper.specs.Told.{tells, said}
-use Rattle.paper.specs.declared.Answer.TheVariants.{Done}
-use Rattle.paper.specs.declared.Answer.{Answer}
+use Rattle.paper.specs.Output.{output, wrote, written}
+use Rattle.paper.specs.Told.{tells}
+use Rattle.paper.specs.declared.Unwritten.{Unwritten}
 use Rattle.query.proofs.Queries.{due_not, filter_asked, report_asked, unset_asked}
 use Rattle.query.specs.Promises.{SameAsked}
 use Rattle.query.specs.Queries.{due_four, asked_for}
@@ -44,13 +42,13 @@ use Rattle.demands.proofs.Runs.{run-leaves}
 -- ## Bytes that have room
 
 module _ (bytes buf : List ℕ) (size : ℕ) (long : size ≡ length bytes) (room : size ≤ length buf) where
-  sends : (due : Bool) → due ≡ false → (b : Answer) (count : ℕ) (out : List ℕ)
-      → said b (output count out) ≡ cond due (tells 4 (output 0 buf)) (written bytes buf)
-      → (number_of b ≡ 0) × (count ≡ size) × (take size out ≡ bytes)
-  sends due ok b count out so =
+  sends : (due : Bool) → due ≡ false → (b : Result ℕ Unwritten) (out : List ℕ)
+      → wrote b out ≡ cond due (tells 4 (output 0 buf)) (written bytes buf)
+      → (b ≡ Ok size) × (take size out ≡ bytes)
+  sends due ok b out so =
       let told = so ∙ ap (λ (t : Bool). cond t (tells 4 (output 0 buf)) (written bytes buf)) ok in
-      let one = one-output _ b Done count size out (laid-front bytes buf) told (fits_in bytes buf size long room) in
-      (ap number_of one.0, one.1, ap (take size) one.2 ∙ front bytes buf size long)
+      let one = one-output _ b (Ok size) out (laid-front bytes buf) told (fits_in bytes buf size long room) in
+      (one.0, ap (take size) one.1 ∙ front bytes buf size long)
 
 -- ## The page of a SCSI request with the same fields
 
@@ -77,7 +75,7 @@ module _ (d : Device) (r : Request) (asks : refused r ≡ false) (p : ℕ) (q : 
   page_asked = page_same r (asked_for p q) same d
 
   module _ (fits : Fits d) (asc : ascending 0 (identifiers d.table) ≡ true) where
-    clean_too : scsi_offence (page_of d (asked_for p q)) (asked_for p q) ≡ Clean → scsi_offence (page_of d (asked_for p q)) r ≡ Clean
+    clean_too : scsi_offence (page_of d (asked_for p q)) (asked_for p q) ≡ Ok tt → scsi_offence (page_of d (asked_for p q)) r ≡ Ok tt
     clean_too clean =
         let page = page_of d (asked_for p q) in
         let read : read_of Little page r ≡ tells 0 (header (header_of d r)) = ap (λ (s : List ℕ). read_of Little s r) (sym page_asked) ∙ (agrees d r fits asc asks).0 in
@@ -86,7 +84,7 @@ module _ (d : Device) (r : Request) (asks : refused r ≡ false) (p : ℕ) (q : 
 -- ## The whole
 
 pub sends_page : SendsPage
-sends_page there es limit a d made z s ns x ran r page left p q alike few room out c is_c wide allocation free sent b count is_b enough space =
+sends_page there es limit a d made z s ns x ran r page left p q alike few room out c is_c wide allocation free sent b is_b enough space =
     let (fits, asc) = run-leaves there es limit a d made z s ns x ran in
     let asks = left-asked x r page left in
     let ok = not_four x r asks p q alike in
@@ -97,5 +95,5 @@ sends_page there es limit a d made z s ns x ran r page left p q alike few room o
     is_c ∙ ap (λ (v : List ℕ). to_scsi v r room) (left_page x r page left ∙ page_asked x r asks p q alike)
     ∙ ap (λ (v : List ℕ). outcome (scsi_offence (page_of x (asked_for p q)) r) v room) is_bytes in
     let turns = converts bytes room (whole_size x q) long wide _ (clean_too x r asks p q alike fits asc clean) c out is_turned in
-    let goes = sends bytes free (whole_size x q) long space (due_four q) ok b count sent is_b in
-    record { turns = turns.0; sends = (goes.0, goes.1); same = turns.1 ∙ sym goes.2 }
+    let goes = sends bytes free (whole_size x q) long space (due_four q) ok b sent is_b in
+    record { turns = turns.0; sends = goes.0; same = turns.1 ∙ sym goes.1 }

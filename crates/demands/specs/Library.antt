@@ -15,8 +15,8 @@ use Rattle.image.specs.Reading.{security_of, device_of}
 use Rattle.image.specs.declared.Image.{Image}
 use Rattle.offer.specs.Check.{good}
 use Rattle.offer.specs.declared.Element.{Element}
-use Rattle.paper.specs.Registers.{Registers}
 use Rattle.paper.specs.Told.{tells}
+use Rattle.paper.specs.declared.Registers.{Registers}
 use Rattle.recorder.specs.Made.{made_in}
 use Rattle.status.specs.Lent.{lent}
 use Rattle.demands.specs.Runs.{AfterRuns}

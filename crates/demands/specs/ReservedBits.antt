@@ -4,8 +4,8 @@ use Rattle.std.specs.Prelude.{ℕ, true, List, ◌≡◌, length}
 use Rattle.convert.specs.Convert as convert
 use Rattle.device.specs.Machine.{command, told}
 use Rattle.device.specs.declared.Device.{Device}
-use Rattle.paper.specs.Registers.{Registers}
 use Rattle.paper.specs.Told.{tells}
+use Rattle.paper.specs.declared.Registers.{Registers}
 use Rattle.paper.specs.declared.Security.{Security}
 use Rattle.reach.specs.Opening as reach
 use Rattle.reach.specs.declared.Turn.TheVariants.{Older}

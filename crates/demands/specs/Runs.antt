@@ -8,9 +8,9 @@ use Rattle.device.specs.declared.Device.{Device}
 use Rattle.history.specs.Runs.{Script, Ran}
 use Rattle.offer.specs.declared.Element.{Element}
 use Rattle.paper.specs.Answers.{number_of}
-use Rattle.paper.specs.Registers.{Registers}
 use Rattle.paper.specs.Told.{said}
 use Rattle.paper.specs.declared.Answer.{Answer}
+use Rattle.paper.specs.declared.Registers.{Registers}
 use Rattle.paper.specs.declared.Security.{Security}
 use Rattle.request.specs.Requests.{asked, pages_of}
 use Rattle.request.specs.declared.Request.{Request}

@@ -1,15 +1,12 @@
 -- "The reader .. gives back what was written", of the data for a SCSI host. Its last premises are what `send` promises, answered 0, and that
 -- the header was not cut.
-use Rattle.std.specs.Prelude.{ℕ, ◌<◌, ◌≤◌, List, ◌≡◌, length, get_or, take}
+use Rattle.std.specs.Prelude.{ℕ, ◌<◌, ◌≤◌, List, ◌≡◌, length, get_or, take, Some, Ok}
 use Rattle.device.specs.declared.Device.{Device}
 use Rattle.docklist.specs.Docklist.{judged}
-use Rattle.paper.specs.Answers.{number_of}
-use Rattle.paper.specs.Output.{output}
-use Rattle.paper.specs.Told.{tells, said}
-use Rattle.paper.specs.declared.Answer.{Answer}
+use Rattle.paper.specs.Output.{wrote}
+use Rattle.paper.specs.Told.{tells}
 use Rattle.query.specs.Queries.{asked, plain}
 use Rattle.query.specs.declared.Query.{Query}
-use Rattle.reader.specs.declared.Slot.TheVariants.{Holds}
 use Rattle.scsi.specs.Data.{whole_of, torn_of}
 use Rattle.scsi.specs.Judgement.{Values, reading, read_of, slot_of}
 use Rattle.status.specs.Page.{list_of}
@@ -32,13 +29,13 @@ pub record SentBack (d : Device) (q : Query) (bytes : List ℕ) : Type 0 where
   -- the reader takes it,
   pub taken : read_of Big bytes q ≡ tells 0 (reading_in d q (length bytes))
   -- has each whole element at its place,
-  pub elements : (k : ℕ) → k < whole_in d q (length bytes) → slot_of Big bytes k ≡ Holds (get_or (list_of d (asked q)) k (shown_of blank_part 0))
+  pub elements : (k : ℕ) → k < whole_in d q (length bytes) → slot_of Big bytes k ≡ Some (get_or (list_of d (asked q)) k (shown_of blank_part 0))
   -- and the listing accepts it, as the answer to its own request
   pub listed : q ≡ plain → judged bytes ≡ tells 0 (reading_in d q (length bytes))
 
 abbrev pub SendsBack : Type 0
 SendsBack =
     AfterRuns (λ x.
-    (q : Query) (allocation : ℕ) (buf out : List ℕ) (b : Answer) (count : ℕ)
-    → said b (output count out) ≡ sent x q allocation buf → number_of b ≡ 0 → 32 ≤ count
+    (q : Query) (allocation : ℕ) (buf out : List ℕ) (count : ℕ)
+    → wrote (Ok count) out ≡ sent x q allocation buf → 32 ≤ count
     → SentBack x q (take count out))

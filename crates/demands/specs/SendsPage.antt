@@ -1,14 +1,11 @@
 -- "the device's SCSI data is its ATA page converted, where neither is cut", of the code's own calls. Its premises: a page that the front call left;
 -- what `to_scsi` promises of it, and `send` of a request with the same fields; and that there is room.
-use Rattle.std.specs.Prelude.{ℕ, ◌+◌, ◌*◌, ◌≤◌, List, ◌≡◌, length, take}
+use Rattle.std.specs.Prelude.{ℕ, ◌+◌, ◌*◌, ◌≤◌, List, ◌≡◌, length, take, Result, Ok}
 use Rattle.convert.specs.Convert.{heard, to_scsi}
-use Rattle.convert.specs.declared.Converted.TheVariants as converted
-use Rattle.convert.specs.declared.Converted.{Converted}
+use Rattle.convert.specs.declared.Refusal.{Refusal}
 use Rattle.device.specs.declared.Device.{Device}
-use Rattle.paper.specs.Answers.{number_of}
-use Rattle.paper.specs.Output.{output}
-use Rattle.paper.specs.Told.{said}
-use Rattle.paper.specs.declared.Answer.{Answer}
+use Rattle.paper.specs.Output.{wrote}
+use Rattle.paper.specs.declared.Unwritten.{Unwritten}
 use Rattle.query.specs.Promises.{SameAsked}
 use Rattle.query.specs.declared.Query.{Query}
 use Rattle.request.specs.declared.Request.{Request}
@@ -20,9 +17,9 @@ abbrev pub whole_size : Device → Query → ℕ
 whole_size d q = 32 + 32 * (sent_header d q).number
 
 -- so many bytes were converted, as many were sent, and they are the same
-pub record OneData (size : ℕ) (c : Converted) (out : List ℕ) (b : Answer) (count : ℕ) (left : List ℕ) : Type 0 where
-  pub turns : c ≡ converted.Done size
-  pub sends : (number_of b ≡ 0) × (count ≡ size)
+pub record OneData (size : ℕ) (c : Result ℕ Refusal) (out : List ℕ) (b : Result ℕ Unwritten) (left : List ℕ) : Type 0 where
+  pub turns : c ≡ Ok size
+  pub sends : b ≡ Ok size
   pub same : take size out ≡ take size left
 
 abbrev pub SendsPage : Type 0
@@ -30,7 +27,7 @@ SendsPage =
     AfterRuns (λ x.
     (r : Request) (page : List ℕ) → LeftBy x r page
     → (p : ℕ) (q : Query) → SameAsked p q r → (sent_header x q).number + 1 ≤ 16 * p
-    → (room out : List ℕ) (c : Converted) → heard c out ≡ to_scsi page r room → whole_size x q ≤ length room
-    → (allocation : ℕ) (free left : List ℕ) (b : Answer) (count : ℕ) → said b (output count left) ≡ sent x q allocation free
+    → (room out : List ℕ) (c : Result ℕ Refusal) → heard c out ≡ to_scsi page r room → whole_size x q ≤ length room
+    → (allocation : ℕ) (free left : List ℕ) (b : Result ℕ Unwritten) → wrote b left ≡ sent x q allocation free
     → whole_size x q ≤ allocation → whole_size x q ≤ length free
-    → OneData (whole_size x q) c out b count left)
+    → OneData (whole_size x q) c out b left)

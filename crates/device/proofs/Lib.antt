@@ -1,3 +1,2 @@
--- What is proved of the calls; the store of a step.
-pub mod Rules
+-- The store of a step.
 pub mod Stores

@@ -3,8 +3,9 @@ use Rattle.std.specs.Prelude.{ℕ, ◌+◌, Bool, cond, not, ◌&&◌, ◌||◌,
 use Rattle.cells.specs.Cells.{is_set, busy_number, failed_number}
 use Rattle.cells.specs.declared.Mark.{Mark}
 use Rattle.open.specs.Open.{is_open}
-use Rattle.paper.specs.Registers.{Registers, low48}
+use Rattle.paper.specs.Registers.{low48}
 use Rattle.paper.specs.declared.Lba.{Lba}
+use Rattle.paper.specs.declared.Registers.{Registers}
 use Rattle.slices.specs.Lists.{one_of}
 use Rattle.device.specs.Record.{under_way}
 use Rattle.device.specs.declared.Device.{Device}

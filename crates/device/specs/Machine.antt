@@ -1,9 +1,9 @@
 -- The events that a device meets, the ruling of each, and what the device tells: what every call promises.
 use Rattle.std.specs.Prelude.{ℕ, cond, eqb}
 use Rattle.cells.specs.Rulings.{Ruled}
-use Rattle.paper.specs.Registers.{Registers}
 use Rattle.paper.specs.Told.{Told}
 use Rattle.paper.specs.declared.ElementId.{ElementId}
+use Rattle.paper.specs.declared.Registers.{Registers}
 use Rattle.paper.specs.declared.Security.{Security}
 use Rattle.removal.specs.Remove.{rule_remove}
 use Rattle.request.specs.Requests.{asked, status_number}

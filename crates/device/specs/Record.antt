@@ -1,5 +1,5 @@
 -- What is said of a device, over its table, its cells and its position; and the device after a ruling.
-use Rattle.std.specs.Prelude.{ℕ, Bool}
+use Rattle.std.specs.Prelude.{ℕ, Bool, Option}
 use Rattle.cells.specs.Cells.{make, is_full, health_in, removed_in}
 use Rattle.cells.specs.Rulings.{Ruled, quiet}
 use Rattle.cells.specs.Sights.{see_in}
@@ -24,7 +24,7 @@ abbrev pub removed_number : Device → ℕ
 removed_number d = removed_in d.table d.cells
 
 -- what the search sees
-abbrev pub see : Device → ElementId → Seen
+abbrev pub see : Device → ElementId → Option Seen
 see d id = see_in d.table d.cells id
 
 -- where winding up leads, with the noted element as it is seen now

@@ -12,7 +12,7 @@ ghost use Rattle.device.specs.Machine.{told};
 ghost use Rattle.device.specs.Record.{says, tell};
 
 use cells::{Cells, Position, Ruling, quiet};
-use paper::{Answer, ElementId, Lba, Security};
+use paper::{Answer, ElementId, Lba, Registers, Security};
 use table::Table;
 
 #[derive(Clone, Copy)]
@@ -54,43 +54,33 @@ impl Device {
     pub fn remove(self, security: Security, feature: u16, count: u16, lba: Lba) -> Stepped
         ensures { said result.answer result.device ≡ told self (machine.command security (record { code = 0x7C; feature = feature; count = count; lba = lba }) 0) }
     {
-        let r = self.rule_command(security, 0x7C, feature, count, lba, Answer::Done);
+        let registers = Registers {
+            code: 0x7C,
+            feature,
+            count,
+            lba,
+        };
+        let r = self.rule_command(security, registers, Answer::Done);
         self.carry_out(r)
     }
 
-    fn rule_command(
-        self,
-        security: Security,
-        code: u8,
-        feature: u16,
-        count: u16,
-        lba: Lba,
-        other: Answer,
-    ) -> Ruling
-        ensures { ruled result ≡ machine.rule_command self security (record { code = code; feature = feature; count = count; lba = lba }) (number_of other) }
+    fn rule_command(self, security: Security, registers: Registers, other: Answer) -> Ruling
+        ensures { ruled result ≡ machine.rule_command self security registers (number_of other) }
     {
         let at = self.position;
-        if code == 0x7C {
+        if registers.code == 0x7C {
             let table = self.table;
             let cells = self.cells;
-            return removal::rule_remove(table, cells, at, security, feature, count, lba);
+            return removal::rule_remove(table, cells, at, security, registers);
         }
         quiet(other, at)
     }
 
     // Any command: 7Ch, or another code with what it is answered.
-    pub fn command(
-        self,
-        security: Security,
-        code: u8,
-        feature: u16,
-        count: u16,
-        lba: Lba,
-        other: Answer,
-    ) -> Stepped
-        ensures { said result.answer result.device ≡ tell self (machine.rule_command self security (record { code = code; feature = feature; count = count; lba = lba }) (number_of other)) }
+    pub fn command(self, security: Security, registers: Registers, other: Answer) -> Stepped
+        ensures { said result.answer result.device ≡ tell self (machine.rule_command self security registers (number_of other)) }
     {
-        let r = self.rule_command(security, code, feature, count, lba, other);
+        let r = self.rule_command(security, registers, other);
         self.carry_out(r)
     }
 

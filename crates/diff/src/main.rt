@@ -2,68 +2,43 @@
 // names. If a file cannot be read, it says so on standard error and compares nothing.
 #![tactic(auto)]
 
-use input::Told;
-
-// A byte more than may be compared, so that a longer file is seen.
-fn page_room() -> [u8; 65537] {
-    [0u8; 65537]
-}
+use input::{PAGE_ROOM, Told};
 
 // Room for every text.
-fn text_room() -> [u8; 160000] {
-    [0u8; 160000]
-}
+const TEXT_ROOM: usize = 160000;
 
-fn compare<'a>(rt: &HostRuntime, older: &'a [u8], newer: &'a [u8]) -> Result<(), Told> {
-    let mut out = text_room();
-    let written = comparison::write(older, newer, &mut out);
-    let size = written.count;
-    input::hand_out(rt, b"diff: standard output", &out[..size])
-}
+const OUTPUT: &[u8] = b"diff: standard output";
 
 // Both files are read before either is judged, so that each that cannot be read is named.
 fn compare_files(rt: &HostRuntime, i: usize, j: usize) -> Result<(), Told> {
-    let mut older = page_room();
-    let mut newer = page_room();
+    let mut older = [0u8; PAGE_ROOM];
+    let mut newer = [0u8; PAGE_ROOM];
     let first = input::read_file(rt, i, &mut older);
     let second = input::read_file(rt, j, &mut newer);
-    let n = first?;
-    let m = second?;
-    compare(rt, &older[..n], &newer[..m])
-}
-
-fn write_names(rt: &HostRuntime, i: usize, j: usize) -> Result<(), Told> {
-    input::write_name(rt, b"diff: standard output", i, b" ")?;
-    input::write_name(rt, b"diff: standard output", j, b"\n")
+    let older = &older[..first?];
+    let newer = &newer[..second?];
+    let mut text = [0u8; TEXT_ROOM];
+    // There is room for every text.
+    let Ok(end) = comparison::write(older, newer, &mut text) else {
+        return Ok(());
+    };
+    input::hand_out(rt, OUTPUT, &text[..end])
 }
 
 fn compare_named(rt: &HostRuntime, i: usize, j: usize) -> Result<(), Told> {
-    write_names(rt, i, j)?;
+    input::write_name(rt, OUTPUT, i, b" ")?;
+    input::write_name(rt, OUTPUT, j, b"\n")?;
     compare_files(rt, i, j)
 }
 
-// A pair that cannot be compared does not keep the next from being compared.
-fn compare_pairs(rt: &HostRuntime, n: usize) -> Result<(), Told> {
-    let mut ended = Ok(());
-    for j in 2..n {
-        if j % 2 == 0 {
-            if let Err(told) = compare_named(rt, j - 1, j) {
-                ended = Err(told);
-            }
-        }
-    }
-    ended
-}
-
-fn compare_all(rt: &HostRuntime) -> Result<(), Told> {
-    let n = input::arg_count(rt);
-    if n == 3 {
-        return compare_files(rt, 1, 2);
-    }
-    compare_pairs(rt, n)
-}
-
-// The words tell of a failure; the exit status is 0 all the same.
+// A pair that cannot be compared does not keep the next from being compared: the words tell of a failure, and the exit status is 0 all the same.
 fn main(rt: HostRuntime) {
-    let _ = compare_all(&rt);
+    let arguments = input::arg_count(&rt);
+    if arguments == 3 {
+        let _ = compare_files(&rt, 1, 2);
+        return;
+    }
+    for newer in (2..arguments).step_by(2) {
+        let _ = compare_named(&rt, newer - 1, newer);
+    }
 }

@@ -4,56 +4,37 @@
 
 use input::Told;
 
-// A byte more than may be listed, so that a longer input is seen.
-fn page_room() -> [u8; 65537] {
-    [0u8; 65537]
-}
+const OUTPUT: &[u8] = b"list: standard output";
 
-// Room for every listing.
-fn text_room() -> [u8; 80000] {
-    [0u8; 80000]
-}
-
-fn list(rt: &HostRuntime, bytes: &[u8]) -> Result<(), Told> {
-    let mut out = text_room();
-    let listed = docklist::list(bytes, &mut out);
-    let size = listed.count;
-    input::hand_out(rt, b"list: standard output", &out[..size])
+fn list(rt: &HostRuntime, data: &[u8]) -> Result<(), Told> {
+    let mut text = [0u8; input::LISTING_ROOM];
+    // There is room for every listing.
+    let Ok(end) = docklist::list(data, &mut text) else {
+        return Ok(());
+    };
+    input::hand_out(rt, OUTPUT, &text[..end])
 }
 
 fn list_input(rt: &HostRuntime) -> Result<(), Told> {
-    let mut buf = page_room();
-    let n = input::read_input(rt, b"list: standard input", &mut buf)?;
-    list(rt, &buf[..n])
+    let mut data = [0u8; input::PAGE_ROOM];
+    let size = input::read_input(rt, b"list: standard input", &mut data)?;
+    list(rt, &data[..size])
 }
 
 fn list_file(rt: &HostRuntime, i: usize) -> Result<(), Told> {
-    input::write_name(rt, b"list: standard output", i, b"\n")?;
-    let mut buf = page_room();
-    let n = input::read_file(rt, i, &mut buf)?;
-    list(rt, &buf[..n])
+    input::write_name(rt, OUTPUT, i, b"\n")?;
+    let mut data = [0u8; input::PAGE_ROOM];
+    let size = input::read_file(rt, i, &mut data)?;
+    list(rt, &data[..size])
 }
 
-// A file that cannot be listed does not keep the next from being listed.
-fn list_files(rt: &HostRuntime, n: usize) -> Result<(), Told> {
-    let mut ended = Ok(());
-    for i in 1..n {
-        if let Err(told) = list_file(rt, i) {
-            ended = Err(told);
-        }
-    }
-    ended
-}
-
-fn list_all(rt: &HostRuntime) -> Result<(), Told> {
-    let n = input::arg_count(rt);
-    if n < 2 {
-        return list_input(rt);
-    }
-    list_files(rt, n)
-}
-
-// The words tell of a failure; the exit status is 0 all the same.
+// A file that cannot be listed does not keep the next from being listed: the words tell of a failure, and the exit status is 0 all the same.
 fn main(rt: HostRuntime) {
-    let _ = list_all(&rt);
+    let arguments = input::arg_count(&rt);
+    if arguments < 2 {
+        let _ = list_input(&rt);
+    }
+    for i in 1..arguments {
+        let _ = list_file(&rt, i);
+    }
 }

@@ -11,12 +11,13 @@ use Rattle.arguments.specs.declared.Send.{Send}
 use Rattle.arguments.specs.declared.ToAta.{ToAta as Asked}
 use Rattle.convert.specs.Convert as convert
 use Rattle.convert.specs.Convert.{Outcome, put, buffer_of}
-use Rattle.convert.specs.declared.Converted.TheVariants.{Done, SmallBuffer, Refused}
-use Rattle.convert.specs.declared.Converted.{Converted}
+use Rattle.std.proofs.Common.{Result, Ok, Err}
+use Rattle.convert.specs.declared.Refusal.TheVariants.{SmallBuffer, Offence}
+use Rattle.convert.specs.declared.Refusal.{Refusal}
 use Rattle.device.specs.declared.Device.{Device}
-use Rattle.paper.specs.Output.{Output, output}
-use Rattle.paper.specs.Told.{Told, tells, said}
-use Rattle.paper.specs.declared.Written.{Written}
+use Rattle.paper.specs.Output.{Output, wrote}
+use Rattle.paper.specs.Told.{Told, tells}
+use Rattle.paper.specs.declared.Unwritten.{Unwritten}
 use Rattle.request.specs.declared.Request.{Request}
 use Rattle.sender.specs.Sent.{sent}
 use Rattle.docking.specs.Dock.{answered, heard_over, heard_in, heard, kind_said, kind_of, told_over, room_of, filled, answered_by, lent_by}
@@ -29,16 +30,16 @@ pub at_kind : (call found : DockCall) (s : Said) → call ≡ found → kind_sai
 at_kind call found s e so = so ∙ sym (rw e)
 
 module _ (d : Device) (call : DockCall) (source buf x : List ℕ) where
-  pub sent-told : (s : Send) (w : Written) → call ≡ calls.Send s → said w.answer (output w.count x) ≡ sent d s.query s.allocation buf
+  pub sent-told : (s : Send) (w : Result ℕ Unwritten) → call ≡ calls.Send s → wrote w x ≡ sent d s.query s.allocation buf
       → heard_over (Sent w) x ≡ told_over d call source buf
   unfolding told_over
   sent-told s w e so = ap (λ (t : Told Output). tells t.number (put t.state)) so ∙ sym (rw e)
 
-  pub scsi_told : (q : Request) (c : Converted) → call ≡ calls.ToScsi q → convert.heard c x ≡ convert.to_scsi source q buf → heard_over (ToScsi c) x ≡ told_over d call source buf
+  pub scsi_told : (q : Request) (c : Result ℕ Refusal) → call ≡ calls.ToScsi q → convert.heard c x ≡ convert.to_scsi source q buf → heard_over (ToScsi c) x ≡ told_over d call source buf
   unfolding told_over
   scsi_told q c e so = so ∙ sym (rw e)
 
-  pub ata_told : (t : Asked) (c : Converted) → call ≡ calls.ToAta t → convert.heard c x ≡ convert.to_ata source t.query t.pages.0 buf
+  pub ata_told : (t : Asked) (c : Result ℕ Refusal) → call ≡ calls.ToAta t → convert.heard c x ≡ convert.to_ata source t.query t.pages.0 buf
       → heard_over (ToAta c) x ≡ told_over d call source buf
   unfolding told_over
   ata_told t c e so = so ∙ sym (rw e)
@@ -52,22 +53,24 @@ over_told d call source buf x y s is_x so = so ∙ ap (told_over d call source) 
 
 -- the buffer has no part in what is said, and is the one that is heard
 told_answer : (room : ℕ) (s : Said) (x : List ℕ) → heard_in room s ≡ answered (kind_said s) room (heard_over s x)
-told_answer room (Sent w) x = refl
-told_answer room (ToScsi (Done n)) x = refl
-told_answer room (ToScsi SmallBuffer) x = refl
-told_answer room (ToScsi (Refused p)) x = refl
-told_answer room (ToAta (Done n)) x = refl
-told_answer room (ToAta SmallBuffer) x = refl
-told_answer room (ToAta (Refused p)) x = refl
+told_answer room (Sent (Ok n)) x = refl
+told_answer room (Sent (Err why)) x = refl
+told_answer room (ToScsi (Ok n)) x = refl
+told_answer room (ToScsi (Err SmallBuffer)) x = refl
+told_answer room (ToScsi (Err (Offence p))) x = refl
+told_answer room (ToAta (Ok n)) x = refl
+told_answer room (ToAta (Err SmallBuffer)) x = refl
+told_answer room (ToAta (Err (Offence p))) x = refl
 
 told_buffer : (s : Said) (x : List ℕ) → buffer_of (heard_over s x).state ≡ x
-told_buffer (Sent w) x = refl
-told_buffer (ToScsi (Done n)) x = refl
-told_buffer (ToScsi SmallBuffer) x = refl
-told_buffer (ToScsi (Refused p)) x = refl
-told_buffer (ToAta (Done n)) x = refl
-told_buffer (ToAta SmallBuffer) x = refl
-told_buffer (ToAta (Refused p)) x = refl
+told_buffer (Sent (Ok n)) x = refl
+told_buffer (Sent (Err why)) x = refl
+told_buffer (ToScsi (Ok n)) x = refl
+told_buffer (ToScsi (Err SmallBuffer)) x = refl
+told_buffer (ToScsi (Err (Offence p))) x = refl
+told_buffer (ToAta (Ok n)) x = refl
+told_buffer (ToAta (Err SmallBuffer)) x = refl
+told_buffer (ToAta (Err (Offence p))) x = refl
 
 -- over the first n bytes, of which m are lent
 pub called : (d : Device) (c : Dock) (source buf : List ℕ) (n : ℕ) → n ≡ min c.length (length buf) → (s : Said) (x : List ℕ) → kind_said s ≡ kind_of c.call

@@ -6,16 +6,16 @@ ghost use Rattle.convert.specs.Convert.{heard};
 ghost use Rattle.docking.specs.Dock as paper;
 
 use arguments::{Dock, DockCall};
-use convert::Converted;
+use convert::Refusal;
 use device::Device;
-use paper::Written;
+use paper::{Answer, Unwritten};
 
 // What a call says, by its kind.
 #[derive(Clone, Copy)]
 pub enum Said {
-    Sent(Written),
-    ToScsi(Converted),
-    ToAta(Converted),
+    Sent(Result<usize, Unwritten>),
+    ToScsi(Result<usize, Refusal>),
+    ToAta(Result<usize, Refusal>),
 }
 
 // It, and how many bytes were lent.
@@ -27,24 +27,21 @@ pub struct Docked {
 
 // ---- What was said
 
-fn number_of(c: Converted) -> u8
+// No conversion of the refusal itself: what is converted has a number too.
+fn number_of(c: Result<usize, Refusal>) -> u8
     ensures { result ≡ (heard c []).number }
 {
     match c {
-        Converted::Done(_) => 0,
-        Converted::SmallBuffer => 7,
-        Converted::Refused(_) => 9,
+        Ok(_) => 0,
+        Err(Refusal::SmallBuffer) => 7,
+        Err(Refusal::Offence(_)) => 9,
     }
 }
 
-fn count_of(c: Converted) -> usize
+fn count_of(c: Result<usize, Refusal>) -> usize
     ensures { result ≡ paper.count_in (heard c []).state }
 {
-    match c {
-        Converted::Done(n) => n,
-        Converted::SmallBuffer => 0,
-        Converted::Refused(_) => 0,
-    }
+    c.unwrap_or(0)
 }
 
 impl Said {
@@ -53,10 +50,8 @@ impl Said {
         ensures { result ≡ paper.number_said self }
     {
         match self {
-            Said::Sent(w) => {
-                let answer = w.answer;
-                paper::number_of(answer)
-            }
+            Said::Sent(Ok(_)) => 0,
+            Said::Sent(Err(why)) => u8::from(Answer::from(why)),
             Said::ToScsi(c) => number_of(c),
             Said::ToAta(c) => number_of(c),
         }
@@ -67,7 +62,7 @@ impl Said {
         ensures { result ≡ paper.count_said self }
     {
         match self {
-            Said::Sent(w) => w.count,
+            Said::Sent(w) => w.unwrap_or(0),
             Said::ToScsi(c) => count_of(c),
             Said::ToAta(c) => count_of(c),
         }

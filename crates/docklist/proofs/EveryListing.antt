@@ -12,14 +12,15 @@ use Rattle.entries.specs.Entries.{lines_below}
 use Rattle.heading.proofs.Heading.{length_header, length-refused}
 use Rattle.layout.specs.Bytes.{header_in}
 use Rattle.layout.specs.declared.Header.{Header}
-use Rattle.offences.specs.declared.Offence.TheVariants.{Clean, At}
+use Rattle.std.proofs.Common.{Ok, Err, Result}
+use Rattle.std.specs.Prelude.{⊤}
 use Rattle.offences.specs.declared.Offence.{Offence}
 use Rattle.paper.specs.Told.{tells}
 use Rattle.query.specs.Queries.{plain}
 use Rattle.rows.specs.Rows.{header_line}
 use Rattle.scsi.specs.Data.{whole_of, data_offence}
 use Rattle.scsi.specs.Judgement.{Values, reading, place, answer_of, read_of}
-use Rattle.tally.proofs.Tally.{length_tally}
+use Rattle.tally.proofs.Line.{length_tally}
 use Rattle.tally.specs.Tally.{tally_line}
 use Rattle.words.specs.declared.Order.TheVariants.{Big}
 use Rattle.docklist.specs.Docklist.{judged, text_for, listing_of}
@@ -34,9 +35,9 @@ line_count (place p) = 0
 whole_there : (n size : ℕ) → size ≤ 65536 → There (whole_of n size) size
 whole_there n size most = (λ some. omega arith, omega arith)
 
-answer_there : (f : Offence) (h : Header) (n size : ℕ) (torn : Bool) → size ≤ 65536 → There (line_count (answer_of f h (whole_of n size) torn).state) size
-answer_there Clean h n size torn most = whole_there n size most
-answer_there (At p) h n size torn most = none_there size
+answer_there : (f : Result ⊤ Offence) (h : Header) (n size : ℕ) (torn : Bool) → size ≤ 65536 → There (line_count (answer_of f h (whole_of n size) torn).state) size
+answer_there (Ok _) h n size torn most = whole_there n size most
+answer_there (Err p) h n size torn most = none_there size
 
 pub there : (s : List ℕ) → There (line_count (judged s).state) (length s)
 there s = by_test (ltb 65536 (length s)) refl

@@ -2,37 +2,43 @@
 // offence.
 #![tactic(auto)]
 
-ghost use Rattle.std.specs.Prelude.{◌≡◌};
+ghost use Rattle.std.specs.Prelude.{◌≡◌, IfOk};
 ghost use Rattle.io.specs.Counts.{IsPrefixLen};
-ghost use Rattle.paper.specs.Output.{output};
-ghost use Rattle.paper.specs.Told.{said};
+ghost use Rattle.paper.specs.Output.{wrote};
 ghost use Rattle.scsi.specs.Judgement.{heard};
 ghost use Rattle.docklist.specs.Docklist.{judged, listed};
 
-use paper::Written;
-use scsi::Judgement;
+use offences::Offence;
+use paper::Unwritten;
+use scsi::Reading;
+use tally::Tally;
 use words::Order;
 
 // The reader's answer; a longer input does not reach it.
-fn judge(input: &[u8]) -> Judgement
+fn judge(input: &[u8]) -> Result<Reading, Offence>
     ensures { heard result ≡ judged input.now }
 {
     if 65536 < input.len() {
-        return Judgement::Refused(65536);
+        return Err(Offence(65536));
     }
     scsi::read(input, query::plain())
 }
 
 // The whole listing, or nothing where it does not fit.
-pub fn list(input: &[u8], out: &mut [u8]) -> Written
-    ensures out_after { said result.answer (output result.count out.new) ≡ listed input.now out.old }
-    ensures prefix_len { IsPrefixLen result.count out.new }
+pub fn list(input: &[u8], out: &mut [u8]) -> Result<usize, Unwritten>
+    ensures out_after { wrote result out.new ≡ listed input.now out.old }
+    ensures prefix_len { IfOk result (λ size. IsPrefixLen size out.new) }
 {
     match judge(input) {
-        Judgement::Accepted(r) => {
+        Ok(r) => {
             let h = r.header;
-            sheet::write(input, Order::Big, h, r.whole, h.number, r.torn, out)
+            let tally = Tally {
+                whole: r.whole,
+                number: h.number,
+                torn: r.torn,
+            };
+            sheet::write(input, Order::Big, h, tally, out)
         }
-        Judgement::Refused(place) => sheet::refuse(place, out),
+        Err(offence) => sheet::refuse(offence.0, out),
     }
 }

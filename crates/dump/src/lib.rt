@@ -32,11 +32,9 @@ fn row(bytes: &[u8]) -> [u8; 65]
     ensures { result ≡ row_line (take 32 bytes.now) }
 {
     let mut line = [b'\n'; 65];
-    let mut k: usize = 0;
-    while k < 32 {
+    for k in 0..32 {
         let digits = pair(bytes[k]);
         slices::put(&mut line, 2 * k, &digits);
-        k += 1;
     }
     line
 }
@@ -46,12 +44,10 @@ fn is_zero(bytes: &[u8]) -> bool
     requires { 32 ≤ length bytes.now }
     ensures { result ≡ is_zero (take 32 bytes.now) }
 {
-    let mut k: usize = 0;
-    while k < 32 {
+    for k in 0..32 {
         if bytes[k] != 0 {
             return false;
         }
-        k += 1;
     }
     true
 }
@@ -61,14 +57,12 @@ fn shown_rows(page: &[u8], n: usize) -> usize
     requires { 32 * n ≤ length page.now }
     ensures { (result ≡ rows_shown page.now n) × (result ≤ n) }
 {
-    let mut k = n;
-    while 0 < k {
-        if !is_zero(slices::tail(page, 32 * (k - 1))) {
-            return k;
+    for k in (0..n).rev() {
+        if !is_zero(slices::tail(page, 32 * k)) {
+            return k + 1;
         }
-        k -= 1;
     }
-    k
+    0
 }
 
 fn put_rows(out: &mut [u8], at: usize, page: &[u8], n: usize) -> usize
@@ -76,11 +70,9 @@ fn put_rows(out: &mut [u8], at: usize, page: &[u8], n: usize) -> usize
     ensures { writing·private.Puts out.old at (rows_below page.now n) out.new result }
 {
     let mut end = at;
-    let mut k: usize = 0;
-    while k < n {
+    for k in 0..n {
         let line = row(slices::tail(page, 32 * k));
         end = writing::word(out, end, &line);
-        k += 1;
     }
     end
 }
@@ -154,14 +146,12 @@ pub fn put_data(out: &mut [u8], at: usize, bytes: &[u8]) -> usize
 fn first_touched(lent: &[u8], from: usize) -> usize
     ensures { result ≡ first_touched from (drop from lent.now) }
 {
-    let mut i = from;
-    while i < lent.len() {
+    for i in from..lent.len() {
         if lent[i] != 0xA5 {
             return i;
         }
-        i += 1;
     }
-    i
+    from.max(lent.len())
 }
 
 // The line of this byte, if there is one.

@@ -6,13 +6,10 @@ use native.Mathlib.Omega.{arith}
 use lib.ListN.{length}
 use Rattle.paper.specs.declared.ElementId.{ElementId}
 use Rattle.reach.specs.Opening.{Values, bound, turn, heard}
-use Rattle.reach.specs.declared.Bound.TheVariants.{Whole, UpTo}
-use Rattle.reach.specs.declared.Bound.{Bound}
-use Rattle.reach.specs.declared.Opening.TheVariants.{Accepted, Refused}
-use Rattle.reach.specs.declared.Opening.{Opening}
 use Rattle.reach.specs.declared.Turn.TheVariants.{Older, Newer}
 use Rattle.reach.specs.declared.Turn.{Turn}
 use Rattle.slices.specs.Lists.{stored, ended}
+use Rattle.std.specs.Prelude.{Option, Some, None, Result, Ok, Err}
 use Rattle.text.specs.Digits.{digits}
 use Rattle.text.specs.Text.{ascii}
 use Rattle.writing.proofs.Puts.{puts_none, puts_one, puts_same, puts_more}
@@ -24,9 +21,9 @@ use Rattle.ending.specs.Ending.{bound_line, reach_line, refused_line, last_line}
 pub length_last : (v : Values) → length (last_line v) ≤ 24
 length_last (bound b) = length_reach b
   where
-    length_reach : (b : Bound) → length (reach_line b) ≤ 24
-    length_reach Whole = omega arith
-    length_reach (UpTo id) = omega arith
+    length_reach : (b : Option ElementId) → length (reach_line b) ≤ 24
+    length_reach None = omega arith
+    length_reach (Some id) = omega arith
 length_last (turn w) = length-refused w
   where
     length-refused : (w : Turn) → length (refused_line w) ≤ 24
@@ -39,12 +36,8 @@ width_turn : (w : Turn) → 16 ≡ length (refused_line w)
 width_turn Older = refl
 width_turn Newer = refl
 
-module _ (opening : Opening) where
-  pub width_accepted : (b : Bound) → opening ≡ Accepted b → (n : ℕ) → n ≡ length (reach_line b) → n ≡ length (last_line (heard opening).state)
-  width_accepted b e n so = so ∙ rw e
-
-  pub width_refused : (w : Turn) → opening ≡ Refused w → 16 ≡ length (last_line (heard opening).state)
-  width_refused w e = rw e (width_turn w)
+pub width_refused : (opening : Result (Option ElementId) Turn) (w : Turn) → opening ≡ Err w → 16 ≡ length (last_line (heard opening).state)
+width_refused opening w e = rw e (width_turn w)
 
 pub bound_puts : (id : ElementId) (d x y z i : List ℕ) (at m n r : ℕ) → i ≡ digits 16 8 id.0
     → x ≡ stored d at (ascii "compared up to ") → m ≡ ended d at (ascii "compared up to ") → y ≡ stored x m i → n ≡ ended x m i
@@ -63,15 +56,6 @@ module _ (d x : List ℕ) (at r : ℕ) where
     pub refused_newer : w ≡ Newer → x ≡ stored d at (ascii "refused 9 newer\n") → r ≡ ended d at (ascii "refused 9 newer\n") → Puts d at (refused_line w) x r
     refused_newer e is_x is_r = rw e (puts_one d x at r (ascii "refused 9 newer\n") is_x is_r)
 
-  pub reach_cut : (b : Bound) (id : ElementId) → b ≡ UpTo id → Puts d at (bound_line id.0) x r → Puts d at (reach_line b) x r
-  reach_cut b id e so = rw e so
-
-  module _ (opening : Opening) where
-    pub last_accepted : (b : Bound) → opening ≡ Accepted b → Puts d at (reach_line b) x r → Puts d at (last_line (heard opening).state) x r
-    last_accepted b e so = rw e so
-
-    pub last_refused : (w : Turn) → opening ≡ Refused w → Puts d at (refused_line w) x r → Puts d at (last_line (heard opening).state) x r
-    last_refused w e so = rw e so
-
-pub reach_whole : (b : Bound) → b ≡ Whole → (d : List ℕ) (at : ℕ) → Puts d at (reach_line b) d at
-reach_whole b e d at = rw e (puts_none d at)
+-- of whole pages there is no last line
+pub none_puts : (opening : Result (Option ElementId) Turn) → opening ≡ Ok None → (d : List ℕ) (at : ℕ) → Puts d at (last_line (heard opening).state) d at
+none_puts opening e d at = rw e (puts_none d at)

@@ -1,8 +1,7 @@
 -- The line that a comparison ends with, as docs/changes/2026-01 asks for it.
-use Rattle.std.specs.Prelude.{ℕ, List, [], ◌++◌}
+use Rattle.std.specs.Prelude.{ℕ, List, [], ◌++◌, Option, Some, None}
+use Rattle.paper.specs.declared.ElementId.{ElementId}
 use Rattle.reach.specs.Opening.{Values, bound, turn}
-use Rattle.reach.specs.declared.Bound.TheVariants.{Whole, UpTo}
-use Rattle.reach.specs.declared.Bound.{Bound}
 use Rattle.reach.specs.declared.Turn.TheVariants.{Older, Newer}
 use Rattle.reach.specs.declared.Turn.{Turn}
 use Rattle.text.specs.Digits.{digits}
@@ -12,9 +11,9 @@ use Rattle.text.specs.Text.{ascii}
 abbrev pub bound_line : ℕ → List ℕ
 bound_line id = ascii "compared up to " ++ digits 16 8 id ++ ascii "\n"
 
-abbrev pub reach_line : Bound → List ℕ
-reach_line Whole = []
-reach_line (UpTo id) = bound_line id.0
+abbrev pub reach_line : Option ElementId → List ℕ
+reach_line None = []
+reach_line (Some id) = bound_line id.0
 
 -- "`refused 9 older` or `refused 9 newer`"
 abbrev pub refused_line : Turn → List ℕ

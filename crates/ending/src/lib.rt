@@ -5,27 +5,19 @@ ghost use Rattle.std.specs.Prelude.{◌≡◌, length};
 ghost use Rattle.reach.specs.Opening.{heard};
 ghost use Rattle.slices.specs.Lists.{stored, ended};
 ghost use Rattle.writing.specs.Private as writing·private;
-ghost use Rattle.ending.specs.Ending.{bound_line, reach_line, refused_line, last_line};
+ghost use Rattle.ending.specs.Ending.{bound_line, refused_line, last_line};
 
 use paper::ElementId;
-use reach::{Bound, Opening, Turn};
-
-fn reach_width(bound: Bound) -> usize
-    ensures { result ≡ length (reach_line bound) }
-{
-    match bound {
-        Bound::Whole => 0,
-        Bound::UpTo(_) => 24,
-    }
-}
+use reach::Turn;
 
 // How long the last line is.
-pub fn last_width(opening: Opening) -> usize
+pub fn last_width(opening: Result<Option<ElementId>, Turn>) -> usize
     ensures { result ≡ length (last_line (heard opening).state) }
 {
     match opening {
-        Opening::Accepted(bound) => reach_width(bound),
-        Opening::Refused(_) => 16,
+        Ok(None) => 0,
+        Ok(Some(_)) => 24,
+        Err(_) => 16,
     }
 }
 
@@ -38,15 +30,7 @@ fn put_bound(out: &mut [u8], at: usize, id: ElementId) -> usize
     writing::word(out, b, b"\n")
 }
 
-fn put_reach(out: &mut [u8], at: usize, bound: Bound) -> usize
-    ensures { writing·private.Puts out.old at (reach_line bound) out.new result }
-{
-    match bound {
-        Bound::Whole => at,
-        Bound::UpTo(id) => put_bound(out, at, id),
-    }
-}
-
+// Apart from `put_opening`: the proof does not close over a turn in the pattern of a refusal.
 fn put_refused(out: &mut [u8], at: usize, turn: Turn) -> usize
     ensures { writing·private.Puts out.old at (refused_line turn) out.new result }
 {
@@ -56,17 +40,18 @@ fn put_refused(out: &mut [u8], at: usize, turn: Turn) -> usize
     }
 }
 
-fn put_opening(out: &mut [u8], at: usize, opening: Opening) -> usize
+fn put_opening(out: &mut [u8], at: usize, opening: Result<Option<ElementId>, Turn>) -> usize
     ensures { writing·private.Puts out.old at (last_line (heard opening).state) out.new result }
 {
     match opening {
-        Opening::Accepted(bound) => put_reach(out, at, bound),
-        Opening::Refused(turn) => put_refused(out, at, turn),
+        Ok(None) => at,
+        Ok(Some(id)) => put_bound(out, at, id),
+        Err(turn) => put_refused(out, at, turn),
     }
 }
 
 // Stores the last line from a place on and answers where it ends; nothing, if it does not fit.
-pub fn put_last(opening: Opening, out: &mut [u8], at: usize) -> usize
+pub fn put_last(opening: Result<Option<ElementId>, Turn>, out: &mut [u8], at: usize) -> usize
     ensures out_after { out.new ≡ stored out.old at (last_line (heard opening).state) }
     ensures value { result ≡ ended out.old at (last_line (heard opening).state) }
 {

@@ -17,11 +17,9 @@ pub fn width(bytes: &[u8], count: u32, o: Order) -> usize
         return 0;
     }
     let mut size: usize = 0;
-    let mut k: u32 = 0;
-    while k < count {
+    for k in 0..count {
         let d = offences::descriptor_at(bytes, k, o);
         size += rows::descriptor_width(d);
-        k += 1;
     }
     size
 }
@@ -36,7 +34,7 @@ fn lines_fit(bytes: &[u8], count: u32, o: Order, at: usize, room: usize) -> bool
     slices::does_fit(width(bytes, count, o), at, room)
 }
 
-// That all are there is asked once, so that no byte is tested for.
+// That all are there is asked once, so that no byte is tested for. Counted by places: by numbers, in a `for`, each line takes five instructions more.
 fn put_each(bytes: &[u8], count: u32, o: Order, out: &mut [u8], from: usize) -> usize
     ensures { writing·private.Puts out.old from (lines_of o bytes.now count) out.new result }
 {

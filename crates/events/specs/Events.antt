@@ -6,14 +6,10 @@ use Rattle.arguments.specs.declared.Command.{Command}
 use Rattle.arguments.specs.declared.Grade.{Grade}
 use Rattle.device.specs.Machine as machine
 use Rattle.device.specs.Machine.{Event}
-use Rattle.paper.specs.Registers.{Registers}
 
 -- "`command STATE CODE FEATURE COUNT LBA LENGTH`: the front call", over a lent buffer of `room` bytes
-abbrev pub registers_of : Command → Registers
-registers_of c = record { code = c.code; feature = c.feature; count = c.count; lba = c.lba }
-
 abbrev pub event_of : Command → ℕ → Event
-event_of c room = machine.command c.security (registers_of c) room
+event_of c room = machine.command c.security c.registers room
 
 -- "`step`, `error`, `cut`, `comreset`, `hardreset`, `softreset`"
 abbrev pub bare_event : Bare → Event

@@ -13,9 +13,7 @@ use device::{Device, Stepped};
 pub fn commanded(d: Device, c: Command, room: usize) -> Stepped
     ensures { said result.answer result.device ≡ told d (event_of c room) }
 {
-    let security = c.security;
-    let lba = c.lba;
-    commands::command(d, security, c.code, c.feature, c.count, lba, room)
+    commands::command(d, c.security, c.registers, room)
 }
 
 pub fn bare(d: Device, b: Bare) -> Stepped

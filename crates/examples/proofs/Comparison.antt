@@ -14,8 +14,8 @@ use Rattle.ending.specs.Ending.{last_line}
 use Rattle.parts.specs.Parts.{descriptor_part}
 use Rattle.reach.specs.Opening.{Values, bound, accepted, judged}
 use Rattle.reach.specs.Pages.{count_of, element_at, reach_of, bound_of}
-use Rattle.reach.specs.declared.Bound.TheVariants.{Whole, UpTo}
 use Rattle.request.specs.Requests.{refused, takes_health, request_for}
+use Rattle.std.specs.Prelude.{Some, None}
 use Rattle.text.specs.Text.{ascii}
 
 -- a page of 512 bytes
@@ -40,11 +40,11 @@ nothing_taken : accepted [] (request_for 1) ≡ false
 unfolding refused accepted
 nothing_taken = refl
 
-both_taken : (judged s t).state ≡ bound Whole
+both_taken : (judged s t).state ≡ bound None
 unfolding reach_of bound_of judged
 both_taken = rw (older_taken, newer_taken)
 
-same_taken : (judged t t).state ≡ bound Whole
+same_taken : (judged t t).state ≡ bound None
 unfolding reach_of bound_of judged
 same_taken = rw newer_taken
 
@@ -56,7 +56,7 @@ pub texts : (comparison_of s t ≡ ascii "- 00000001 01 20 500\n+ 00000004 01 00
 unfolding count_of element_at reach_of bound_of descriptor_part key_at agree_at step_at past next_to next_of walk walk_from handed older_of line_of lines_from
 texts = (by_walk s t ∙ ap (text s t) both_taken ∙ refl, by_walk t t ∙ ap (text t t) same_taken ∙ refl)
 
-pub cut : last_line (bound (UpTo (record { 0 = 15 }))) ≡ ascii "compared up to 0000000F\n"
+pub cut : last_line (bound (Some (record { 0 = 15 }))) ≡ ascii "compared up to 0000000F\n"
 cut = refl
 
 pub refused_older : comparison_of [] t ≡ ascii "refused 9 older\n"

@@ -8,6 +8,7 @@ use lib.Dec.{eqb}
 use lib.ListN.{length, get_or}
 use lib.Seq.{take_all}
 use borrow.Author.Tests.{eq-eqb}
+use Rattle.std.proofs.Common.{Ok}
 use Rattle.agreement.proofs.Agreement.{none, header_here, descriptor_here, agrees}
 use Rattle.agreement.proofs.Sent.{length_data}
 use Rattle.conduct.specs.Fits.{Fits}
@@ -20,7 +21,6 @@ use Rattle.layout.specs.declared.Descriptor.{Descriptor}
 use Rattle.layout.specs.declared.Header.{Header}
 use Rattle.offences.specs.Checks.{descriptor_at}
 use Rattle.offences.specs.First.{unless}
-use Rattle.offences.specs.declared.Offence.TheVariants.{Clean}
 use Rattle.query.proofs.Queries.{not_due, not-refused}
 use Rattle.query.specs.Queries.{due_four, asked_for, asked}
 use Rattle.query.specs.declared.Query.{Query}
@@ -85,7 +85,7 @@ module _ (d : Device) (q : Query) (p : ℕ) (fits : Fits d) (asc : ascending 0 (
       ∙ (λ i. laid Big (header i) (list_in Little page (header i).number))
       ∙ ap (laid Big (sent_header d q)) one-list_in
 
-  clean : (unless (eqb (header_in Little page).returned (header_in Little page).number) 4 ≡ Clean)
+  clean : (unless (eqb (header_in Little page).returned (header_in Little page).number) 4 ≡ Ok tt)
   clean = ap (λ (b : Bool). unless b 4) (eq-eqb _ _ (ap (λ (h : Header). h.returned) header ∙ sym (ap (λ (h : Header). h.number) header)))
 
 pub sends_its_page : SendsItsPage

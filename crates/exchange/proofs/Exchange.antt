@@ -9,13 +9,14 @@ use lib.Dec.{eqb, ltb}
 use lib.ListN.{length, get_or, replicate, length-append, length-replicate, get_or-replicate}
 use lib.Seq.{get_or-append-add}
 use borrow.Author.Tests.{eqb-true, le-ltb, le-leb, eq-eqb}
+use Rattle.std.proofs.Common.{None, Some, Ok, Result}
+use Rattle.std.specs.Prelude.{⊤}
 use Rattle.convert.proofs.Outcomes.{unless_clean, or_clean, fits_clean, turned-laid, length-turned}
 use Rattle.convert.specs.Convert.{list_in, turned, paged, scsi_offence, fits_pages, ata_offence}
 use Rattle.layout.specs.Bytes.{header_in, laid, returned_of}
 use Rattle.layout.specs.declared.Header.{Header}
 use Rattle.offences.specs.Checks.{base_of, descriptor_at, last_before}
 use Rattle.offences.specs.First.{unless, ◌or_else◌}
-use Rattle.offences.specs.declared.Offence.TheVariants.{Clean}
 use Rattle.offences.specs.declared.Offence.{Offence}
 use Rattle.paper.specs.Told.{tells}
 use Rattle.query.proofs.Queries.{filter_asked, report_asked, not-refused, start_asked}
@@ -27,10 +28,9 @@ use Rattle.reader.proofs.Taken.{Listed}
 use Rattle.reader.specs.Judgement as page
 use Rattle.reader.specs.Layout.{Asked}
 use Rattle.reader.specs.Page.{page_offence}
-use Rattle.reader.specs.declared.Slot.TheVariants.{Outside, Holds}
 use Rattle.request.specs.Requests.{filter_of, report_type_of, pages_of, start_of}
 use Rattle.request.specs.declared.Request.{Request}
-use Rattle.scsi.proofs.Data.{slots_alike}
+use Rattle.scsi.proofs.Slots.{slots_alike}
 use Rattle.scsi.proofs.LayoutTheorem as scsi·theorem
 use Rattle.scsi.proofs.Taken as scsi·taken
 use Rattle.scsi.specs.Data.{whole_of, torn_of, data_offence}
@@ -41,21 +41,21 @@ use Rattle.exchange.proofs.Kept.{FitsIn, bytes_fit, listed_as, header_kept, desc
 
 -- ## A page as data
 
-module _ (s : List ℕ) (q : Request) (r : Query) (n : ℕ) (is_n : (header_in Little s).number ≡ n) (fits : FitsIn Little s n) (alike : AsksAs q r) (clean : scsi_offence s q ≡ Clean) where
+module _ (s : List ℕ) (q : Request) (r : Query) (n : ℕ) (is_n : (header_in Little s).number ≡ n) (fits : FitsIn Little s n) (alike : AsksAs q r) (clean : scsi_offence s q ≡ Ok tt) where
   abbrev data_of : List ℕ
   data_of = turned Little Big s
 
   data_laid : laid Big (header_in Little s) (list_in Little s n) ++ [] ≡ data_of
   data_laid = append-nil _ ∙ ap (λ (m : ℕ). laid Big (header_in Little s) (list_in Little s m)) (sym is_n) ∙ turned-laid Little Big s
 
-  both : (page_offence Little s q ≡ Clean) × (unless (eqb (header_in Little s).returned (header_in Little s).number) 4 ≡ Clean)
+  both : (page_offence Little s q ≡ Ok tt) × (unless (eqb (header_in Little s).returned (header_in Little s).number) 4 ≡ Ok tt)
   both = or_clean (page_offence Little s q) _ clean
 
   returned : (header_in Little s).returned ≡ n
   returned = eqb-true _ _ (unless_clean _ 4 both.1) ∙ is_n
 
   was : page·taken.Taken Little s q
-  was = page·taken.taken Little s q (ap (λ (f : Offence). (page.answer_of f (header_in Little s)).number) both.0)
+  was = page·taken.taken Little s q (ap (λ (f : Result ⊤ Offence). (page.answer_of f (header_in Little s)).number) both.0)
 
   long : length data_of ≡ base_of n
   long = length-turned Little Big s ∙ ap base_of is_n
@@ -110,13 +110,13 @@ module _ (s : List ℕ) (q : Request) (r : Query) (n : ℕ) (is_n : (header_in L
         elements = λ k.
             slots_alike (whole_of (header_in Big data_of).number (length data_of)) n (ap (λ (m : ℕ). whole_of m (length data_of)) data_number ∙ whole)
             (descriptor_at Big data_of k) (descriptor_at Little s k) k (data_descriptor k)
-            ∙ ap (λ (m : ℕ). cond (ltb k m) (Holds (descriptor_at Little s k)) Outside) (sym returned);
+            ∙ ap (λ (m : ℕ). cond (ltb k m) (Some (descriptor_at Little s k)) None) (sym returned);
       }
 
   data_fits : FitsIn Big data_of n
   data_fits = subst (λ (t : List ℕ). FitsIn Big t n) data_laid (fits_kept Little Big s n fits [])
 
-  data_clean : data_offence Big data_of r ≡ Clean
+  data_clean : data_offence Big data_of r ≡ Ok tt
   data_clean = (scsi·theorem.heard_clean Big data_of r _ _ _ (sym as_data.taken)).0
 
 pub page_to_data : PageToData
@@ -124,7 +124,7 @@ page_to_data s q r bytes alike clean = as_data s q r (header_in Little s).number
 
 -- ## Data as a page
 
-module _ (s : List ℕ) (r : Query) (p n : ℕ) (is_n : (header_in Big s).number ≡ n) (fits : FitsIn Big s n) (clean : ata_offence s r p ≡ Clean) where
+module _ (s : List ℕ) (r : Query) (p n : ℕ) (is_n : (header_in Big s).number ≡ n) (fits : FitsIn Big s n) (clean : ata_offence s r p ≡ Ok tt) where
   abbrev page_of : List ℕ
   page_of = paged p s
 
@@ -144,7 +144,7 @@ module _ (s : List ℕ) (r : Query) (p n : ℕ) (is_n : (header_in Big s).number
   few = subst (λ (m : ℕ). m + 1 ≤ 16 * p) is_n (fits_clean s r p clean).2
 
   data_was : scsi·taken.Taken Big s r
-  data_was = scsi·taken.taken Big s r (ap (λ (f : Offence). (scsi.answer_of f (header_in Big s) (whole_of (header_in Big s).number (length s)) (torn_of (header_in Big s).number (length s))).number) (fits_clean s r p clean).0)
+  data_was = scsi·taken.taken Big s r (ap (λ (f : Result ⊤ Offence). (scsi.answer_of f (header_in Big s) (whole_of (header_in Big s).number (length s)) (torn_of (header_in Big s).number (length s))).number) (fits_clean s r p clean).0)
 
   front_long : length (laid Little (header_in Big s) (list_in Big s n)) ≡ base_of n
   front_long = ap (λ (m : ℕ). length (laid Little (header_in Big s) (list_in Big s m))) (sym is_n) ∙ ap length (turned-laid Big Little s) ∙ length-turned Big Little s ∙ ap base_of is_n
@@ -198,7 +198,7 @@ module _ (s : List ℕ) (r : Query) (p n : ℕ) (is_n : (header_in Big s).number
           taken = page·taken.takes Little page_of q page_keeps ∙ ap (λ (h : Header). tells 0 (page.header h)) page_header;
           elements = λ k.
               slots_alike (header_in Little page_of).returned n page_returned (descriptor_at Little page_of k) (descriptor_at Big s k) k (page_descriptor k)
-              ∙ ap (λ (m : ℕ). cond (ltb k m) (Holds (descriptor_at Big s k)) Outside) (sym (ap (λ (m : ℕ). whole_of m (length s)) is_n ∙ data_whole));
+              ∙ ap (λ (m : ℕ). cond (ltb k m) (Some (descriptor_at Big s k)) None) (sym (ap (λ (m : ℕ). whole_of m (length s)) is_n ∙ data_whole));
         }
 
   own_page : PageHolds page_of (asked_for p r) (header_in Big s) (scsi.slot_of Big s)
@@ -206,7 +206,7 @@ module _ (s : List ℕ) (r : Query) (p n : ℕ) (is_n : (header_in Big s).number
       as_page (asked_for p r) refl (page·theorem.asked_to (asked_for p r) (not-refused p r data_was.fields.0 data_was.fields.1 (omega (arith, few))))
       (λ k l. listed_as (asked r) (asked_for p r) refl refl (omega arith) _ _ (data_was.list k (rw (is_n, data_whole) l)))
 
-  page_clean : page_offence Little page_of (asked_for p r) ≡ Clean
+  page_clean : page_offence Little page_of (asked_for p r) ≡ Ok tt
   page_clean = (page·theorem.heard_clean Little page_of (asked_for p r) _ (sym own_page.taken)).0
 
 pub data_to_page : DataToPage
@@ -214,7 +214,7 @@ data_to_page s r p bytes clean = own_page s r p (header_in Big s).number refl (b
 
 -- ## There and back
 
-pub or_both : (a b : Offence) → a ≡ Clean → b ≡ Clean → (a or_else b) ≡ Clean
+pub or_both : (a b : Result ⊤ Offence) → a ≡ Ok tt → b ≡ Ok tt → (a or_else b) ≡ Ok tt
 or_both a b x y = rw (x, y)
 
 pub there_and_back : ThereAndBack
@@ -227,7 +227,7 @@ there_and_back s q r p bytes alike clean few =
     let whole_t = whole s q r n refl fits alike clean in
     let fitting : fits_pages (whole_of (header_in Big t).number (length t)) (header_in Big t).number p ≡ true =
     rw (number, eq-eqb _ _ whole_t, le-leb (n + 1) (16 * p) few) in
-    let ok : ata_offence t r p ≡ Clean = or_both _ _ (data_clean s q r n refl fits alike clean) (ap (λ (b : Bool). unless b 4) fitting) in
+    let ok : ata_offence t r p ≡ Ok tt = or_both _ _ (data_clean s q r n refl fits alike clean) (ap (λ (b : Bool). unless b 4) fitting) in
     let asks = (was s q r n refl fits alike clean).asked in
     let back =
     as_page t r p n number (data_fits s q r n refl fits alike clean) ok (with_pages p q) refl (asks.0, asks.1, omega (arith, few), asks.3)
@@ -254,7 +254,7 @@ back_and_there s r p bytes low clean =
     let there = own_page s r p n refl fits clean in
     let number = page_number s r p n refl fits clean in
     let same : eqb (header_in Little t).returned (header_in Little t).number ≡ true = eq-eqb _ _ (page_returned s r p n refl fits clean ∙ sym number) in
-    let ok : scsi_offence t (asked_for p r) ≡ Clean = or_both _ _ (page_clean s r p n refl fits clean) (ap (λ (b : Bool). unless b 4) same) in
+    let ok : scsi_offence t (asked_for p r) ≡ Ok tt = or_both _ _ (page_clean s r p n refl fits clean) (ap (λ (b : Bool). unless b 4) same) in
     let back = as_data t (asked_for p r) r n number (page_fits s r p n refl fits clean) alike ok in (
       ok,
       record {

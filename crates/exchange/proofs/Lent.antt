@@ -8,18 +8,17 @@ use native.Mathlib.Omega.{arith}
 use lib.Dec.{ltb}
 use lib.ListN.{length, take, drop}
 use lib.Seq.{take_at}
+use Rattle.std.proofs.Common.{Result, Ok, Err}
+use Rattle.std.specs.Prelude.{⊤}
 use Rattle.convert.proofs.Outcomes.{length-turned, one-outcome, page_bytes}
 use Rattle.convert.specs.Convert.{turned, paged, scsi_offence, ata_offence, Outcome, put, place, heard, outcome}
-use Rattle.convert.specs.declared.Converted.TheVariants.{Done}
-use Rattle.convert.specs.declared.Converted.{Converted}
+use Rattle.convert.specs.declared.Refusal.{Refusal}
 use Rattle.layout.specs.Bytes.{header_in}
 use Rattle.offences.specs.Checks.{base_of}
-use Rattle.offences.specs.declared.Offence.TheVariants.{Clean, At}
 use Rattle.offences.specs.declared.Offence.{Offence}
 use Rattle.paper.proofs.Output.{written_done}
-use Rattle.paper.specs.Output.{Output, output, written}
-use Rattle.paper.specs.Told.{Told, tells, said}
-use Rattle.paper.specs.declared.Answer.TheVariants as answers
+use Rattle.paper.specs.Output.{Output, output, wrote, written}
+use Rattle.paper.specs.Told.{Told, tells}
 use Rattle.query.specs.Queries.{asked_for}
 use Rattle.reader.specs.Judgement as page
 use Rattle.scsi.specs.Judgement as scsi
@@ -40,14 +39,14 @@ module _ (bytes buf : List ℕ) where
     front = take_at bytes (drop (length bytes) buf) size (sym long)
 
     module _ (room : size ≤ length buf) where
-      pub fits_in : said answers.Done (output size laid-front) ≡ written bytes buf
+      pub fits_in : wrote (Ok size) laid-front ≡ written bytes buf
       fits_in = written_done bytes buf size long room laid-front refl
 
-      pub converts : (f : Offence) → f ≡ Clean → (c : Converted) (out : List ℕ) → heard c out ≡ outcome f bytes buf → (c ≡ Done size) × (take size out ≡ bytes)
+      pub converts : (f : Result ⊤ Offence) → f ≡ Ok tt → (c : Result ℕ Refusal) (out : List ℕ) → heard c out ≡ outcome f bytes buf → (c ≡ Ok size) × (take size out ≡ bytes)
       converts f clean c out so =
-          let here : heard (Done size) laid-front ≡ outcome f bytes buf =
-          (λ i. tells (fits_in i).number (put (fits_in i).state)) ∙ ap (λ (x : Offence). outcome x bytes buf) (sym clean) in
-          let one = one-outcome _ c (Done size) out laid-front so here in
+          let here : heard (Ok size) laid-front ≡ outcome f bytes buf =
+          (λ i. tells (fits_in i).number (put (fits_in i).state)) ∙ ap (λ (x : Result ⊤ Offence). outcome x bytes buf) (sym clean) in
+          let one = one-outcome _ c (Ok size) out laid-front so here in
           (one.0, ap (take size) one.1 ∙ front)
 
 -- ## What was answered 0
@@ -67,9 +66,9 @@ module _ (bytes buf out : List ℕ) (size : ℕ) where
       let same : output size out ≡ output (length bytes) (laid-front bytes buf) = ap (λ (t : Told Outcome). put_in t.state) e in
       (λ i. take (same i).count (same i).buffer) ∙ front bytes buf (length bytes) refl
 
-  converted : (f : Offence) → heard (Done size) out ≡ outcome f bytes buf → (f ≡ Clean) × (take size out ≡ bytes)
-  converted (At p) so = let no : ◌≡◌ {A = ℕ} 0 9 = ap (λ (t : Told Outcome). t.number) so in absurd (omega arith)
-  converted Clean so = (refl, by_test (ltb (length buf) (length bytes)) so)
+  converted : (f : Result ⊤ Offence) → heard (Ok size) out ≡ outcome f bytes buf → (f ≡ Ok tt) × (take size out ≡ bytes)
+  converted (Err p) so = let no : ◌≡◌ {A = ℕ} 0 9 = ap (λ (t : Told Outcome). t.number) so in absurd (omega arith)
+  converted (Ok _) so = (refl, by_test (ltb (length buf) (length bytes)) so)
 
 -- ## There and back
 

@@ -1,18 +1,17 @@
 -- Request 2026-03: "Converting there and back yields the same elements and header numbers". Each is a statement; proofs/ has the proof under
 -- the same name in lower case.
-use Rattle.std.specs.Prelude.{ℕ, ◌+◌, ◌*◌, ◌^◌, ◌≤◌, ◌<◌, true, false, List, ◌≡◌, take}
+use Rattle.std.specs.Prelude.{ℕ, ◌+◌, ◌*◌, ◌^◌, ◌≤◌, ◌<◌, true, false, List, ◌≡◌, take, Option, Ok}
 use Rattle.conduct.specs.Fits.{Fits}
 use Rattle.convert.specs.Convert.{turned, paged, scsi_offence, ata_offence}
 use Rattle.device.specs.declared.Device.{Device}
 use Rattle.layout.specs.Bytes.{header_in}
+use Rattle.layout.specs.declared.Descriptor.{Descriptor}
 use Rattle.layout.specs.declared.Header.{Header}
 use Rattle.offences.specs.Checks.{base_of}
-use Rattle.offences.specs.declared.Offence.TheVariants.{Clean}
 use Rattle.paper.specs.Told.{tells}
 use Rattle.query.specs.Queries.{due_four, asked_for}
 use Rattle.query.specs.declared.Query.{Query}
 use Rattle.reader.specs.Judgement as page
-use Rattle.reader.specs.declared.Slot.{Slot}
 use Rattle.request.specs.Requests.{filter_of, report_type_of, start_of}
 use Rattle.request.specs.declared.Request.{Request}
 use Rattle.scsi.specs.Judgement as scsi
@@ -28,11 +27,11 @@ Bytes s = Every (λ (b : ℕ). b < 256) s
 
 -- ## What is read of a page, and of data that is not cut: these header numbers, and these elements
 
-pub record PageHolds (s : List ℕ) (q : Request) (h : Header) (slots : ℕ → Slot) : Type 0 where
+pub record PageHolds (s : List ℕ) (q : Request) (h : Header) (slots : ℕ → Option Descriptor) : Type 0 where
   pub taken : page.read_of Little s q ≡ tells 0 (page.header h)
   pub elements : (k : ℕ) → page.slot_of Little s k ≡ slots k
 
-pub record DataHolds (s : List ℕ) (r : Query) (h : Header) (slots : ℕ → Slot) : Type 0 where
+pub record DataHolds (s : List ℕ) (r : Query) (h : Header) (slots : ℕ → Option Descriptor) : Type 0 where
   pub taken : scsi.read_of Big s r ≡ tells 0 (scsi.reading h h.number false)
   pub elements : (k : ℕ) → scsi.slot_of Big s k ≡ slots k
 
@@ -47,13 +46,13 @@ pub record AsksAs (q : Request) (r : Query) : Type 0 where
 -- a page that is converted is read as SCSI data: the same elements and header numbers
 abbrev pub PageToData : Type 0
 PageToData =
-    (s : List ℕ) (q : Request) (r : Query) → Bytes s → AsksAs q r → scsi_offence s q ≡ Clean
+    (s : List ℕ) (q : Request) (r : Query) → Bytes s → AsksAs q r → scsi_offence s q ≡ Ok tt
     → DataHolds (turned Little Big s) r (header_in Little s) (page.slot_of Little s)
 
 -- data that is converted is read as a page
 abbrev pub DataToPage : Type 0
 DataToPage =
-    (s : List ℕ) (r : Query) (p : ℕ) → Bytes s → ata_offence s r p ≡ Clean
+    (s : List ℕ) (r : Query) (p : ℕ) → Bytes s → ata_offence s r p ≡ Ok tt
     → PageHolds (paged p s) (asked_for p r) (header_in Big s) (scsi.slot_of Big s)
 
 -- ## "there and back"
@@ -65,15 +64,15 @@ with_pages p q = record { feature = q.feature; count = record { 0 = p }; lba = q
 -- from a page, for any pages that its list fits, and whichever such SCSI request it goes by
 abbrev pub ThereAndBack : Type 0
 ThereAndBack =
-    (s : List ℕ) (q : Request) (r : Query) (p : ℕ) → Bytes s → AsksAs q r → scsi_offence s q ≡ Clean → (header_in Little s).number + 1 ≤ 16 * p
-    → (ata_offence (turned Little Big s) r p ≡ Clean)
+    (s : List ℕ) (q : Request) (r : Query) (p : ℕ) → Bytes s → AsksAs q r → scsi_offence s q ≡ Ok tt → (header_in Little s).number + 1 ≤ 16 * p
+    → (ata_offence (turned Little Big s) r p ≡ Ok tt)
     × PageHolds (paged p (turned Little Big s)) (with_pages p q) (header_in Little s) (page.slot_of Little s)
 
 -- and from data
 abbrev pub BackAndThere : Type 0
 BackAndThere =
-    (s : List ℕ) (r : Query) (p : ℕ) → Bytes s → r.start.0 < 2 ^ 32 → ata_offence s r p ≡ Clean
-    → (scsi_offence (paged p s) (asked_for p r) ≡ Clean)
+    (s : List ℕ) (r : Query) (p : ℕ) → Bytes s → r.start.0 < 2 ^ 32 → ata_offence s r p ≡ Ok tt
+    → (scsi_offence (paged p s) (asked_for p r) ≡ Ok tt)
     × DataHolds (turned Little Big (paged p s)) r (header_in Big s) (scsi.slot_of Big s)
 
 -- ## Of a device: its SCSI data is its page converted, where neither is cut
@@ -82,4 +81,4 @@ abbrev pub SendsItsPage : Type 0
 SendsItsPage =
     (d : Device) (q : Query) (p a : ℕ) → Fits d → ascending 0 (identifiers d.table) ≡ true → due_four q ≡ false
     → (sent_header d q).number + 1 ≤ 16 * p → base_of (sent_header d q).number ≤ a
-    → (scsi_offence (page_of d (asked_for p q)) (asked_for p q) ≡ Clean) × (turned Little Big (page_of d (asked_for p q)) ≡ take a (data_of Big d q))
+    → (scsi_offence (page_of d (asked_for p q)) (asked_for p q) ≡ Ok tt) × (turned Little Big (page_of d (asked_for p q)) ≡ take a (data_of Big d q))

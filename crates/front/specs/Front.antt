@@ -3,7 +3,7 @@ use Rattle.std.specs.Prelude.{ℕ, ◌*◌, min, cond, List, ◌++◌, eqb, leng
 use Rattle.arguments.specs.declared.Command.{Command}
 use Rattle.device.specs.Machine.{told}
 use Rattle.device.specs.declared.Device.{Device}
-use Rattle.events.specs.Events.{registers_of, event_of}
+use Rattle.events.specs.Events.{event_of}
 use Rattle.paper.specs.Answers.{number_of}
 use Rattle.paper.specs.Told.{Told}
 use Rattle.status.specs.Lent.{lent}
@@ -20,7 +20,7 @@ left l = record { told = record { number = number_of l.answer; state = l.device 
 
 -- "After a 12h that is answered 0 the page (its first 512p bytes) follows"
 abbrev pub written_by : Command → ℕ → ℕ
-written_by c n = cond (eqb c.code 0x12) (cond (eqb n 0) (512 * c.count) 0) 0
+written_by c n = cond (eqb c.registers.code 0x12) (cond (eqb n 0) (512 * c.registers.count) 0) 0
 
 -- over a lent buffer of `room` bytes
 abbrev pub after : Device → Command → ℕ → Fronted
@@ -28,7 +28,7 @@ after d c room = let t = told d (event_of c room) in record { told = t; room = r
 
 -- what it leaves in the buffer
 abbrev pub lent_of : Device → Command → List ℕ → List ℕ
-lent_of d c buf = lent d c.security (registers_of c) buf
+lent_of d c buf = lent d c.security c.registers buf
 
 -- "LENGTH is the lent buffer's", as far as there are bytes
 abbrev pub room_of : Command → List ℕ → ℕ

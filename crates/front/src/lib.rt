@@ -8,6 +8,7 @@ ghost use Rattle.front.specs.Front.{lent_of, written_by, left, after, lent_after
 use arguments::Command;
 use device::Device;
 use paper::Answer;
+use request::Request;
 
 // What the call leaves: the device, the answer, how many bytes were lent, and how many of these it wrote.
 #[derive(Clone, Copy)]
@@ -22,36 +23,27 @@ pub struct Left {
 pub fn fill(lent: &mut [u8])
     ensures { lent.new ≡ replicate (length lent.old) 0xA5 }
 {
-    let mut i: usize = 0;
-    while i < lent.len() {
-        lent[i] = 0xA5;
-        i += 1;
-    }
+    lent.fill(0xA5);
 }
 
 // The page of 12h; any other command leaves the buffer.
 fn show(d: Device, c: Command, lent: &mut [u8])
     ensures { lent.new ≡ lent_of d c lent.old }
 {
-    if c.code != 0x12 {
+    if c.registers.code != 0x12 {
         return;
     }
-    let security = c.security;
-    let lba = c.lba;
-    status::show(d, security, commands::asked(c.feature, c.count, lba), lent);
+    status::show(d, c.security, Request::from(c.registers), lent);
 }
 
 // How many bytes an answer writes: 512p after a 12h that is answered 0.
 fn answer_size(c: Command, answer: Answer) -> usize
     ensures { result ≡ written_by c (number_of answer) }
 {
-    if c.code != 0x12 {
+    if c.registers.code != 0x12 || u8::from(answer) != 0 {
         return 0;
     }
-    if paper::number_of(answer) != 0 {
-        return 0;
-    }
-    512 * (c.count as usize)
+    512 * (c.registers.count as usize)
 }
 
 // Over a buffer that is lent whole.
@@ -76,6 +68,6 @@ fn command_over(d: Device, c: Command, lent: &mut [u8]) -> Left
 pub fn command(d: Device, c: Command, lent: &mut [u8]) -> Left
     ensures { (left result ≡ left_after d c lent.old) × (lent.new ≡ lent_after d c lent.old) }
 {
-    let n = slices::smaller(c.length, lent.len());
+    let n = c.length.min(lent.len());
     command_over(d, c, &mut lent[0..n])
 }

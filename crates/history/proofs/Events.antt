@@ -1,17 +1,19 @@
 -- Which events make the note, the marking store, and the store that sets the failed mark: what each ruling's shape tells of its store.
 use Prim.Native.Nat.{ℕ, ◌<◌}
-use mathlib.Core.Bool.{Bool, true, false, cond, not, ◌&&◌, and-false, true≢false, false≢true}
+use mathlib.Core.Bool.{Bool, true, false, cond, not, true≢false, false≢true}
 use mathlib.Core.Path.{◌≡◌, refl, sym, ap, subst, subst⁻¹, ◌∙◌}
 use native.Mathlib.Omega.{arith}
 use lib.Dec.{eqb}
 use borrow.Author.Tests.{eq-eqb, eqb-true}
+use Rattle.std.proofs.Common.{Option, Some, None}
 use Rattle.cells.specs.Rulings.{Ruled}
-use Rattle.cells.specs.Sights.{gone}
+use Rattle.cells.specs.Sights.{is_there, gone, blocks_of}
 use Rattle.cells.specs.declared.Mark.TheVariants.{Clear, Set}
 use Rattle.cells.specs.declared.Note.TheVariants.{Full}
 use Rattle.cells.specs.declared.Position.TheVariants.{Work1, Work2, Work3, Work4, Work5, Wind1, Wind2, Wind3, Wind4}
 use Rattle.cells.specs.declared.Position.{Position}
 use Rattle.cells.specs.declared.Removal.{Removal}
+use Rattle.cells.specs.declared.Seen.{Seen}
 use Rattle.cells.specs.declared.Store.TheVariants.{Nothing, NativeTo, AccessibleTo, Marked, Graded, FailedTo, Noted, NoteEmptied}
 use Rattle.cells.specs.declared.Store.{Store}
 use Rattle.conduct.proofs.Shapes.{still, moving, stopping, Shape, quiet, clears, notes, advances, winds, Grading, refuses, grades, each, choose}
@@ -20,15 +22,15 @@ use Rattle.device.specs.Machine.{Event, command, step, media_error, power_cut, c
 use Rattle.device.specs.Record.{under_way, removed_number, see}
 use Rattle.device.specs.declared.Device.{Device}
 use Rattle.paper.specs.Elements.{removed_health}
-use Rattle.paper.specs.Registers.{Registers, low48}
+use Rattle.paper.specs.Registers.{low48, identifier_of}
 use Rattle.paper.specs.Table12.{aborts}
 use Rattle.paper.specs.declared.Command.TheVariants.{Remove}
 use Rattle.paper.specs.declared.ElementId.{ElementId}
 use Rattle.paper.specs.declared.Lba.{Lba}
+use Rattle.paper.specs.declared.Registers.{Registers}
 use Rattle.paper.specs.declared.Security.{Security}
-use Rattle.removal.specs.Remove.{identifier_of, limit_met, too_small, too_high, removal_of, judge_room, judge_found, rule_remove}
-use Rattle.steps.specs.Steps.{next_of}
-use Rattle.table.proofs.Ascending.{both}
+use Rattle.removal.specs.Remove.{limit_met, too_small, too_high, removal_of, judge_room, judge_found, rule_remove}
+use Rattle.steps.specs.Steps.{marking, next_of}
 use Rattle.table.specs.Elements.{is_storage, size, identifier_at}
 use Rattle.history.specs.Ledger.{of_store}
 use Rattle.history.specs.Progress.{note_of, Acceptance, Clearance, NotingStore, At, MarkingStore, SettingStore}
@@ -46,60 +48,59 @@ noted other x = of_store (λ place. other) (λ w. w) (λ m. other) other x
 no_note : {x : Store} {w : Removal} → is_note x ≡ false → x ≡ Noted w → ⊥
 no_note n q = false≢true (sym n ∙ ap is_note q)
 
-there_stands : (hit storage removed : Bool) → not (hit && storage) ≡ false → (hit && removed) ≡ false → removed ≡ true → ⊥
-there_stands true storage removed there stands q = false≢true (sym stands ∙ q)
-there_stands false storage removed there stands q = true≢false there
-
+-- of what is seen of the element
 module _ (d : Device) (id : ElementId) (lba : Lba) where
-  abbrev removal : Removal
-  removal = removal_of d.cells.native id lba (see d id).part.blocks
+  abbrev removal : Option Seen → Removal
+  removal x = removal_of d.cells.native id lba (blocks_of x)
 
   -- answered 0, a ruling has made the note of this element
-  abbrev Notes : Ruled → Type 0
-  Notes r = r.number ≡ 0 → r.store ≡ Noted removal
+  abbrev Notes : Option Seen → Ruled → Type 0
+  Notes x r = r.number ≡ 0 → r.store ≡ Noted (removal x)
 
-  notes_room : Notes (judge_room d.position d.cells.native id lba (see d id).part.blocks)
+  notes_room : (s : Seen) → Notes (Some s) (judge_room d.position d.cells.native id lba s.part.blocks)
   unfolding judge_room
-  notes_room =
-      choose Notes (too_small d.cells.native.0 (see d id).part.blocks) (λ _ z. absurd (omega arith))
-      (λ _. choose Notes (too_high d.cells.native.0 (see d id).part.blocks lba.0) (λ _ z. absurd (omega arith)) (λ _ z. refl))
+  notes_room s =
+      choose (Notes (Some s)) (too_small d.cells.native.0 s.part.blocks) (λ _ z. absurd (omega arith))
+      (λ _. choose (Notes (Some s)) (too_high d.cells.native.0 s.part.blocks lba.0) (λ _ z. absurd (omega arith)) (λ _ z. refl))
 
-  notes_found : gone (see d id) ≡ false → Notes (judge_found d.table d.cells d.position id lba (see d id))
+  notes_found : (x : Option Seen) → gone x ≡ false → Notes x (judge_found d.table d.cells d.position id lba x)
   unfolding judge_found
-  notes_found s =
-      choose Notes (not ((see d id).hit && is_storage (see d id).part)) (λ _ z. absurd (omega arith))
-      (λ there. choose Notes (removed_health (see d id).health) (λ q z. absurd (there_stands (see d id).hit _ _ there s q))
-      (λ _. choose Notes (limit_met d.table.limit (removed_number d)) (λ _ z. absurd (omega arith)) (λ _. notes_room)))
+  notes_found None stands = λ z. absurd (omega arith)
+  notes_found (Some s) stands =
+      choose (Notes (Some s)) (not (is_storage s.part)) (λ _ z. absurd (omega arith))
+      (λ _. choose (Notes (Some s)) (removed_health s.health) (λ q z. absurd (true≢false (sym q ∙ stands)))
+      (λ _. choose (Notes (Some s)) (limit_met d.table.limit (removed_number d)) (λ _ z. absurd (omega arith)) (λ _. notes_room s)))
 
   -- for an element at FFh, answered 0, it has cleared the mark
   abbrev Clears : Ruled → Type 0
   Clears r = r.number ≡ 0 → r.store ≡ FailedTo Clear
 
-  clears_found : gone (see d id) ≡ true → Clears (judge_found d.table d.cells d.position id lba (see d id))
+  clears_found : (x : Option Seen) → gone x ≡ true → Clears (judge_found d.table d.cells d.position id lba x)
   unfolding judge_found
-  clears_found s =
-      choose Clears (not ((see d id).hit && is_storage (see d id).part)) (λ _ z. absurd (omega arith))
-      (λ _. choose Clears (removed_health (see d id).health) (λ _ z. refl)
-      (λ stands z. absurd (false≢true (sym stands ∙ (both (see d id).hit (removed_health (see d id).health) s).1))))
+  clears_found None at = λ z. absurd (omega arith)
+  clears_found (Some s) at =
+      choose Clears (not (is_storage s.part)) (λ _ z. absurd (omega arith))
+      (λ _. choose Clears (removed_health s.health) (λ _ z. refl) (λ stands z. absurd (true≢false (sym at ∙ stands))))
 
   -- a ruling that has made a note has made that one, and is answered 0; its element is not at FFh
-  abbrev Noting : Ruled → Type 0
-  Noting r = (w : Removal) → r.store ≡ Noted w → (r.number ≡ 0) × (w ≡ removal) × (gone (see d id) ≡ false)
+  abbrev Noting : Option Seen → Ruled → Type 0
+  Noting x r = (w : Removal) → r.store ≡ Noted w → (r.number ≡ 0) × (w ≡ removal x) × (gone x ≡ false)
 
-  noting_room : gone (see d id) ≡ false → Noting (judge_room d.position d.cells.native id lba (see d id).part.blocks)
+  noting_room : (s : Seen) → gone (Some s) ≡ false → Noting (Some s) (judge_room d.position d.cells.native id lba s.part.blocks)
   unfolding judge_room
-  noting_room stands =
-      choose Noting (too_small d.cells.native.0 (see d id).part.blocks) (λ _ w q. absurd (no_note refl q))
-      (λ _. choose Noting (too_high d.cells.native.0 (see d id).part.blocks lba.0) (λ _ w q. absurd (no_note refl q))
+  noting_room s stands =
+      choose (Noting (Some s)) (too_small d.cells.native.0 s.part.blocks) (λ _ w q. absurd (no_note refl q))
+      (λ _. choose (Noting (Some s)) (too_high d.cells.native.0 s.part.blocks lba.0) (λ _ w q. absurd (no_note refl q))
       (λ _ w q. (refl, sym (ap (noted w) q), stands)))
 
-  noting_found : Noting (judge_found d.table d.cells d.position id lba (see d id))
+  noting_found : (x : Option Seen) → Noting x (judge_found d.table d.cells d.position id lba x)
   unfolding judge_found
-  noting_found =
-      choose Noting (not ((see d id).hit && is_storage (see d id).part)) (λ _ w q. absurd (no_note refl q))
-      (λ _. choose Noting (removed_health (see d id).health) (λ _ w q. absurd (no_note refl q))
-      (λ stands. choose Noting (limit_met d.table.limit (removed_number d)) (λ _ w q. absurd (no_note refl q))
-      (λ _. noting_room (rw stands (and-false (see d id).hit)))))
+  noting_found None = λ w q. absurd (no_note refl q)
+  noting_found (Some s) =
+      choose (Noting (Some s)) (not (is_storage s.part)) (λ _ w q. absurd (no_note refl q))
+      (λ _. choose (Noting (Some s)) (removed_health s.health) (λ _ w q. absurd (no_note refl q))
+      (λ stands. choose (Noting (Some s)) (limit_met d.table.limit (removed_number d)) (λ _ w q. absurd (no_note refl q))
+      (λ _. noting_room s stands)))
 
 -- 7Ch answered 0 has passed the first two checks
 module _ (d : Device) (security : Security) (r : Registers) (room : ℕ) (is_7_c : r.code ≡ 0x7C) (z : (told d (command security r room)).number ≡ 0) where
@@ -115,11 +116,11 @@ module _ (d : Device) (security : Security) (r : Registers) (room : ℕ) (is_7_c
 
 pub acceptance : Acceptance
 acceptance d security r room is_7_c z standing =
-    removed_by d security r room is_7_c z (Noted (note_of d r)) (notes_found d (identifier_of r) (low48 r.lba) standing)
+    removed_by d security r room is_7_c z (Noted (note_of d r)) (notes_found d (identifier_of r) (low48 r.lba) (see d (identifier_of r)) standing)
 
 pub clearance : Clearance
 clearance d security r room is_7_c z gone_by =
-    removed_by d security r room is_7_c z (FailedTo Clear) (clears_found d (identifier_of r) (low48 r.lba) gone_by)
+    removed_by d security r room is_7_c z (FailedTo Clear) (clears_found d (identifier_of r) (low48 r.lba) (see d (identifier_of r)) gone_by)
 
 -- ## Stores that one event alone makes
 
@@ -132,14 +133,14 @@ Tells d e next (Marked place) = (e ≡ step) × ((w : Removal) × At Work3 w d �
 Tells d e next (Graded place h) = Unit {0}
 Tells d e next (FailedTo Clear) = Unit {0}
 Tells d e next (FailedTo Set) = (e ≡ step) × ((w : Removal) × At Wind3 w d)
-Tells d e next (Noted w) = (next ≡ Work1) × ((see d w.element).hit ≡ true)
+Tells d e next (Noted w) = (next ≡ Work1) × (is_there (see d w.element) ≡ true)
 Tells d e next NoteEmptied = Unit {0}
 
 module _ (d : Device) where
   tells_still : (e : Event) (r : Ruled) → Shape d still r → Tells d e r.next r.store
   tells_still e r (quiet n) = tt
   tells_still e r clears = tt
-  tells_still e r (notes id lba n s) = (refl, s.hit)
+  tells_still e r (notes id lba s n standing) = (refl, ap is_there standing.hit)
 
   tells_stop : (e : Event) (r : Ruled) → Shape d stopping r → Tells d e r.next r.store
   tells_stop e r (quiet n) = tt
@@ -148,11 +149,11 @@ module _ (d : Device) where
   tells_step : (w : Removal) → d.cells.note ≡ Full w → (p : Position) → d.position ≡ p → Tells d step (next_of p) (store_at d w p)
   tells_step w n Work1 e = tt
   tells_step w n Work2 e = tt
-  tells_step w n Work3 e = marks (see d w.element).hit refl
+  tells_step w n Work3 e = marks (see d w.element) refl
     where
-      marks : (b : Bool) → (see d w.element).hit ≡ b → Tells d step Work4 (cond b (Marked (see d w.element).place) Nothing)
-      marks true q = let there = hit_there d.table d refl w.element q in (refl, (w, record { note = n; position = e }, there.0, sym there.1))
-      marks false q = tt
+      marks : (x : Option Seen) → see d w.element ≡ x → Tells d step Work4 (marking x)
+      marks None q = tt
+      marks (Some s) q = let there = hit_there d.table d refl w.element s q in (refl, (w, record { note = n; position = e }, there.0, sym there.1))
   tells_step w n Work4 e = tt
   tells_step w n Work5 e = tt
   tells_step w n Wind1 e = tt
@@ -166,7 +167,7 @@ module _ (d : Device) where
 
   tells_grade : (e : Event) (id : ElementId) (h : ℕ) (r : Ruled) → Grading d id h r → Tells d e r.next r.store
   tells_grade e id h r refuses = tt
-  tells_grade e id h r (grades s g) = tt
+  tells_grade e id h r (grades s standing g) = tt
 
   pub store_tells : (e : Event) → Tells d e (rule d e).next (rule d e).store
   store_tells (command s x room) = tells_still _ _ (each d (command s x room))
@@ -190,11 +191,11 @@ module _ (d : Device) where
   step_none : (w : Removal) (p : Position) → is_note (store_at d w p) ≡ false
   step_none w Work1 = refl
   step_none w Work2 = refl
-  step_none w Work3 = go (see d w.element).hit
+  step_none w Work3 = go (see d w.element)
     where
-      go : (b : Bool) → is_note (cond b (Marked (see d w.element).place) Nothing) ≡ false
-      go true = refl
-      go false = refl
+      go : (x : Option Seen) → is_note (marking x) ≡ false
+      go None = refl
+      go (Some s) = refl
   step_none w Work4 = refl
   step_none w Work5 = refl
   step_none w Wind1 = refl
@@ -212,7 +213,7 @@ module _ (d : Device) where
 
   grading_none : (id : ElementId) (h : ℕ) (r : Ruled) → Grading d id h r → is_note r.store ≡ false
   grading_none id h r refuses = refl
-  grading_none id h r (grades s g) = refl
+  grading_none id h r (grades s standing g) = refl
 
   -- a command that makes a note is an accepted 7Ch
   module _ (s : Security) (r : Registers) (room : ℕ) (w : Removal) where
@@ -224,13 +225,13 @@ module _ (d : Device) where
         choose Says (eqb r.code 0x7C)
         (λ is_7_c. choose Says (aborts Remove s) (λ _ q. absurd (no_note refl q))
         (λ _. choose Says (under_way d) (λ _ q. absurd (no_note refl q))
-        (λ rests q. let so = noting_found d (identifier_of r) (low48 r.lba) w q in (eqb-true _ _ is_7_c, so.0, rests, so.1, so.2))))
+        (λ rests q. let so = noting_found d (identifier_of r) (low48 r.lba) (see d (identifier_of r)) w q in (eqb-true _ _ is_7_c, so.0, rests, so.1, so.2))))
         (λ _ q. absurd (no_note refl q))
 
 pub noting_store : NotingStore
 noting_store d (command s r room) w q =
     let so = noting_command d s r room w q in
-    let there : (see d w.element).hit ≡ true = (subst (Tells d (command s r room) (rule d (command s r room)).next) q (store_tells d (command s r room))).1 in
+    let there : is_there (see d w.element) ≡ true = (subst (Tells d (command s r room) (rule d (command s r room)).next) q (store_tells d (command s r room))).1 in
     (s, r, room, refl, so.0, so.1, so.2, so.3, there, subst⁻¹ (λ (v : Removal). gone (see d v.element) ≡ false) so.3 so.4)
 noting_store d step w q = absurd (no_note (moving_none d _ (each d step)) q)
 noting_store d media_error w q = absurd (no_note (stopping_none d _ (each d media_error)) q)

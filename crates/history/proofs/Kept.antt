@@ -7,6 +7,7 @@ use native.Mathlib.Omega.{arith}
 use lib.Dec.{eqb}
 use lib.ListN.{length, get_or, set, length-set}
 use borrow.Author.Tests.{eqb-true, eq-eqb, ne_eqb, leb-true}
+use Rattle.std.proofs.Common.{Option, Some, None}
 use Rattle.cells.specs.Rulings.{Ruled, goes}
 use Rattle.cells.specs.Sights.{gone}
 use Rattle.cells.specs.declared.Note.TheVariants.{Empty, Full}
@@ -14,7 +15,8 @@ use Rattle.cells.specs.declared.Note.{Note}
 use Rattle.cells.specs.declared.Position.TheVariants.{Work1, Work2, Work3, Work4, Work5, Wind1, Wind2, Wind3, Wind4}
 use Rattle.cells.specs.declared.Position.{Position}
 use Rattle.cells.specs.declared.Removal.{Removal}
-use Rattle.cells.specs.declared.Store.TheVariants.{Nothing, Marked}
+use Rattle.cells.specs.declared.Seen.{Seen}
+use Rattle.cells.specs.declared.Store.TheVariants.{Marked}
 use Rattle.conduct.proofs.Shapes.{Kind, Standing, Shape, quiet, clears, notes, advances, winds, Grading, refuses, grades, each}
 use Rattle.device.proofs.Stores.{store_at}
 use Rattle.device.specs.Machine.{Event, command, step, media_error, power_cut, comreset, hardware_reset, software_reset, grade, rule}
@@ -23,7 +25,7 @@ use Rattle.device.specs.declared.Device.{Device}
 use Rattle.paper.specs.Elements.{removed_health}
 use Rattle.paper.specs.declared.ElementId.{ElementId}
 use Rattle.paper.specs.declared.Lba.{Lba}
-use Rattle.steps.specs.Steps.{next_of}
+use Rattle.steps.specs.Steps.{marking, next_of}
 use Rattle.table.specs.Elements.{identifiers, size, identifier_at, ascending}
 use Rattle.table.specs.declared.Table.{Table}
 use Rattle.history.specs.Ledger.{marked_by, marked, accepted_by, accepted, address_by, address, graded_by, grade_in}
@@ -121,8 +123,8 @@ module _ (start : Device) (asc : ascending 0 (identifiers start.table) ≡ true)
   is_marked : (id : ElementId) → gone (see d id) ≡ M id.0
   is_marked id = gone-told t asc d built M removed_marked id (inv.only id.0)
 
-  unmarked : (id : ElementId) → Standing d id → M id.0 ≡ false
-  unmarked id s = sym (is_marked id) ∙ rw s.hit s.health
+  unmarked : (id : ElementId) (s : Seen) → Standing d id s → M id.0 ≡ false
+  unmarked id s standing = sym (is_marked id) ∙ ap gone standing.hit ∙ standing.health
 
   wound : (w : Removal) → address start h ≡ cond (M w.element.0) w.new.0 w.old.0 → (wound_up d w).0 ≡ address start h
   wound w e =
@@ -160,8 +162,8 @@ module _ (start : Device) (asc : ascending 0 (identifiers start.table) ≡ true)
     keep_mark : HeldAt start h d Work3 (Full w) → After G (goes (store_at d w Work3) Work4)
     keep_mark way =
         let hit = present_hit t asc d built w.element way.there in
-        let there = hit_there t d built w.element hit in
-        subst⁻¹ (λ (b : Bool). After G (goes (cond b (Marked (see d w.element).place) Nothing) Work4)) hit (marked_at way (see d w.element).place there.0 there.1)
+        let there = hit_there t d built w.element hit.0 hit.1 in
+        subst⁻¹ (λ (x : Option Seen). After G (goes (marking x) Work4)) hit.1 (marked_at way hit.0.place there.0 there.1)
 
     -- ## A step
 
@@ -185,8 +187,9 @@ module _ (start : Device) (asc : ascending 0 (identifiers start.table) ≡ true)
   keep_shape : (k : Kind) (r : Ruled) → Shape d k r → After G r
   keep_shape k r (quiet n) = inv
   keep_shape k r clears = hold inv.held
-  keep_shape k r (notes id lba empty s) =
-      hold (record { there = hit_present t d built id s.hit; aim = rw (unmarked id s) (sym (held_at start h d inv Empty empty).0); at = (unmarked id s, refl) })
+  keep_shape k r (notes id lba s empty standing) =
+      let free = unmarked id s standing in
+      hold (record { there = hit_present t d built id s standing.hit; aim = rw free (sym (held_at start h d inv Empty empty).0); at = (free, refl) })
   keep_shape k r (advances w e) = keep_step w e d.position (held_at start h d inv (Full w) e)
   keep_shape k r (winds w e) = on w e (held_at start h d inv (Full w) e) tt
 
@@ -203,13 +206,13 @@ module _ (start : Device) (asc : ascending 0 (identifiers start.table) ≡ true)
 
     keep_grade : (r : Ruled) → Grading d id v r → After (λ i g. graded_by (grade id v) r.number i (G i g)) r
     keep_grade r refuses = inv
-    keep_grade r (grades s good) =
-        let there = hit_there t d built id s.hit in
+    keep_grade r (grades s standing good) =
+        let there = hit_there t d built id s standing.hit in
         record {
           celled = rw length-set inv.celled;
           same = λ i k.
-              rw there.1 at (stored (see d id).place v i there.0 k)
-              ∙ grade_one (eqb id.0 (identifier_at t i)) (M (identifier_at t i)) _ (λ q. subst (λ (j : ℕ). M j ≡ false) (eqb-true id.0 (identifier_at t i) q) (unmarked id s));
+              rw there.1 at (stored s.place v i there.0 k)
+              ∙ grade_one (eqb id.0 (identifier_at t i)) (M (identifier_at t i)) _ (λ q. subst (λ (j : ℕ). M j ≡ false) (eqb-true id.0 (identifier_at t i) q) (unmarked id s standing));
           low = λ i k z. low_one (eqb id.0 (identifier_at t i)) _ (leb-true v 0xCF good) (inv.low i k z);
           only = inv.only;
           held = inv.held;

@@ -5,6 +5,7 @@ use mathlib.Core.Path.{◌≡◌, refl, sym, ap, ◌∙◌, subst, subst⁻¹}
 use native.Mathlib.Omega.{arith}
 use Rattle.cells.specs.Cells.{make}
 use Rattle.cells.specs.Rulings.{Ruled, goes}
+use Rattle.cells.specs.Sights.{place_of}
 use Rattle.cells.specs.declared.Note.TheVariants.{Empty, Full}
 use Rattle.cells.specs.declared.Note.{Note}
 use Rattle.cells.specs.declared.Position.TheVariants.{Work1, Work2, Work3, Work4, Work5, Wind1, Wind2, Wind3, Wind4}
@@ -23,7 +24,7 @@ use Rattle.table.proofs.Ascending.{both}
 use Rattle.history.specs.Progress.{calm, steps, At, OnItsWay, work_store, FiveSteps, FifthEnds, stops, StopWinds, wind_store, FourSteps, FourthEnds}
 use Rattle.history.specs.Runs.{Script, begin, ◌▸◌, ◌▸▸◌, after}
 use Rattle.history.proofs.Events.{Tells, store_tells}
-use Rattle.history.proofs.Places.{table_kept, see-same}
+use Rattle.history.proofs.Places.{table_kept, marks-same}
 
 after_join : (d : Device) (s t : Script) → after d (s ▸▸ t) ≡ after (after d s) t
 after_join d s begin = refl
@@ -52,11 +53,11 @@ module _ (w : Removal) where
   stay : (p : Position) (d : Device) → At p w d → (r : Ruled) → Shape d still r → At p w (carried_out d r)
   stay p d o r (quiet n) = o
   stay p d o r clears = record { note = o.note; position = o.position }
-  stay p d o r (notes id lba empty s) = empty_full (sym empty ∙ o.note)
+  stay p d o r (notes id lba seen empty s) = empty_full (sym empty ∙ o.note)
 
   stay_grade : (p : Position) (d : Device) (id : ElementId) (h : ℕ) → At p w d → (r : Ruled) → Grading d id h r → At p w (carried_out d r)
   stay_grade p d id h o r refuses = o
-  stay_grade p d id h o r (grades s g) = record { note = o.note; position = o.position }
+  stay_grade p d id h o r (grades seen s g) = record { note = o.note; position = o.position }
 
   -- the ruling on a step, at a known note and position
   ruled_at : (p : Position) (d : Device) → At p w d → rule d step ≡ goes (store_at d w p) (next_of p)
@@ -103,26 +104,25 @@ module _ (w : Removal) where
     made_by = subst (Tells d e (rule d e).next) noted (store_tells d e)
 
     -- the element stays at its place
-    work_store_lem : (k : ℕ) (x : Device) → x.table ≡ d.table → store_at x w (work k) ≡ work_store (see d w.element).place w k
+    work_store_lem : (k : ℕ) (x : Device) → x.table ≡ d.table → store_at x w (work k) ≡ work_store (place_of (see d w.element)) w k
     work_store_lem zero x q = refl
     work_store_lem (suc zero) x q = refl
     work_store_lem (suc (suc zero)) x q =
-        let same = see-same d.table x q w.element d refl in
-        rw (same.0 ∙ made_by.1) (ap Marked same.1)
+        marks-same d.table d refl w.element x q made_by.1
     work_store_lem (suc (suc (suc zero))) x q = refl
     work_store_lem (suc (suc (suc (suc n)))) x q = refl
 
-    on_its_way : (s : Script) → calm s ≡ true → steps s ≤ 4 → OnItsWay (work_store (see d w.element).place w) w (steps s) (after d (begin ▸ e ▸▸ s))
+    on_its_way : (s : Script) → calm s ≡ true → steps s ≤ 4 → OnItsWay (work_store (place_of (see d w.element)) w) w (steps s) (after d (begin ▸ e ▸▸ s))
     on_its_way s c l =
         let x : Device = after d (begin ▸ e) in
         let o : At Work1 w x = record { note = ap (λ (y : Store). (make y d.cells).note) noted; position = made_by.0 } in
-        subst⁻¹ (OnItsWay (work_store (see d w.element).place w) w (steps s)) (after_join d (begin ▸ e) s)
-        (arrives work 4 work_on (work_store (see d w.element).place w) x o s c l (work_store_lem (steps s) (after x s) (table_kept x s)))
+        subst⁻¹ (OnItsWay (work_store (place_of (see d w.element)) w) w (steps s)) (after_join d (begin ▸ e) s)
+        (arrives work 4 work_on (work_store (place_of (see d w.element)) w) x o s c l (work_store_lem (steps s) (after x s) (table_kept x s)))
 
     fifth : (s : Script) → calm s ≡ true → steps s ≡ 4 → (after d (begin ▸ e ▸▸ (s ▸ step))).cells.note ≡ Empty
     fifth s c k =
         ap (λ (y : Store). (make y (after d (begin ▸ e ▸▸ s)).cells).note)
-        ((on_its_way s c (omega arith)).store ∙ ap (work_store (see d w.element).place w) k)
+        ((on_its_way s c (omega arith)).store ∙ ap (work_store (place_of (see d w.element)) w) k)
 
   -- ## Winding up
 

@@ -1,6 +1,6 @@
 -- How a removal gets on.
 use Rattle.std.specs.Prelude.{ℕ, zero, suc, ◌-◌, ◌≤◌, ◌<◌, Bool, true, false, not, ◌&&◌, ◌≡◌}
-use Rattle.cells.specs.Sights.{gone}
+use Rattle.cells.specs.Sights.{is_there, gone, place_of, blocks_of}
 use Rattle.cells.specs.declared.Mark.TheVariants.{Clear, Set}
 use Rattle.cells.specs.declared.Note.TheVariants.{Empty, Full}
 use Rattle.cells.specs.declared.Position.TheVariants.{Work3, Wind1, Wind3}
@@ -11,11 +11,12 @@ use Rattle.cells.specs.declared.Store.{Store}
 use Rattle.device.specs.Machine.{Event, command, step, rule, told}
 use Rattle.device.specs.Record.{under_way, see, wound_up}
 use Rattle.device.specs.declared.Device.{Device}
-use Rattle.paper.specs.Registers.{Registers, low48}
+use Rattle.paper.specs.Registers.{low48, identifier_of}
 use Rattle.paper.specs.declared.ElementId.{ElementId}
 use Rattle.paper.specs.declared.Lba.{Lba}
+use Rattle.paper.specs.declared.Registers.{Registers}
 use Rattle.paper.specs.declared.Security.{Security}
-use Rattle.removal.specs.Remove.{identifier_of, or_difference}
+use Rattle.removal.specs.Remove.{or_difference}
 use Rattle.table.specs.Elements.{size, identifier_at}
 use Rattle.history.specs.Runs.{of_event, Script, begin, ◌▸◌, ◌▸▸◌, after}
 
@@ -42,7 +43,7 @@ steps (s ▸ e) = step_by e (steps s)
 abbrev pub note_of : Device → Registers → Removal
 note_of d r =
     let id : ElementId = identifier_of r in
-    record { element = id; old = d.cells.native; new = or_difference (d.cells.native.0 - (see d id).part.blocks) (low48 r.lba) }
+    record { element = id; old = d.cells.native; new = or_difference (d.cells.native.0 - blocks_of (see d id)) (low48 r.lba) }
 
 -- 7Ch answered 0 for an element that is not at FFh has made the note of it
 abbrev pub Acceptance : Type 0
@@ -66,7 +67,7 @@ NotingStore =
     (d : Device) (e : Event) (w : Removal) → (rule d e).store ≡ Noted w
     → (security : Security) × (r : Registers) × (room : ℕ)
     × (e ≡ command security r room) × (r.code ≡ 0x7C) × ((told d e).number ≡ 0) × (under_way d ≡ false) × (w ≡ note_of d r)
-    × ((see d w.element).hit ≡ true) × (gone (see d w.element) ≡ false)
+    × (is_there (see d w.element) ≡ true) × (gone (see d w.element) ≡ false)
 
 -- the next step is the one at this position, of this removal
 pub record At (p : Position) (w : Removal) (d : Device) : Type 0 where
@@ -102,7 +103,7 @@ abbrev pub FiveSteps : Type 0
 FiveSteps =
     (d : Device) (e : Event) (w : Removal) → (rule d e).store ≡ Noted w
     → (s : Script) → calm s ≡ true → steps s ≤ 4
-    → OnItsWay (work_store (see d w.element).place w) w (steps s) (after d (begin ▸ e ▸▸ s))
+    → OnItsWay (work_store (place_of (see d w.element)) w) w (steps s) (after d (begin ▸ e ▸▸ s))
 
 abbrev pub FifthEnds : Type 0
 FifthEnds =

@@ -1,7 +1,6 @@
 -- The calls: a law for each way out. A call's device is told by the call by value; what is put down of it is all that can have changed.
 use Prim.Native.Nat.{ℕ}
 use mathlib.Core.Bool.{cond}
-use mathlib.Core.List.{List}
 use mathlib.Core.Path.{◌≡◌, refl, sym, ap, ◌∙◌}
 use borrow.Author.Tests.{eq-eqb, ne_eqb}
 use lib.Dec.{eqb}
@@ -14,16 +13,11 @@ use Rattle.device.specs.declared.Device.{Device}
 use Rattle.making.specs.Making.{made_of}
 use Rattle.offer.specs.declared.Offer.{Offer}
 use Rattle.paper.specs.Answers.{number_of}
-use Rattle.paper.specs.Output.{Output}
-use Rattle.paper.specs.Registers.{Registers}
 use Rattle.paper.specs.Told.{Told, tells, said}
 use Rattle.paper.specs.declared.Answer.{Answer}
 use Rattle.paper.specs.declared.ElementId.{ElementId}
+use Rattle.paper.specs.declared.Registers.{Registers}
 use Rattle.paper.specs.declared.Security.{Security}
-use Rattle.query.specs.declared.Query.{Query}
-use Rattle.request.specs.declared.Request.{Request}
-use Rattle.sender.specs.Sent.{sent}
-use Rattle.status.specs.Page.{shown}
 use Rattle.image.specs.Calls.{told_of, made_as, made_by}
 use Rattle.image.specs.Keeping.{keeps, image_of, built}
 use Rattle.image.specs.Private.{with_healths, with_mark, with_note, at_position}
@@ -42,7 +36,7 @@ module _ (i : Image) where
   unfolding keeps device_of
   commanded r (quiet n) = refl
   commanded r clears = refl
-  commanded r (notes id lba n s) = refl
+  commanded r (notes id lba seen n s) = refl
 
   -- an error or a cut stores nothing
   stopped : (r : Ruled) → Shape d stopping r → at_position r.next i ≡ keeps i (carried_out d r)
@@ -53,7 +47,7 @@ module _ (i : Image) where
   regraded : (id : ElementId) (h : ℕ) (r : Ruled) → Grading d id h r → with_healths (carried_out d r).cells.healths i ≡ keeps i (carried_out d r)
   unfolding device_of
   regraded id h r refuses = graded_kept i d.cells.healths
-  regraded id h r (grades s g) = graded_kept i _
+  regraded id h r (grades seen s g) = graded_kept i _
 
 -- ## The ways out of a call: the device was read, the call by value made, and its number taken
 
@@ -122,15 +116,3 @@ module _ (i : Image) (o : Offer) (d x : Device) (is_d : d ≡ device_of i) (a : 
 
   pub made_new : n ≡ 0 → (b r : Image) → b ≡ built x.table → r ≡ keeps b x → tells n r ≡ made_by i o
   made_new z b r is_b is_r = ap (tells n) (is_r ∙ ap (λ (c : Image). keeps c x) is_b) ∙ sym (rw (eq-eqb n 0 z) refl) ∙ made_as_lem
-
--- ## Pages and data of the device
-
-module _ (i : Image) (d : Device) (is_d : d ≡ device_of i) (a : Answer) where
-  pub show_told : (n : ℕ) → n ≡ number_of a → (s t : Security) → s ≡ t → (q : Request) (buf out : List ℕ) → said a out ≡ shown d s q buf
-      → tells n out ≡ shown (device_of i) t q buf
-  show_told n is_n s t is_s q buf out is_told =
-      ap (λ (m : ℕ). tells m out) is_n ∙ is_told ∙ ap (λ (y : Device). shown y s q buf) is_d ∙ ap (λ (u : Security). shown (device_of i) u q buf) is_s
-
-  pub send_told : (q : Query) (allocation : ℕ) (buf : List ℕ) (out : Output) → said a out ≡ sent d q allocation buf
-      → said a out ≡ sent (device_of i) q allocation buf
-  send_told q allocation buf out is_told = is_told ∙ ap (λ (y : Device). sent y q allocation buf) is_d

@@ -4,7 +4,7 @@
 
 ghost use Rattle.std.specs.Prelude.{◌≡◌};
 ghost use Rattle.device.specs.Machine as machine;
-ghost use Rattle.paper.specs.Output.{output};
+ghost use Rattle.paper.specs.Output.{wrote};
 ghost use Rattle.paper.specs.Told.{tells, said};
 ghost use Rattle.sender.specs.Sent.{sent};
 ghost use Rattle.status.specs.Page.{shown};
@@ -17,7 +17,7 @@ ghost use Rattle.image.specs.Reading.{security_of, mark_of, note_of, position_of
 use cells::{Cells, Mark, Note, Position, Removal};
 use device::Device;
 use offer::{Element, Offer};
-use paper::{ElementId, Lba, Security, Written};
+use paper::{Answer, ElementId, Lba, Registers, Security, Unwritten};
 use query::Query;
 use request::Request;
 use table::{Part, Table};
@@ -47,7 +47,7 @@ pub struct Imaged {
     pub answer: u8,
 }
 
-// ---- What the numbers say
+// ---- What the numbers say. They are C's, which the crates of these types do not know, so that none is a `From` of theirs.
 
 fn security_of(state: u8) -> Security
     ensures { result ≡ security_of state }
@@ -268,6 +268,16 @@ impl Image {
 
     // ---- The calls
 
+    // This image and an answer's number.
+    fn with_answer(self, answer: Answer) -> Imaged
+        ensures { tells result.answer result.image ≡ said answer self }
+    {
+        Imaged {
+            image: self,
+            answer: u8::from(answer),
+        }
+    }
+
     // A new device in the place of this one, or 8.
     pub fn make(self, elements: [Element; 128], count: usize, limit: u16) -> Imaged
         ensures { tells result.answer result.image ≡ made_by self (record { elements = elements; count = count; limit = limit }) }
@@ -278,28 +288,19 @@ impl Image {
             limit,
         };
         let s = making::make_device(self.device(), o);
-        let said = s.answer;
-        let answer = paper::number_of(said);
-        if answer != 0 {
-            return Imaged {
-                image: self,
-                answer,
-            };
+        if u8::from(s.answer) != 0 {
+            return self.with_answer(s.answer);
         }
-        let made = s.device;
-        let table = made.table;
-        let image = built(table).keep(made);
-        Imaged { image, answer }
+        let image = built(s.device.table).keep(s.device);
+        image.with_answer(s.answer)
     }
 
     // A step stores into any cell; a refusal is left here, so that a step has one way to put down what it stored.
     pub fn step(self) -> Imaged
         ensures { tells result.answer result.image ≡ told_of self machine.step }
     {
-        let d = self.device();
-        let s = d.step();
-        let said = s.answer;
-        let answer = paper::number_of(said);
+        let s = self.device().step();
+        let answer = u8::from(s.answer);
         if answer != 0 {
             return Imaged {
                 image: self,
@@ -314,126 +315,73 @@ impl Image {
     pub fn media_error(self) -> Imaged
         ensures { tells result.answer result.image ≡ told_of self machine.media_error }
     {
-        let d = self.device();
-        let s = d.media_error();
-        let after = s.device;
-        let position = after.position;
-        let image = self.at_position(position);
-        let said = s.answer;
-        let answer = paper::number_of(said);
-        Imaged { image, answer }
+        let s = self.device().media_error();
+        let image = self.at_position(s.device.position);
+        image.with_answer(s.answer)
     }
 
     pub fn power_cut(self) -> Imaged
         ensures { tells result.answer result.image ≡ told_of self machine.power_cut }
     {
-        let d = self.device();
-        let s = d.power_cut();
-        let after = s.device;
-        let position = after.position;
-        let image = self.at_position(position);
-        let said = s.answer;
-        let answer = paper::number_of(said);
-        Imaged { image, answer }
+        let s = self.device().power_cut();
+        let image = self.at_position(s.device.position);
+        image.with_answer(s.answer)
     }
 
     // A reset changes nothing.
     pub fn comreset(self) -> Imaged
         ensures { tells result.answer result.image ≡ told_of self machine.comreset }
     {
-        let d = self.device();
-        let s = d.comreset();
-        let said = s.answer;
-        let answer = paper::number_of(said);
-        Imaged {
-            image: self,
-            answer,
-        }
+        let s = self.device().comreset();
+        self.with_answer(s.answer)
     }
 
     pub fn hardware_reset(self) -> Imaged
         ensures { tells result.answer result.image ≡ told_of self machine.hardware_reset }
     {
-        let d = self.device();
-        let s = d.hardware_reset();
-        let said = s.answer;
-        let answer = paper::number_of(said);
-        Imaged {
-            image: self,
-            answer,
-        }
+        let s = self.device().hardware_reset();
+        self.with_answer(s.answer)
     }
 
     pub fn software_reset(self) -> Imaged
         ensures { tells result.answer result.image ≡ told_of self machine.software_reset }
     {
-        let d = self.device();
-        let s = d.software_reset();
-        let said = s.answer;
-        let answer = paper::number_of(said);
-        Imaged {
-            image: self,
-            answer,
-        }
+        let s = self.device().software_reset();
+        self.with_answer(s.answer)
     }
 
     // A grade stores a health alone.
     pub fn grade(self, id: ElementId, health: u8) -> Imaged
         ensures { tells result.answer result.image ≡ told_of self (machine.grade id health) }
     {
-        let d = self.device();
-        let s = d.grade(id, health);
-        let after = s.device;
-        let cells = after.cells;
-        let healths = cells.healths;
-        let image = self.with_healths(healths);
-        let said = s.answer;
-        let answer = paper::number_of(said);
-        Imaged { image, answer }
+        let s = self.device().grade(id, health);
+        let image = self.with_healths(s.device.cells.healths);
+        image.with_answer(s.answer)
     }
 
     // A command stores the note, with the first position, or clears the mark.
-    pub fn command(
-        self,
-        security: u8,
-        code: u8,
-        feature: u16,
-        count: u16,
-        lba: Lba,
-        room: usize,
-    ) -> Imaged
-        ensures { tells result.answer result.image ≡ told_of self (machine.command (security_of security) (record { code = code; feature = feature; count = count; lba = lba }) room) }
+    pub fn command(self, security: u8, registers: Registers, room: usize) -> Imaged
+        ensures { tells result.answer result.image ≡ told_of self (machine.command (security_of security) registers room) }
     {
-        let state = security_of(security);
-        let d = self.device();
-        let s = commands::command(d, state, code, feature, count, lba, room);
+        let s = commands::command(self.device(), security_of(security), registers, room);
         let after = s.device;
-        let cells = after.cells;
-        let mark = cells.failed;
-        let position = after.position;
-        let note = cells.note;
-        let marked = self.with_mark(mark);
-        let there = marked.at_position(position);
-        let image = there.with_note(note);
-        let said = s.answer;
-        let answer = paper::number_of(said);
-        Imaged { image, answer }
+        let marked = self.with_mark(after.cells.failed);
+        let there = marked.at_position(after.position);
+        let image = there.with_note(after.cells.note);
+        image.with_answer(s.answer)
     }
 
     // The status page.
     pub fn show(self, security: u8, request: Request, buf: &mut [u8]) -> u8
         ensures { tells result buf.new ≡ shown (device_of self) (security_of security) request buf.old }
     {
-        let state = security_of(security);
-        let d = self.device();
-        paper::number_of(status::show(d, state, request, buf))
+        u8::from(status::show(self.device(), security_of(security), request, buf))
     }
 
     // The data for a SCSI host.
-    pub fn send(self, query: Query, allocation: u32, buf: &mut [u8]) -> Written
-        ensures { said result.answer (output result.count buf.new) ≡ sent (device_of self) query allocation buf.old }
+    pub fn send(self, query: Query, allocation: u32, buf: &mut [u8]) -> Result<usize, Unwritten>
+        ensures { wrote result buf.new ≡ sent (device_of self) query allocation buf.old }
     {
-        let d = self.device();
-        sender::send(d, query, allocation, buf)
+        sender::send(self.device(), query, allocation, buf)
     }
 }

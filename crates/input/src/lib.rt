@@ -15,12 +15,14 @@ use std::io::{ErrorKind, Read, Write};
 #[derive(Clone, Copy, Debug, PartialEq, Eq)]
 pub struct Told;
 
+// Room for a page or as many bytes of SCSI data, and a byte more, so that a longer input is seen.
+pub const PAGE_ROOM: usize = 65537;
+
+// Room for every listing.
+pub const LISTING_ROOM: usize = 80000;
+
 // Room for the name of a file: the longest that the system takes, and more.
-fn name_room() -> [u8; 4096]
-    ensures { 4096 ≡ length result }
-{
-    [0u8; 4096]
-}
+pub const NAME_ROOM: usize = 4096;
 
 // How many words of an error there are: they end where std adds the system's number, or at the first zero.
 fn words_len(text: &[u8]) -> usize
@@ -63,13 +65,11 @@ pub fn arg_count(rt: &HostRuntime) -> usize {
 pub fn arg(rt: &HostRuntime, i: usize, buf: &mut [u8]) -> usize
     ensures { IsPrefixLen result buf.new }
 {
-    match rt.arg(i, buf) {
-        Ok(n) => n,
-        Err(_) => 0,
-    }
+    rt.arg(i, buf).unwrap_or(0)
 }
 
-// Reads to the end, or until the buffer is full. If a read fails, what was read before stands at the start of the buffer.
+// Reads to the end, or until the buffer is full. If a read fails, what was read before stands at the start of the buffer. Each read says how
+// much it gave, so no `for` counts the bytes.
 pub fn read_whole<R: Read>(reader: &mut R, buf: &mut [u8]) -> io::Result<usize>
     ensures prefix_len { IfOk result (λ n. IsPrefixLen n buf.new) }
     ensures bytes { IfOk result (λ n. Consumes (R.remaining reader.old) (R.remaining reader.new) (take n buf.new)) }
@@ -93,18 +93,13 @@ pub fn read_input(rt: &HostRuntime, what: &[u8], buf: &mut [u8]) -> Result<usize
     ensures err { OnErr result (length buf.new ≡ length buf.old) }
 {
     let mut stdin = rt.stdin();
-    match read_whole(&mut stdin, buf) {
-        Ok(n) => Ok(n),
-        Err(error) => Err(tell(rt, what, error)),
-    }
+    read_whole(&mut stdin, buf).map_err(|error| tell(rt, what, error))
 }
 
 // The file of a name. A name that is not UTF-8 is one that std cannot open.
 pub fn open(rt: &HostRuntime, name: &[u8]) -> io::Result<File> {
-    match str::from_utf8(name) {
-        Ok(path) => File::open(rt, path),
-        Err(_) => Err(io::Error::from(ErrorKind::InvalidFilename)),
-    }
+    let path = str::from_utf8(name).map_err(|_| io::Error::from(ErrorKind::InvalidFilename))?;
+    File::open(rt, path)
 }
 
 fn read_named(rt: &HostRuntime, name: &[u8], buf: &mut [u8]) -> io::Result<usize>
@@ -120,26 +115,21 @@ pub fn read_file(rt: &HostRuntime, i: usize, buf: &mut [u8]) -> Result<usize, To
     ensures ok { IfOk result (λ n. IsPrefixLen n buf.new) }
     ensures err { OnErr result (length buf.new ≡ length buf.old) }
 {
-    let mut path = name_room();
+    let mut path = [0u8; NAME_ROOM];
     let length = arg(rt, i, &mut path);
-    match read_named(rt, &path[..length], buf) {
-        Ok(n) => Ok(n),
-        Err(error) => Err(tell(rt, &path[..length], error)),
-    }
+    let name = &path[..length];
+    read_named(rt, name, buf).map_err(|error| tell(rt, name, error))
 }
 
 // Writes on standard output. If that fails, it is said on standard error.
 pub fn hand_out(rt: &HostRuntime, what: &[u8], bytes: &[u8]) -> Result<(), Told> {
     let mut to = rt.stdout();
-    match to.write_all(bytes) {
-        Ok(()) => Ok(()),
-        Err(error) => Err(tell(rt, what, error)),
-    }
+    to.write_all(bytes).map_err(|error| tell(rt, what, error))
 }
 
 // Writes the name itself, and what ends it.
 pub fn write_name(rt: &HostRuntime, what: &[u8], i: usize, end: &[u8]) -> Result<(), Told> {
-    let mut path = name_room();
+    let mut path = [0u8; NAME_ROOM];
     let length = arg(rt, i, &mut path);
     hand_out(rt, what, &path[..length])?;
     hand_out(rt, what, end)

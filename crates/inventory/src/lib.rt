@@ -137,11 +137,8 @@ fn put_elements(
 {
     let n = table::bounded(count);
     let mut at = from;
-    let mut i: usize = 0;
-    while i < n {
-        let p = ps[i];
-        at = put_element(out, at, p, healths[i]);
-        i += 1;
+    for i in 0..n {
+        at = put_element(out, at, ps[i], healths[i]);
     }
     at
 }

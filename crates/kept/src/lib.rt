@@ -11,7 +11,7 @@ use arguments::{PageCall, Poke};
 fn set_length(page: &mut [u8], kept: usize, size: usize) -> usize
     ensures { (result ≡ min size (length page.old)) × (page.new ≡ lengthened kept (min size (length page.old)) page.old) }
 {
-    let n = slices::smaller(size, page.len());
+    let n = size.min(page.len());
     slices::clear(page, kept, n);
     n
 }
@@ -22,8 +22,7 @@ fn poke(page: &mut [u8], kept: usize, p: Poke)
     if kept <= p.place {
         return;
     }
-    let byte = [p.byte];
-    slices::put(page, p.place, &byte);
+    slices::put(page, p.place, &[p.byte]);
 }
 
 // Makes a call on the kept page, and returns how long it then is.
@@ -36,9 +35,7 @@ pub fn call(page: &mut [u8], kept: usize, call: PageCall) -> usize
             poke(page, kept, p);
             kept
         }
-        PageCall::Read(_) => kept,
-        PageCall::Next(_) => kept,
-        PageCall::ReadScsi(_) => kept,
+        PageCall::Read(_) | PageCall::Next(_) | PageCall::ReadScsi(_) => kept,
     }
 }
 
@@ -57,11 +54,10 @@ fn replace(page: &mut [u8], kept: usize, written: &[u8]) -> usize
 pub fn keep(page: &mut [u8], kept: usize, written: &[u8]) -> usize
     ensures { (result ≡ kept_with kept written.now page.old) × (page.new ≡ stored page.old 0 written.now) }
 {
-    let length = replace(page, kept, written);
-    if written.len() == 0 {
+    if written.is_empty() {
         return kept;
     }
-    length
+    replace(page, kept, written)
 }
 
 // Keeps the bytes that an answer wrote, also where there are none, if its number is 0 and there is room; and returns how long the kept page then is.

@@ -1,13 +1,14 @@
 // What device and reader share of a status page: the header and the descriptor, in either byte order.
 #![tactic(auto)]
 
-ghost use Rattle.std.specs.Prelude.{◌≡◌, ◌≤◌, length, drop};
+ghost use Rattle.std.specs.Prelude.{◌≡◌, ◌<◌, length, drop, replicate};
+ghost use Rattle.slices.specs.Lists.{stored};
 ghost use Rattle.strokes.specs.Rows.{row_bytes};
 ghost use Rattle.layout.specs.Bytes.{header_bytes, header_in, descriptor_bytes, descriptor_in};
 
 use paper::ElementId;
 use strokes::Row;
-use words::Order;
+use words::{Number, Order};
 
 // The numbers of a page's first 32 bytes.
 #[repr(C)]
@@ -36,11 +37,11 @@ impl Header {
     pub fn row(self, o: Order) -> Row
         ensures { row_bytes result ≡ header_bytes o self }
     {
-        let number = words::turned4(self.number, o);
-        let returned = words::turned4(self.returned, o);
-        let busy = words::turned4(self.busy.0, o);
-        let limit = words::turned2(self.limit, o);
-        let removed = words::turned2(self.removed, o);
+        let number = self.number.turned(o);
+        let returned = self.returned.turned(o);
+        let busy = self.busy.0.turned(o);
+        let limit = self.limit.turned(o);
+        let removed = self.removed.turned(o);
         Row {
             first: words::joined4(number, returned),
             second: words::joined4(busy, words::joined2(limit, removed)),
@@ -49,42 +50,33 @@ impl Header {
         }
     }
 
-    // The header that a slice starts with; a byte past its end counts as 0. Of 32 bytes in the order of ATA pages none is tested for, since a
-    // comparison reads one for each line.
+    // The header that a slice starts with; a byte past its end counts as 0.
     pub fn read(s: &[u8], o: Order) -> Header
         ensures { result ≡ header_in o s.now }
     {
-        if s.len() < 32 {
-            return Header::part(s, o);
-        }
-        match o {
-            Order::Little => Header::whole(s, o),
-            Order::Big => Header::part(s, o),
+        match s.first_chunk::<32>() {
+            Some(bytes) => Header::whole(bytes, o),
+            None => Header::part(s, o),
         }
     }
 
+    #[inline(never)]
     fn part(s: &[u8], o: Order) -> Header
+        requires { length s.now < 32 }
         ensures { result ≡ header_in o s.now }
     {
-        Header {
-            number: words::number4(s, 0, o),
-            returned: words::number4(s, 4, o),
-            busy: ElementId(words::number4(s, 8, o)),
-            limit: words::number2(s, 12, o),
-            removed: words::number2(s, 14, o),
-        }
+        Header::whole(&padded(s), o)
     }
 
-    fn whole(s: &[u8], o: Order) -> Header
-        requires { 32 ≤ length s.now }
-        ensures { result ≡ header_in o s.now }
+    fn whole(bytes: &[u8; 32], o: Order) -> Header
+        ensures { result ≡ header_in o bytes.now }
     {
         Header {
-            number: words::of4(s[0], s[1], s[2], s[3], o),
-            returned: words::of4(s[4], s[5], s[6], s[7], o),
-            busy: ElementId(words::of4(s[8], s[9], s[10], s[11], o)),
-            limit: words::of2(s[12], s[13], o),
-            removed: words::of2(s[14], s[15], o),
+            number: u32::read(bytes, 0, o),
+            returned: u32::read(bytes, 4, o),
+            busy: ElementId(u32::read(bytes, 8, o)),
+            limit: u16::read(bytes, 12, o),
+            removed: u16::read(bytes, 14, o),
         }
     }
 }
@@ -94,30 +86,25 @@ impl Descriptor {
     pub fn row(self, o: Order) -> Row
         ensures { row_bytes result ≡ descriptor_bytes o self }
     {
-        let id = words::turned4(self.id.0, o);
-        let marks = words::of4(
-            0,
-            slices::bit(self.restorable),
-            self.kind,
-            self.health,
-            Order::Little,
-        );
+        let id = self.id.0.turned(o);
+        let restorable = slices::bit(self.restorable);
+        let marks = u32::from_le_bytes([0, restorable, self.kind, self.health]);
         Row {
             first: words::joined4(0, id),
             second: words::joined4(0, marks),
-            third: words::turned8(self.capacity, o),
+            third: self.capacity.turned(o),
             fourth: 0,
         }
     }
 
-    // The descriptor that a slice starts with; of 32 bytes none is tested for.
+    // The descriptor that a slice starts with.
     pub fn read(s: &[u8], o: Order) -> Descriptor
         ensures { result ≡ descriptor_in o s.now }
     {
-        if s.len() < 32 {
-            return Descriptor::part(s, o);
+        match s.first_chunk::<32>() {
+            Some(bytes) => Descriptor::whole(bytes, o),
+            None => Descriptor::part(s, o),
         }
-        Descriptor::whole(s, o)
     }
 
     // The descriptor that stands from a place on.
@@ -127,33 +114,36 @@ impl Descriptor {
         if !slices::does_fit(32, at, s.len()) {
             return Descriptor::part(slices::tail(s, at), o);
         }
-        Descriptor::whole(&s[at..], o)
+        Descriptor::read(&s[at..at + 32], o)
     }
 
+    #[inline(never)]
     fn part(s: &[u8], o: Order) -> Descriptor
+        requires { length s.now < 32 }
         ensures { result ≡ descriptor_in o s.now }
     {
-        let flags = slices::byte_at(s, 13);
-        Descriptor {
-            id: ElementId(words::number4(s, 4, o)),
-            restorable: flags % 2 == 1,
-            kind: slices::byte_at(s, 14),
-            health: slices::byte_at(s, 15),
-            capacity: words::number8(s, 16, o),
-        }
+        Descriptor::whole(&padded(s), o)
     }
 
-    fn whole(s: &[u8], o: Order) -> Descriptor
-        requires { 32 ≤ length s.now }
-        ensures { result ≡ descriptor_in o s.now }
+    fn whole(bytes: &[u8; 32], o: Order) -> Descriptor
+        ensures { result ≡ descriptor_in o bytes.now }
     {
-        let flags = s[13];
+        let flags = bytes[13];
         Descriptor {
-            id: ElementId(words::of4(s[4], s[5], s[6], s[7], o)),
+            id: ElementId(u32::read(bytes, 4, o)),
             restorable: flags % 2 == 1,
-            kind: s[14],
-            health: s[15],
-            capacity: words::of8(s[16], s[17], s[18], s[19], s[20], s[21], s[22], s[23], o),
+            kind: bytes[14],
+            health: bytes[15],
+            capacity: u64::read(bytes, 16, o),
         }
     }
+}
+
+// Fewer than 32 bytes, and zeros after them.
+fn padded(s: &[u8]) -> [u8; 32]
+    ensures { result ≡ stored (replicate 32 0) 0 s.now }
+{
+    let mut bytes = [0; 32];
+    slices::put(&mut bytes, 0, s);
+    bytes
 }

@@ -1,5 +1,6 @@
 -- docs/BENCH.md: "Words are separated by one or more spaces (leading and trailing ones do not count; no other byte is a space)."
 use Rattle.std.specs.Prelude.{ℕ, zero, suc, Bool, true, false, not, cond, ◌&&◌, ◌||◌, List, [], ◌∷◌, eqb, get_or}
+use Rattle.std.specs.Str.{bytes_eq}
 
 abbrev pub drop_while : (ℕ → Bool) → List ℕ → List ℕ
 drop_while f [] = []
@@ -28,15 +29,9 @@ abbrev pub is_empty : List ℕ → Bool
 is_empty [] = true
 is_empty (b ∷ l) = false
 
-unfoldable pub same : List ℕ → List ℕ → Bool
-same [] [] = true
-same [] (y ∷ b) = false
-same (x ∷ a) [] = false
-same (x ∷ a) (y ∷ b) = eqb x y && same a b
-
 -- this name, and no more than n words; that there are no fewer the fields say, since none may be empty
 unfoldable pub named : List ℕ → ℕ → List ℕ → Bool
-named name n l = same (word_at 0 l) name && is_empty (word_at n l)
+named name n l = bytes_eq (word_at 0 l) name && is_empty (word_at n l)
 
 -- "a line without words, or whose first word starts with `#`, is passed over"
 abbrev pub is_passed : List ℕ → Bool

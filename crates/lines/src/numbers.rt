@@ -1,73 +1,43 @@
 // Hexadecimal numbers in either case.
-ghost use Rattle.std.specs.Prelude.{false, ◌≡◌, ◌≤◌};
-ghost use Rattle.text.specs.Digits.{within, digit_of};
-ghost use Rattle.lines.specs.Numbers.{no_number, field_of, field_at};
+ghost use Rattle.std.specs.Prelude.{◌≡◌, ◌≤◌, IfSome};
+ghost use Rattle.lines.specs.Numbers.{field_of, field_at};
+ghost use Rattle.lines.specs.Private as private;
 
-use crate::{Field, parts};
+use crate::parts::word_at;
 
-fn is_within(low: u8, high: u8, c: u8) -> bool
-    ensures { result ≡ within low high c }
+// A digit's value.
+fn digit(c: u8) -> Option<u64>
+    ensures { result ≡ private.digit_at c }
 {
-    if c < low {
-        return false;
-    }
-    c <= high
-}
-
-// A digit's value; 16 for any other byte.
-fn digit(c: u8) -> u64
-    ensures { result ≡ digit_of c }
-{
-    if is_within(48, 57, c) {
-        return (c - 48) as u64;
-    }
-    if is_within(65, 70, c) {
-        return (c - 55) as u64;
-    }
-    if is_within(97, 102, c) {
-        return (c - 87) as u64;
-    }
-    16
-}
-
-fn no_number() -> Field
-    ensures { result ≡ no_number }
-{
-    Field {
-        fits: false,
-        value: 0,
+    match c {
+        b'0'..=b'9' => Some((c - 48) as u64),
+        b'A'..=b'F' => Some((c - 55) as u64),
+        b'a'..=b'f' => Some((c - 87) as u64),
+        _ => None,
     }
 }
 
 // The number that a word is, if it is at most `most`.
-fn number(w: &[u8], most: u64) -> Field
-    ensures { result ≡ field_of most w.now }
+fn number(word: &[u8], most: u64) -> Option<u64>
+    ensures { result ≡ field_of most word.now }
 {
-    if w.len() == 0 {
-        return no_number();
-    }
-    if 16 < w.len() {
-        return no_number();
+    if word.is_empty() || 16 < word.len() {
+        return None;
     }
     let mut value: u64 = 0;
-    let mut i = 0;
-    while i < w.len() {
-        let d = digit(w[i]);
-        if d == 16 {
-            return no_number();
-        }
-        value = value * 16 + d;
-        i += 1;
+    for &c in word {
+        value = value * 16 + digit(c)?;
     }
     if most < value {
-        return no_number();
+        return None;
     }
-    Field { fits: true, value }
+    Some(value)
 }
 
 // Word k of a line as a number of at most `most`.
-pub fn field_at(line: &[u8], k: usize, most: u64) -> Field
-    ensures { (result ≡ field_at line.now k most) × (result.value ≤ most) }
+pub fn field_at(line: &[u8], k: usize, most: u64) -> Option<u64>
+    ensures value { result ≡ field_at line.now k most }
+    ensures most { IfSome result (λ value. value ≤ most) }
 {
-    number(parts::word_at(line, k), most)
+    number(word_at(line, k), most)
 }

@@ -3,23 +3,15 @@
 
 use input::Told;
 
-// A byte more than may be listed, so that a longer input is seen.
-fn page_room() -> [u8; 65537] {
-    [0u8; 65537]
-}
-
-// Room for every listing.
-fn text_room() -> [u8; 80000] {
-    [0u8; 80000]
-}
-
 fn list(rt: &HostRuntime) -> Result<(), Told> {
-    let mut buf = page_room();
-    let n = input::read_input(rt, b"list: standard input", &mut buf)?;
-    let mut out = text_room();
-    let listed = listing::list(&buf[..n], &mut out);
-    let size = listed.count;
-    input::hand_out(rt, b"list: standard output", &out[..size])
+    let mut page = [0u8; input::PAGE_ROOM];
+    let size = input::read_input(rt, b"list: standard input", &mut page)?;
+    let mut text = [0u8; input::LISTING_ROOM];
+    // There is room for every listing.
+    let Ok(end) = listing::list(&page[..size], &mut text) else {
+        return Ok(());
+    };
+    input::hand_out(rt, b"list: standard output", &text[..end])
 }
 
 // The words tell of a failure; the exit status is 0 all the same.

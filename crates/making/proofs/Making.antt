@@ -10,21 +10,20 @@ use Rattle.device.specs.declared.Device.{Device}
 use Rattle.offer.proofs.Laws.{check_refused, check_blocks, good_blocks}
 use Rattle.offer.specs.Check.{check_of, verdict}
 use Rattle.offer.specs.Elements.{offered, table_of, healths_of}
-use Rattle.offer.specs.declared.Checked.TheVariants.{Refused, Blocks}
-use Rattle.offer.specs.declared.Checked.{Checked}
+use Rattle.std.proofs.Common.{Option, Some, None}
 use Rattle.offer.specs.declared.Offer.{Offer}
 use Rattle.paper.specs.Told.{said}
 use Rattle.paper.specs.declared.Answer.TheVariants.{Done, TableRefused}
 use Rattle.table.specs.declared.Table.{Table}
 use Rattle.making.specs.Making.{made_of}
 
-module _ (there : Device) (o : Offer) (c : Checked) (is_c : verdict c ≡ check_of o) where
-  pub made_refused : c ≡ Refused → said TableRefused there ≡ made_of there o
+module _ (there : Device) (o : Offer) (c : Option ℕ) (is_c : verdict c ≡ check_of o) where
+  pub made_refused : c ≡ None → said TableRefused there ≡ made_of there o
   unfolding made_of
   made_refused e = sym (rw (check_refused o (sym (ap verdict e) ∙ is_c)))
 
-  module _ (n : ℕ) (is_n : c ≡ Blocks n) where
-    counted : verdict (Blocks n) ≡ check_of o
+  module _ (n : ℕ) (is_n : c ≡ Some n) where
+    counted : verdict (Some n) ≡ check_of o
     counted = sym (ap verdict is_n) ∙ is_c
 
     pub made_fits : 1 ≤ n

@@ -6,8 +6,8 @@ use Rattle.device.specs.Machine.{Event, command, step, media_error, power_cut, c
 use Rattle.device.specs.Record.{under_way}
 use Rattle.device.specs.declared.Device.{Device}
 use Rattle.offer.specs.Examples.{offer_a}
-use Rattle.paper.specs.Registers.{Registers}
 use Rattle.paper.specs.Told.{tells}
+use Rattle.paper.specs.declared.Registers.{Registers}
 use Rattle.paper.specs.declared.Security.TheVariants.{Locked, Unlocked, Frozen}
 use Rattle.slices.specs.Lists.{all}
 use Rattle.making.specs.Making.{fresh, made_of}

@@ -7,21 +7,20 @@ ghost use Rattle.making.specs.Making.{made_of};
 
 use cells::{Cells, Mark, Note, Position};
 use device::{Device, Stepped};
-use offer::{Checked, Offer};
+use offer::Offer;
 use paper::{Answer, Lba};
 
 // A device of an offered table, or 8 and the device that was there.
 pub fn make_device(there: Device, offer: Offer) -> Stepped
     ensures { said result.answer result.device ≡ made_of there offer }
 {
-    let checked = offer.check();
-    let Checked::Blocks(n) = checked else {
+    let Some(blocks) = offer.check() else {
         return Stepped {
             device: there,
             answer: Answer::TableRefused,
         };
     };
-    let start = Lba(n - 1);
+    let start = Lba(blocks - 1);
     Stepped {
         device: Device {
             table: offer.table(),

@@ -4,6 +4,8 @@ use mathlib.Core.List.{List}
 use mathlib.Core.Path.{◌≡◌, sym, ap, ◌∙◌}
 use native.Mathlib.Omega.{arith}
 use lib.ListN.{length, take, length-append}
+use Rattle.std.proofs.Common.{Option, Result}
+use Rattle.offences.specs.declared.Offence.{Offence}
 use Rattle.paper.specs.declared.ElementId.{ElementId}
 use Rattle.request.specs.declared.Request.{Request}
 use Rattle.slices.specs.Lists.{stored, ended}
@@ -11,24 +13,12 @@ use Rattle.text.proofs.Digits.{length_decimal}
 use Rattle.text.specs.Digits.{digits}
 use Rattle.text.specs.Text.{ascii}
 use Rattle.walk.specs.Next.{Values, ask, end, place, heard, next_of}
-use Rattle.walk.specs.declared.Move.{Move}
 use Rattle.moves.specs.Moves.{ask_line, move_line, next_text}
 
 pub ask_laid : (id : ElementId) (i x : List ℕ) → i ≡ digits 16 8 id.0 → x ≡ stored (ascii "ask 00000000\n") 4 i → x ≡ ask_line id
 ask_laid id i x is_i is_x = is_x ∙ rw is_i
 
--- a line, by what it was found to be
-module _ (m found : Move) (is_found : m ≡ found) (t : List ℕ) (is_t : t ≡ move_line (heard found).state) (d : List ℕ) (at : ℕ) where
-  same : t ≡ move_line (heard m).state
-  same = is_t ∙ sym (rw is_found)
-
-  pub move_stored : (x : List ℕ) → x ≡ stored d at t → x ≡ stored d at (move_line (heard m).state)
-  move_stored x is_x = is_x ∙ ap (stored d at) same
-
-  pub move_ended : (r : ℕ) → r ≡ ended d at t → r ≡ ended d at (move_line (heard m).state)
-  move_ended r is_r = is_r ∙ ap (ended d at) same
-
-module _ (page kept : List ℕ) (q : Request) (m : Move) (is_kept : kept ≡ take 65536 page) (is_m : heard m ≡ next_of kept q) where
+module _ (page kept : List ℕ) (q : Request) (m : Result (Option ElementId) Offence) (is_kept : kept ≡ take 65536 page) (is_m : heard m ≡ next_of kept q) where
   line : move_line (heard m).state ≡ next_text page q
   unfolding next_text
   line = rw (is_m, is_kept)

@@ -6,9 +6,9 @@ ghost use Rattle.slices.specs.Lists.{stored, ended};
 ghost use Rattle.walk.specs.Next.{heard};
 ghost use Rattle.moves.specs.Moves.{ask_line, move_line, next_text};
 
+use offences::Offence;
 use paper::ElementId;
 use request::Request;
-use walk::Move;
 
 fn ask_line(id: ElementId) -> [u8; 13]
     ensures { result ≡ ask_line id }
@@ -18,17 +18,14 @@ fn ask_line(id: ElementId) -> [u8; 13]
     line
 }
 
-fn put_move(out: &mut [u8], at: usize, next: Move) -> usize
+fn put_move(out: &mut [u8], at: usize, next: Result<Option<ElementId>, Offence>) -> usize
     ensures out_after { out.new ≡ stored out.old at (move_line (heard next).state) }
     ensures value { result ≡ ended out.old at (move_line (heard next).state) }
 {
     match next {
-        Move::Ask(id) => {
-            let line = ask_line(id);
-            writing::word(out, at, &line)
-        }
-        Move::End => writing::word(out, at, b"end\n"),
-        Move::Refused(place) => writing::numbered(out, at, b"9 at ", place as u64),
+        Ok(Some(id)) => writing::word(out, at, &ask_line(id)),
+        Ok(None) => writing::word(out, at, b"end\n"),
+        Err(offence) => writing::numbered(out, at, b"9 at ", offence.0 as u64),
     }
 }
 

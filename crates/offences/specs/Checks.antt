@@ -1,5 +1,5 @@
 -- Document 01, "The reader": "Checks, first offence reported, descriptor by descriptor, its place counted from the page's first byte".
-use Rattle.std.specs.Prelude.{ℕ, zero, suc, ◌+◌, ◌*◌, Bool, not, ◌&&◌, ◌||◌, List, eqb, ltb, drop}
+use Rattle.std.specs.Prelude.{ℕ, zero, suc, ◌+◌, ◌*◌, Bool, not, ◌&&◌, ◌||◌, List, eqb, ltb, drop, Result, ⊤}
 use Rattle.layout.specs.Bytes.{descriptor_in}
 use Rattle.layout.specs.declared.Descriptor.{Descriptor}
 use Rattle.paper.specs.Elements.{removed_health}
@@ -30,12 +30,12 @@ abbrev pub earned : Descriptor → Bool
 earned d = not d.restorable || removed_health d.health
 
 -- ".. (its byte 4); restoration bit .. (13); type outside the report type (14); health outside the filter (15)"
-abbrev pub check_of : Request → ℕ → ℕ → Descriptor → Offence
+abbrev pub check_of : Request → ℕ → ℕ → Descriptor → Result ⊤ Offence
 check_of q last base d =
     unless (in_turn q last d.id.0) (base + 4) or_else
     (unless (earned d) (base + 13) or_else
     (unless (takes_type (report_type_of q) d.kind) (base + 14) or_else
     unless (takes_health (filter_of q) d.health) (base + 15)))
 
-abbrev pub offence_at : Order → List ℕ → Request → ℕ → Offence
+abbrev pub offence_at : Order → List ℕ → Request → ℕ → Result ⊤ Offence
 offence_at o s q k = check_of q (last_before o s k) (base_of k) (descriptor_at o s k)

@@ -6,19 +6,15 @@ ghost use Rattle.layout.specs.Bytes.{descriptor_in};
 ghost use Rattle.offences.specs.Checks.{descriptor_at, in_turn, earned, check_of, offence_at};
 ghost use Rattle.offences.specs.First.{first_below};
 ghost use Rattle.offences.specs.Private as private;
-ghost use Rattle.offences.specs.declared.Offence.TheVariants.{Clean};
 
 use layout::Descriptor;
 use paper::ElementId;
 use request::Request;
 use words::Order;
 
-// What a check finds: nothing, or the place of an offence.
+// What a check refuses: the byte place of an offence, counted from the page's first byte.
 #[derive(Clone, Copy)]
-pub enum Offence {
-    Clean,
-    At(usize),
-}
+pub struct Offence(pub usize);
 
 // Where a list is taken up: a descriptor's place, and the identifier before it, 0 being none.
 #[derive(Clone, Copy)]
@@ -48,24 +44,24 @@ fn is_earned(d: Descriptor) -> bool
 }
 
 // The first offence of a descriptor that starts at `base`, after the last identifier.
-fn judge(d: Descriptor, request: Request, last: ElementId, base: usize) -> Offence
+fn judge(d: Descriptor, request: Request, last: ElementId, base: usize) -> Result<(), Offence>
     requires { base + 32 < 2 ^ 64 }
     ensures { result ≡ check_of request last.0 base d }
 {
     let id = d.id;
     if !is_in_turn(request, last, id) {
-        return Offence::At(base + 4);
+        return Err(Offence(base + 4));
     }
     if !is_earned(d) {
-        return Offence::At(base + 13);
+        return Err(Offence(base + 13));
     }
     if !request.takes_type(d.kind) {
-        return Offence::At(base + 14);
+        return Err(Offence(base + 14));
     }
     if !request.takes_health(d.health) {
-        return Offence::At(base + 15);
+        return Err(Offence(base + 15));
     }
-    Offence::Clean
+    Ok(())
 }
 
 // Descriptor k of a page, in an order. A byte past the end counts as 0.
@@ -80,7 +76,7 @@ pub fn descriptor_at(page: &[u8], k: u32, o: Order) -> Descriptor
 
 // Whether a descriptor is clean and its restoration bit clear. What is promised is that it is clean, and of any other nothing.
 fn is_plain(d: Descriptor, request: Request, last: ElementId) -> bool
-    ensures { result ≡ true → (base : ℕ) → Clean ≡ check_of request last.0 base d }
+    ensures { result ≡ true → (base : ℕ) → check_of request last.0 base d ≡ Ok tt }
 {
     let id = d.id;
     if !is_in_turn(request, last, id) {
@@ -104,6 +100,7 @@ fn whole_at(page: &[u8], at: usize, o: Order) -> Descriptor
 }
 
 // Past plain descriptors, two a turn, if the list is all there. An odd last one is left.
+// No `for` over pairs: the place where a turn ends is the answer, and would be counted beside them.
 fn past_plain(page: &[u8], request: Request, count: u32, o: Order, from: Place) -> Place
     requires { private.Swept o page.now request count from.at from.last.0 }
     ensures { (from.at ≤ result.at) × private.Swept o page.now request count result.at result.last.0 }
@@ -134,7 +131,8 @@ fn past_plain(page: &[u8], request: Request, count: u32, o: Order, from: Place) 
 // ---- The list
 
 // The first offence of the first `count` descriptors: past plain ones, and what is left judged one by one.
-pub fn check_list(page: &[u8], request: Request, count: u32, o: Order) -> Offence
+// No `for`: how far a turn goes is told only by the plain descriptors that it finds.
+pub fn check_list(page: &[u8], request: Request, count: u32, o: Order) -> Result<(), Offence>
     ensures { result ≡ first_below count (offence_at o page.now request) }
 {
     let end = 32 + 32 * (count as usize);
@@ -146,17 +144,13 @@ pub fn check_list(page: &[u8], request: Request, count: u32, o: Order) -> Offenc
         next = past_plain(page, request, count, o, next);
         let at = next.at;
         if end <= at {
-            return Offence::Clean;
+            return Ok(());
         }
         let d = Descriptor::read_at(page, at, o);
-        let found = judge(d, request, next.last, at);
-        if let Offence::At(place) = found {
-            return Offence::At(place);
-        }
-        let id = d.id;
+        judge(d, request, next.last, at)?;
         next = Place {
             at: at + 32,
-            last: id,
+            last: d.id,
         };
     }
 }

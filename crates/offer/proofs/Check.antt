@@ -7,8 +7,8 @@ use native.Mathlib.Nat.{add_assoc, add-zero, zero-add}
 use native.Mathlib.Numerals.{add-one}
 use native.Mathlib.Omega.{arith}
 use lib.Dec.{eqb, leb, ltb}
-use lib.ListN.{length, take, drop, get_or, length-take, drop_of_length-le}
-use lib.Seq.{drop-cons, get_or-take}
+use lib.ListN.{length, take, drop, get_or, drop_of_length-le}
+use lib.Seq.{drop-cons}
 use borrow.Author.Tests.{le-leb, lt-leb, lt-ltb, le-ltb, eq-eqb, ne_eqb, leb-true, leb-false}
 use Rattle.paper.specs.Told.{Told, tells}
 use Rattle.slices.specs.Lists.{all}
@@ -18,8 +18,7 @@ use Rattle.offer.specs.Check.{sized, shaped, healthy, summed, good, check_of, ve
 use Rattle.offer.specs.Elements.{offered, blank, element_ids, block_sum}
 use Rattle.offer.specs.Private.{may_follow, walk_from}
 use Rattle.offer.specs.Promises.{VerdictInjective}
-use Rattle.offer.specs.declared.Checked.TheVariants.{Refused, Blocks}
-use Rattle.offer.specs.declared.Checked.{Checked}
+use Rattle.std.proofs.Common.{Option, Some, None}
 use Rattle.offer.specs.declared.Element.{Element}
 use Rattle.offer.specs.declared.Offer.{Offer}
 
@@ -82,27 +81,25 @@ pub follow_u64 : (last total : ℕ) (e : Element) (m : Bool) → m ≡ may_follo
 follow_u64 last total e m is_m y = omega (arith, follow_fits last total e m is_m y)
 
 -- `whole` is what the walk comes to; `so`, the loop's invariant
-module _ (es : List Element) (n i last total : ℕ) (whole : Checked) (so : walk_from last total (drop i (take n es)) ≡ whole) where
-  module _ (full : length es ≡ 128) (few : n ≤ 128) (less : i < n) (m : Bool) (is_m : m ≡ may_follow last total (get_or es i blank)) where
-    here : drop i (take n es) ≡ get_or es i blank ∷ drop (i + 1) (take n es)
-    here =
-        let inside : i < length (take n es) = simp length-take (omega arith) in
-        rw (drop-cons (take n es) i blank inside, add-one i, get_or-take n es i blank less)
+module _ (es : List Element) (i last total : ℕ) (whole : Option ℕ) (so : walk_from last total (drop i es) ≡ whole) where
+  module _ (less : i < length es) (m : Bool) (is_m : m ≡ may_follow last total (get_or es i blank)) where
+    here : drop i es ≡ get_or es i blank ∷ drop (i + 1) es
+    here = rw (drop-cons es i blank less, add-one i)
 
-    pub walk_bad : m ≡ false → Refused ≡ whole
+    pub walk_bad : m ≡ false → None ≡ whole
     walk_bad e = sym (rw (here, sym is_m ∙ e)) ∙ so
 
-    pub walk_on : m ≡ true → walk_from (get_or es i blank).id.0 (total + (get_or es i blank).blocks) (drop (i + 1) (take n es)) ≡ whole
+    pub walk_on : m ≡ true → walk_from (get_or es i blank).id.0 (total + (get_or es i blank).blocks) (drop (i + 1) es) ≡ whole
     walk_on e = sym (rw (here, sym is_m ∙ e)) ∙ so
 
-  module _ (done : n ≤ i) where
-    nothing : drop i (take n es) ≡ []
-    nothing = drop_of_length-le (take n es) {i = i} (simp length-take (omega arith))
+  module _ (done : length es ≤ i) where
+    nothing : drop i es ≡ []
+    nothing = drop_of_length-le es {i = i} done
 
-    pub walk_few : total < 2 → Refused ≡ whole
+    pub walk_few : total < 2 → None ≡ whole
     walk_few h = sym (rw (nothing, lt-leb 2 total h)) ∙ so
 
-    pub walk_end : 2 ≤ total → Blocks total ≡ whole
+    pub walk_end : 2 ≤ total → Some total ≡ whole
     walk_end h = sym (rw (nothing, le-leb 2 total h)) ∙ so
 
 -- ## The walk is the check
@@ -110,8 +107,8 @@ module _ (es : List Element) (n i last total : ℕ) (whole : Checked) (so : walk
 abbrev accepts : ℕ → ℕ → List Element → Bool
 accepts last total es = (ascending last (element_ids es) && (all shaped es && summed (total + block_sum es))) && all healthy es
 
-abbrev judged : ℕ → ℕ → List Element → Checked
-judged last total es = cond (accepts last total es) (Blocks (total + block_sum es)) Refused
+abbrev judged : ℕ → ℕ → List Element → Option ℕ
+judged last total es = cond (accepts last total es) (Some (total + block_sum es)) None
 
 walk_checks : (last total : ℕ) (es : List Element) → total ≤ 2 ^ 48 → walk_from last total es ≡ judged last total es
 walk_checks last total [] h = simp (add-zero, le-leb total (2 ^ 48) h, and-true)
@@ -121,9 +118,9 @@ walk_checks last total (e ∷ es) h =
   where
     go : (a s f b : Bool) → leb (total + e.blocks) (2 ^ 48) ≡ b
         → (total + e.blocks ≤ 2 ^ 48 → walk_from e.id.0 (total + e.blocks) es ≡ judged e.id.0 (total + e.blocks) es)
-        → cond (a && (s && (f && b))) (walk_from e.id.0 (total + e.blocks) es) Refused
+        → cond (a && (s && (f && b))) (walk_from e.id.0 (total + e.blocks) es) None
         ≡ cond (((a && ascending e.id.0 (element_ids es)) && ((s && all shaped es) && summed (total + e.blocks + block_sum es))) && (f && all healthy es))
-        (Blocks (total + e.blocks + block_sum es)) Refused
+        (Some (total + e.blocks + block_sum es)) None
     go true true true true q later = later (leb-true (total + e.blocks) (2 ^ 48) q)
     go true true true false q later =
         let over : 2 ^ 48 < total + e.blocks + block_sum es = omega (arith, leb-false (total + e.blocks) (2 ^ 48) q) in
@@ -133,24 +130,24 @@ walk_checks last total (e ∷ es) h =
     go false s f b q later = refl
 
 module _ (o : Offer) (b : Bool) (is_b : b ≡ sized o.count o.limit) where
-  pub check_unsized : b ≡ false → verdict Refused ≡ check_of o
+  pub check_unsized : b ≡ false → verdict None ≡ check_of o
   unfolding good check_of
   check_unsized n = sym (rw (sym is_b ∙ n))
 
-  pub check_walked : b ≡ true → (r : Checked) → r ≡ walk_from 0 0 (take o.count o.elements) → verdict r ≡ check_of o
+  pub check_walked : b ≡ true → (r : Option ℕ) → r ≡ walk_from 0 0 (take o.count o.elements) → verdict r ≡ check_of o
   unfolding good check_of
   check_walked y r is_r =
       rw (is_r, walk_checks 0 0 (offered o) (omega arith), zero-add (block_sum (offered o)), sym is_b ∙ y)
       (told ((ascending 0 (element_ids (offered o)) && (all shaped (offered o) && summed (block_sum (offered o)))) && all healthy (offered o)))
     where
-      told : (g : Bool) → verdict (cond g (Blocks (block_sum (offered o))) Refused) ≡ cond g (tells 0 (block_sum (offered o) ∷ [])) (tells 8 [])
+      told : (g : Bool) → verdict (cond g (Some (block_sum (offered o))) None) ≡ cond g (tells 0 (block_sum (offered o) ∷ [])) (tells 8 [])
       told true = refl
       told false = refl
 
 -- ## No second answer (specs/Promises)
 
 pub verdict_injective : VerdictInjective
-verdict_injective Refused Refused e = refl
-verdict_injective Refused (Blocks n) e = absurd (let z : ◌≡◌ {A = ℕ} 8 0 = ap (λ (u : Told (List ℕ)). u.number) e in omega arith)
-verdict_injective (Blocks m) Refused e = absurd (let z : ◌≡◌ {A = ℕ} 0 8 = ap (λ (u : Told (List ℕ)). u.number) e in omega arith)
-verdict_injective (Blocks m) (Blocks n) e = ap Blocks (let z : (m ∷ []) ≡ (n ∷ []) = ap (λ (u : Told (List ℕ)). u.state) e in cc)
+verdict_injective None None e = refl
+verdict_injective None (Some n) e = absurd (let z : ◌≡◌ {A = ℕ} 8 0 = ap (λ (u : Told (List ℕ)). u.number) e in omega arith)
+verdict_injective (Some m) None e = absurd (let z : ◌≡◌ {A = ℕ} 0 8 = ap (λ (u : Told (List ℕ)). u.number) e in omega arith)
+verdict_injective (Some m) (Some n) e = ap Some (let z : (m ∷ []) ≡ (n ∷ []) = ap (λ (u : Told (List ℕ)). u.state) e in cc)

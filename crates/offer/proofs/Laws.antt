@@ -12,7 +12,7 @@ use Rattle.table.proofs.Ascending.{both}
 use Rattle.table.specs.Elements.{ascending}
 use Rattle.offer.specs.Check.{sized, shaped, healthy, summed, structured, good, check_of, verdict}
 use Rattle.offer.specs.Elements.{offered, element_ids, block_sum}
-use Rattle.offer.specs.declared.Checked.TheVariants.{Refused, Blocks}
+use Rattle.std.proofs.Common.{Some, None}
 use Rattle.offer.specs.declared.Element.{Element}
 use Rattle.offer.specs.declared.Offer.{Offer}
 
@@ -21,7 +21,7 @@ module _ (o : Offer) where
   refused-not true n q = absurd (let z : ◌≡◌ {A = ℕ} 8 0 = ap (λ (u : Told (List ℕ)). u.number) q in omega arith)
   refused-not false n q = refl
 
-  pub check_refused : verdict Refused ≡ check_of o → good o.count (offered o) o.limit ≡ false
+  pub check_refused : verdict None ≡ check_of o → good o.count (offered o) o.limit ≡ false
   unfolding check_of
   check_refused q = refused-not (good o.count (offered o) o.limit) (block_sum (offered o)) q
 
@@ -29,7 +29,7 @@ module _ (o : Offer) where
   blocks_so true m n q = (refl, let z : (m ∷ []) ≡ (n ∷ []) = ap (λ (u : Told (List ℕ)). u.state) q in cc)
   blocks_so false m n q = absurd (let z : ◌≡◌ {A = ℕ} 0 8 = ap (λ (u : Told (List ℕ)). u.number) q in omega arith)
 
-  pub check_blocks : (m : ℕ) → verdict (Blocks m) ≡ check_of o → (good o.count (offered o) o.limit ≡ true) × (m ≡ block_sum (offered o))
+  pub check_blocks : (m : ℕ) → verdict (Some m) ≡ check_of o → (good o.count (offered o) o.limit ≡ true) × (m ≡ block_sum (offered o))
   unfolding check_of
   check_blocks m q = blocks_so (good o.count (offered o) o.limit) m (block_sum (offered o)) q
 

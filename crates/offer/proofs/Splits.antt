@@ -1,5 +1,5 @@
 -- An offered table, split by loops that make something of each of the first and leave the rest as it was filled.
-use Prim.Native.Nat.{ℕ, ◌+◌, ◌-◌, ◌≤◌, ◌<◌, min}
+use Prim.Native.Nat.{ℕ, ◌+◌, ◌-◌, ◌≤◌, ◌<◌}
 use mathlib.Core.List.{List, [], ◌∷◌, ◌++◌, map}
 use mathlib.Core.Path.{◌≡◌, refl, sym, ap, ◌∙◌}
 use native.Mathlib.Numerals.{add-one}
@@ -7,7 +7,6 @@ use native.Mathlib.Omega.{arith}
 use lib.ListN.{length, take, drop, get_or, set, replicate, length-map}
 use lib.Seq.{take-suc, length-take-le, take_at, drop_at}
 use Rattle.slices.proofs.Lists.{map-append, map-map, padded, padded_more}
-use Rattle.table.proofs.Arrays.{taken}
 use Rattle.table.specs.Elements.{blank_part, part_ids, identifiers}
 use Rattle.table.specs.declared.Part.{Part}
 use Rattle.offer.specs.Elements.{offered, element_ids, part_of, blank, table_of}
@@ -18,35 +17,20 @@ use Rattle.offer.specs.declared.Offer.{Offer}
 blank_part_lem : part_of blank ≡ blank_part
 blank_part_lem = refl
 
--- ## What a loop has made of the first i
+-- ## What a loop has made of the first i, of up to 128
 
 module _ {A B : Type 0} (f : A → B) (z : B) (es : List A) (d : A) where
   -- made of the first i, and z in the other places
   abbrev pub made : ℕ → List B
   made i = padded z 128 (map f (take i es))
 
-  pub made_none : (b : B) → b ≡ z → replicate 128 b ≡ made 0
-  made_none b e = ap (replicate 128) e
-
-  module _ (full : length es ≡ 128) (count n i : ℕ) (is_n : n ≡ min count 128) where
-    pub made_next : i < n → (out : List B) → out ≡ made i → (b : B) → b ≡ f (get_or es i d) → set out i b ≡ made (i + 1)
-    made_next less out so b is_b =
-        let long : length (map f (take i es)) ≡ i = length-map (take i es) f ∙ length-take-le i es (omega arith) in
-        let more : map f (take (i + 1) es) ≡ map f (take i es) ++ (f (get_or es i d) ∷ []) =
-        rw (add-one i, take-suc es i d (omega arith)) (map-append f (take i es) (get_or es i d ∷ [])) in
-        let at : set out i b ≡ set (made i) (length (map f (take i es))) (f (get_or es i d)) = rw (so, is_b, long) in
-        at ∙ padded_more z 128 (map f (take i es)) (f (get_or es i d)) (omega (arith, long)) ∙ ap (padded z 128) (sym more)
-
-    pub made_all : i ≤ n → n ≤ i → (out : List B) → out ≡ made i → out ≡ map f (take count es) ++ replicate (128 - count) z
-    made_all low high out so =
-        let end : i ≡ n = omega arith in
-        let long : length (map f (take n es)) ≡ n = length-map (take n es) f ∙ length-take-le n es (omega arith) in
-        let same : 128 - n ≡ 128 - count = omega arith in
-        so ∙ rw (end, long, same, taken es count n full is_n)
-
-pub table_built : (o : Offer) (ps : List Part) → ps ≡ map part_of (offered o) ++ replicate (128 - o.count) blank_part
-    → record { parts = ps; count = o.count; limit = o.limit } ≡ table_of o
-table_built o ps e = λ i. record { parts = e i; count = o.count; limit = o.limit }
+  pub made_next : (i : ℕ) → length es ≤ 128 → i < length es → (out : List B) → out ≡ made i → (b : B) → b ≡ f (get_or es i d) → set out i b ≡ made (i + 1)
+  made_next i few less out so b is_b =
+      let long : length (map f (take i es)) ≡ i = length-map (take i es) f ∙ length-take-le i es (omega arith) in
+      let more : map f (take (i + 1) es) ≡ map f (take i es) ++ (f (get_or es i d) ∷ []) =
+      rw (add-one i, take-suc es i d less) (map-append f (take i es) (get_or es i d ∷ [])) in
+      let at : set out i b ≡ set (made i) (length (map f (take i es))) (f (get_or es i d)) = rw (so, is_b, long) in
+      at ∙ padded_more z 128 (map f (take i es)) (f (get_or es i d)) (omega (arith, long)) ∙ ap (padded z 128) (sym more)
 
 -- ## What an offered table is split into, of up to 128
 

@@ -1,12 +1,10 @@
 -- Document 01, "Table and cells": which tables are good. "Any other table is refused (8)."
-use Rattle.std.specs.Prelude.{ℕ, ◌^◌, Bool, cond, ◌&&◌, ◌||◌, List, [], ◌∷◌, eqb, leb}
+use Rattle.std.specs.Prelude.{ℕ, ◌^◌, Bool, cond, ◌&&◌, ◌||◌, Option, None, Some, List, [], ◌∷◌, eqb, leb}
 use Rattle.paper.specs.Elements.{storage_type, graded_health}
 use Rattle.paper.specs.Told.{Told, tells}
 use Rattle.slices.specs.Lists.{all}
 use Rattle.table.specs.Elements.{ascending}
 use Rattle.offer.specs.Elements.{offered, element_ids, block_sum}
-use Rattle.offer.specs.declared.Checked.TheVariants.{Refused, Blocks}
-use Rattle.offer.specs.declared.Checked.{Checked}
 use Rattle.offer.specs.declared.Element.{Element}
 use Rattle.offer.specs.declared.Offer.{Offer}
 
@@ -38,7 +36,7 @@ good count es limit = structured count es limit && all healthy es
 unfoldable pub check_of : Offer → Told (List ℕ)
 check_of o = cond (good o.count (offered o) o.limit) (tells 0 (block_sum (offered o) ∷ [])) (tells 8 [])
 
--- the number and values of each answer
-abbrev pub verdict : Checked → Told (List ℕ)
-verdict Refused = tells 8 []
-verdict (Blocks n) = tells 0 (n ∷ [])
+-- the number and values of each answer: 8, or 0 and the blocks of all
+abbrev pub verdict : Option ℕ → Told (List ℕ)
+verdict None = tells 8 []
+verdict (Some n) = tells 0 (n ∷ [])

@@ -1,11 +1,11 @@
 // An offered table: its check, its search, and how it is split into the table as built and the starting healths.
 #![tactic(auto)]
 
-ghost use Rattle.std.specs.Prelude.{◌≡◌, ◌-◌, ◌≤◌, ◌^◌, ◌++◌, map, take, replicate};
+ghost use Rattle.std.specs.Prelude.{◌≡◌, ◌-◌, ◌≤◌, ◌^◌, ◌++◌, length, map, replicate};
 ghost use Rattle.table.specs.Elements.{blank_part};
 ghost use Rattle.offer.specs.Check.{sized, shaped, healthy, check_of, verdict};
 ghost use Rattle.offer.specs.Elements as elements;
-ghost use Rattle.offer.specs.Elements.{offered, part_of};
+ghost use Rattle.offer.specs.Elements.{offered, part_of, health_of};
 ghost use Rattle.offer.specs.Private as private;
 ghost use Rattle.offer.specs.Search as search;
 
@@ -25,25 +25,12 @@ pub struct Element {
     pub blocks: u64,
 }
 
-// An offered table.
+// An offered table. An array of 128 with a count beside: fixed memory, laid out as the C interface's image has it.
 #[derive(Clone, Copy)]
 pub struct Offer {
     pub elements: [Element; 128],
     pub count: usize,
     pub limit: u16,
-}
-
-// What the check says: 8, or 0 with the blocks of all elements.
-#[derive(Clone, Copy)]
-pub enum Checked {
-    Refused,
-    Blocks(u64),
-}
-
-#[derive(Clone, Copy)]
-pub enum Found {
-    Missing,
-    One(Element),
 }
 
 // ---- An element, and the part of it that is built
@@ -129,118 +116,84 @@ fn may_follow(e: Element, last: u32, total: u64) -> bool
     e.blocks <= 281474976710656 - total
 }
 
-// The first n elements, checked one after the other.
-fn walk(es: [Element; 128], n: usize) -> Checked
-    requires { n ≤ 128 }
-    ensures { result ≡ private.walk_from 0 0 (take n es) }
+// The blocks of all elements, checked one after the other.
+fn walk(elements: &[Element]) -> Option<u64>
+    ensures { result ≡ private.walk_from 0 0 elements.now }
 {
-    let mut i: usize = 0;
     let mut last: u32 = 0;
     let mut total: u64 = 0;
-    while i < n {
-        let e = es[i];
-        if !may_follow(e, last, total) {
-            return Checked::Refused;
+    for element in elements {
+        if !may_follow(*element, last, total) {
+            return None;
         }
-        last = e.id.0;
-        total += e.blocks;
-        i += 1;
+        last = element.id.0;
+        total += element.blocks;
     }
-    if total < 2 {
-        return Checked::Refused;
-    }
-    Checked::Blocks(total)
+    if total < 2 { None } else { Some(total) }
 }
 
 // ---- The search of an offered table
 
-// What the search comes to where it stops.
-fn stopped(e: Element, want: u32) -> Found
-    ensures { result ≡ private.stopped want e }
+// It stops at the first identifier that is not below the one sought, as the search of a table does: one function for both would want a trait,
+// longer than the two.
+fn found_in(elements: &[Element], id: ElementId) -> Option<Element>
+    ensures { result ≡ search.find id.0 elements.now }
 {
-    if e.id.0 == want {
-        return Found::One(e);
-    }
-    Found::Missing
-}
-
-// Among the first `count`: it stops at the first identifier that is not below the one sought.
-fn found_in(es: [Element; 128], count: usize, want: u32) -> Found
-    ensures { result ≡ search.find want (take count es) }
-{
-    let n = table::bounded(count);
-    let mut i: usize = 0;
-    while i < n {
-        let e = es[i];
-        if want <= e.id.0 {
-            return stopped(e, want);
-        }
-        i += 1;
-    }
-    Found::Missing
+    let place = elements.iter().position(|element| id.0 <= element.id.0)?;
+    let element = elements[place];
+    (element.id.0 == id.0).then_some(element)
 }
 
 // ---- An offered table, split
 
-// The parts of the first `count`, then blanks.
-fn parts_of(es: [Element; 128], count: usize) -> [Part; 128]
-    ensures { result ≡ map part_of (take count es) ++ replicate (128 - count) blank_part }
+// The parts of up to 128 elements, then blanks.
+fn parts_of(elements: &[Element]) -> [Part; 128]
+    requires { length elements.now ≤ 128 }
+    ensures { result ≡ map part_of elements.now ++ replicate (128 - length elements.now) blank_part }
 {
-    let n = table::bounded(count);
-    let mut ps = [table::blank_part(); 128];
-    let mut i: usize = 0;
-    while i < n {
-        let e = es[i];
-        ps[i] = part_of(e);
-        i += 1;
+    let mut parts = [table::blank_part(); 128];
+    for (place, element) in elements.iter().enumerate() {
+        parts[place] = part_of(*element);
     }
-    ps
+    parts
 }
 
-// The healths of the first `count`, then zeros.
-fn healths_of(es: [Element; 128], count: usize) -> [u8; 128]
-    ensures { result ≡ map elements.health_of (take count es) ++ replicate (128 - count) 0 }
+// Their healths, then zeros.
+fn healths_of(elements: &[Element]) -> [u8; 128]
+    requires { length elements.now ≤ 128 }
+    ensures { result ≡ map health_of elements.now ++ replicate (128 - length elements.now) 0 }
 {
-    let n = table::bounded(count);
-    let mut hs: [u8; 128] = [0; 128];
-    let mut i: usize = 0;
-    while i < n {
-        let e = es[i];
-        hs[i] = e.health;
-        i += 1;
+    let mut healths: [u8; 128] = [0; 128];
+    for (place, element) in elements.iter().enumerate() {
+        healths[place] = element.health;
     }
-    hs
+    healths
 }
 
 impl Offer {
-    // Whether document 01 accepts the table, and then its blocks in all.
-    pub fn check(self) -> Checked
+    // Where document 01 accepts the table, its blocks in all.
+    pub fn check(self) -> Option<u64>
         ensures { verdict result ≡ check_of self }
     {
-        let n = self.count;
-        if !is_sized(n, self.limit) {
-            return Checked::Refused;
+        if !is_sized(self.count, self.limit) {
+            return None;
         }
-        let es = self.elements;
-        walk(es, n)
+        walk(&self.elements[..self.count])
     }
 
     // The element of an identifier.
-    pub fn find(self, id: ElementId) -> Found
+    pub fn find(self, id: ElementId) -> Option<Element>
         ensures { result ≡ search.find id.0 (offered self) }
     {
-        let es = self.elements;
-        found_in(es, self.count, id.0)
+        found_in(&self.elements[..table::bounded(self.count)], id)
     }
 
     // The table as it is built of the offer.
     pub fn table(self) -> Table
         ensures { result ≡ elements.table_of self }
     {
-        let es = self.elements;
-        let parts = parts_of(es, self.count);
         Table {
-            parts,
+            parts: parts_of(&self.elements[..table::bounded(self.count)]),
             count: self.count,
             limit: self.limit,
         }
@@ -250,7 +203,6 @@ impl Offer {
     pub fn healths(self) -> [u8; 128]
         ensures { result ≡ elements.healths_of self }
     {
-        let es = self.elements;
-        healths_of(es, self.count)
+        healths_of(&self.elements[..table::bounded(self.count)])
     }
 }

@@ -1,4 +1,4 @@
--- The table of what is open, a way out and a turn of its search at a time.
+-- The table of what is open: the forms of a register, and 002's alternatives as its rows.
 use Prim.Native.Nat.{ℕ, ◌+◌, ◌-◌, ◌%◌, ◌≤◌, ◌<◌, ◌^◌}
 use mathlib.Core.Bool.{Bool, true, false, ◌&&◌, ◌||◌, or_assoc, and-or_distrib_left, and-or_distrib_right}
 use mathlib.Core.List.{List}
@@ -10,7 +10,7 @@ use lib.Dec.{eqb}
 use lib.ListN.{length, get_or, drop, drop_of_length-le}
 use lib.Seq.{drop-cons}
 use borrow.Author.Tests.{eq-eqb, ne_eqb}
-use Rattle.slices.specs.Lists.{any}
+use Rattle.std.specs.List.{list_any}
 use Rattle.open.specs.Open.{is_open}
 use Rattle.open.specs.Private.{leaves, row_fits, any_fits}
 use Rattle.open.specs.declared.Row.{Row}
@@ -26,26 +26,11 @@ pub low_bits : (k v x : ℕ) → leaves (2 ^ k - 1) v x ≡ eqb (x % 2 ^ k) v
 unfolding leaves
 low_bits k v x = ap (λ (y : ℕ). eqb y v) (and_mask x k)
 
--- ## A row
-
-module _ (r : Row) (code feature lba : ℕ) where
-  pub fits_code : (code ≡ r.code → ⊥) → false ≡ row_fits r code feature lba
-  fits_code n = sym (rw (ne_eqb _ _ n))
-
-  module _ (same : code ≡ r.code) where
-    pub fits_feature : (bit_and feature r.feature_mask ≡ r.feature → ⊥) → false ≡ row_fits r code feature lba
-    unfolding leaves
-    fits_feature n = sym (rw (eq-eqb _ _ same, ne_eqb _ _ n))
-
-    pub fits_lba : bit_and feature r.feature_mask ≡ r.feature → eqb (bit_and lba r.lba_mask) r.lba ≡ row_fits r code feature lba
-    unfolding leaves
-    fits_lba y = sym (rw (eq-eqb _ _ same, eq-eqb _ _ y))
-
 -- ## The table
 
 -- the rows are those that the code has: a proof need not write them
 pub by_rows : (rows : List Row) (code feature lba : ℕ) (b : Bool) → b ≡ any_fits rows code feature lba
-    → ((c f l : ℕ) → any (λ (r : Row). row_fits r c f l) rows ≡ is_open c f l) → b ≡ is_open code feature lba
+    → ((c f l : ℕ) → list_any (λ (r : Row). row_fits r c f l) rows ≡ is_open c f l) → b ≡ is_open code feature lba
 unfolding any_fits
 by_rows rows code feature lba b is_b rule = is_b ∙ rule code feature lba
 
@@ -59,22 +44,3 @@ or_chain false b c d e f g = simp or_assoc
 pub spread : (a b p q r s z : Bool)
     → ((a || b) && (p || (q || (r || s))) || z) ≡ (a && p || (b && p || (a && q || (b && q || (a && r || (b && r || (a && s || (b && s || z))))))))
 spread a b p q r s z = simp (and-or_distrib_left, and-or_distrib_right, or_assoc)
-
--- ## The search
-
-module _ (code feature lba i : ℕ) (rows : List Row) (full : length rows ≡ 16)
-    (so : any_fits (drop i rows) code feature lba ≡ any_fits rows code feature lba) where
-  module _ (d : Row) (less : i < 16) (f : Bool) (is_f : f ≡ row_fits (get_or rows i d) code feature lba) where
-    next : any_fits (drop i rows) code feature lba ≡ (f || any_fits (drop (i + 1) rows) code feature lba)
-    unfolding any_fits
-    next = rw (drop-cons rows i d (omega arith), add-one i, is_f)
-
-    pub any_hit : f ≡ true → true ≡ any_fits rows code feature lba
-    any_hit e = sym (next ∙ rw e) ∙ so
-
-    pub any_pass : f ≡ false → any_fits (drop (i + 1) rows) code feature lba ≡ any_fits rows code feature lba
-    any_pass e = sym (next ∙ rw e) ∙ so
-
-  pub any_none : 16 ≤ i → false ≡ any_fits rows code feature lba
-  unfolding any_fits
-  any_none h = sym (rw (drop_of_length-le rows {i = i} (omega arith))) ∙ so

@@ -3,7 +3,7 @@
 -- What is open, in the documents' words, is `is_open` (specs/Open).
 use Rattle.std.specs.Prelude.{ℕ, Bool, ◌&&◌, List, eqb}
 use Rattle.std.specs.Int.Bits.{bit_and}
-use Rattle.slices.specs.Lists.{any}
+use Rattle.std.specs.List.{list_any}
 use Rattle.open.specs.declared.Row.{Row}
 
 unfoldable pub leaves : ℕ → ℕ → ℕ → Bool
@@ -13,4 +13,4 @@ abbrev pub row_fits : Row → ℕ → ℕ → ℕ → Bool
 row_fits r code feature lba = eqb code r.code && (leaves r.feature_mask r.feature feature && leaves r.lba_mask r.lba lba)
 
 unfoldable pub any_fits : List Row → ℕ → ℕ → ℕ → Bool
-any_fits rows code feature lba = any (λ (r : Row). row_fits r code feature lba) rows
+any_fits rows code feature lba = list_any (λ (r : Row). row_fits r code feature lba) rows

@@ -130,35 +130,25 @@ const OPEN: [Row; 16] = [
     },
 ];
 
+#[tactic(auto, unfolding(crate::specs::Private::leaves))]
 fn does_fit(row: Row, code: u8, feature: u16, lba: u64) -> bool
     ensures { result ≡ private.row_fits row code feature lba }
 {
-    if code != row.code {
-        return false;
-    }
-    if feature & row.feature_mask != row.feature {
-        return false;
-    }
-    lba & (row.lba_mask as u64) == row.lba as u64
+    code == row.code
+        && feature & row.feature_mask == row.feature
+        && lba & (row.lba_mask as u64) == row.lba as u64
 }
 
-fn any_fits(rows: [Row; 16], code: u8, feature: u16, lba: u64) -> bool
-    ensures { result ≡ private.any_fits rows code feature lba }
+#[tactic(auto, unfolding(crate::specs::Private::any_fits))]
+fn any_fits(rows: &[Row], code: u8, feature: u16, lba: u64) -> bool
+    ensures { result ≡ private.any_fits rows.now code feature lba }
 {
-    let mut i: usize = 0;
-    while i < 16 {
-        let row = rows[i];
-        if does_fit(row, code, feature, lba) {
-            return true;
-        }
-        i += 1;
-    }
-    false
+    rows.iter().any(|row| does_fit(*row, code, feature, lba))
 }
 
 // Whether a command is open during a removal.
 pub fn is_open(code: u8, feature: u16, lba: u64) -> bool
     ensures { result ≡ is_open code feature lba }
 {
-    any_fits(OPEN, code, feature, lba)
+    any_fits(&OPEN, code, feature, lba)
 }

@@ -3,42 +3,23 @@
 
 use input::Told;
 
-// A byte more than may be listed, so that a longer input is seen.
-fn page_room() -> [u8; 65537] {
-    [0u8; 65537]
-}
-
-// Room for every listing.
-fn text_room() -> [u8; 80000] {
-    [0u8; 80000]
-}
-
-fn list(rt: &HostRuntime, page: &[u8]) -> Result<(), Told> {
-    let mut out = text_room();
-    let listed = listing::list(page, &mut out);
-    let size = listed.count;
-    input::hand_out(rt, b"pages: standard output", &out[..size])
-}
+const OUTPUT: &[u8] = b"pages: standard output";
 
 fn list_file(rt: &HostRuntime, i: usize) -> Result<(), Told> {
-    input::write_name(rt, b"pages: standard output", i, b"\n")?;
-    let mut buf = page_room();
-    let n = input::read_file(rt, i, &mut buf)?;
-    list(rt, &buf[..n])
+    input::write_name(rt, OUTPUT, i, b"\n")?;
+    let mut page = [0u8; input::PAGE_ROOM];
+    let size = input::read_file(rt, i, &mut page)?;
+    let mut text = [0u8; input::LISTING_ROOM];
+    // There is room for every listing.
+    let Ok(end) = listing::list(&page[..size], &mut text) else {
+        return Ok(());
+    };
+    input::hand_out(rt, OUTPUT, &text[..end])
 }
 
-// A file that cannot be listed does not keep the next from being listed.
-fn list_files(rt: &HostRuntime) -> Result<(), Told> {
-    let mut ended = Ok(());
-    for i in 1..input::arg_count(rt) {
-        if let Err(told) = list_file(rt, i) {
-            ended = Err(told);
-        }
-    }
-    ended
-}
-
-// The words tell of a failure; the exit status is 0 all the same.
+// A file that cannot be listed does not keep the next from being listed: the words tell of a failure, and the exit status is 0 all the same.
 fn main(rt: HostRuntime) {
-    let _ = list_files(&rt);
+    for i in 1..input::arg_count(&rt) {
+        let _ = list_file(&rt, i);
+    }
 }

@@ -1,5 +1,4 @@
 -- What is proved of `paper`'s definitions, and of its functions.
 pub mod Once
 pub mod Output
-pub mod Senses
 pub mod Table12

@@ -1,9 +1,8 @@
 -- Document 01, "What a call says": the number of each answer, and the sense of each number.
-use Rattle.std.specs.Prelude.{ℕ, cond, List, [], ◌∷◌, eqb}
+use Rattle.std.specs.Prelude.{ℕ, cond, List, [], ◌∷◌, Option, Some, None, eqb}
 use Rattle.paper.specs.declared.Answer.TheVariants.{Done, SecurityLocked, InProgress, Failed, InvalidField, BeyondMax, UnknownCommand, SmallBuffer, TableRefused, NoRemoval, GradeRefused}
 use Rattle.paper.specs.declared.Answer.{Answer}
-use Rattle.paper.specs.declared.Sensed.TheVariants.{None, Codes}
-use Rattle.paper.specs.declared.Sensed.{Sensed}
+use Rattle.paper.specs.declared.Sense.{Sense}
 
 -- "No." and "Meaning"
 abbrev pub number_of : Answer → ℕ
@@ -22,10 +21,10 @@ number_of GradeRefused = 11
 -- a number and its "Sense key/ASC/ASCQ"
 pub record Row : Type 0 where
   pub number : ℕ
-  pub sense : Sensed
+  pub sense : Option Sense
 
 abbrev pub row : ℕ → ℕ → ℕ → ℕ → Row
-row n key asc ascq = record { number = n; sense = Codes (record { key = key; asc = asc; ascq = ascq }) }
+row n key asc ascq = record { number = n; sense = Some (record { key = key; asc = asc; ascq = ascq }) }
 
 -- the rows with codes; every other number has none
 abbrev pub rows : List Row
@@ -39,10 +38,10 @@ rows =
     ∷ row 6 5 0x20 0x00
     ∷ []
 
-abbrev pub sense_in : List Row → ℕ → Sensed
+abbrev pub sense_in : List Row → ℕ → Option Sense
 sense_in [] n = None
 sense_in (r ∷ rs) n = cond (eqb n r.number) r.sense (sense_in rs n)
 
 -- the sense of a number
-abbrev pub sense_of : ℕ → Sensed
+abbrev pub sense_of : ℕ → Option Sense
 sense_of n = sense_in rows n

@@ -1,6 +1,11 @@
 -- Bytes in a lent buffer, and what a call says that writes them.
-use Rattle.std.specs.Prelude.{ℕ, cond, List, ◌++◌, ltb, length, drop}
+use Rattle.std.specs.Prelude.{ℕ, cond, List, ◌++◌, Result, Ok, Err, ltb, length, drop}
+use Rattle.paper.specs.Answers.{number_of}
 use Rattle.paper.specs.Told.{Told, tells}
+use Rattle.paper.specs.declared.Answer.TheVariants as answers
+use Rattle.paper.specs.declared.Answer.{Answer}
+use Rattle.paper.specs.declared.Unwritten.TheVariants.{InvalidField, SmallBuffer}
+use Rattle.paper.specs.declared.Unwritten.{Unwritten}
 
 -- how many bytes were written, and the whole buffer
 pub record Output : Type 0 where
@@ -9,6 +14,16 @@ pub record Output : Type 0 where
 
 abbrev pub output : ℕ → List ℕ → Output
 output n out = record { count = n; buffer = out }
+
+-- what a call answers that wrote nothing
+abbrev pub answer_for : Unwritten → Answer
+answer_for InvalidField = answers.InvalidField
+answer_for SmallBuffer = answers.SmallBuffer
+
+-- how many bytes the code wrote, or why none, and what it left
+abbrev pub wrote : Result ℕ Unwritten → List ℕ → Told Output
+wrote (Ok n) out = tells 0 (output n out)
+wrote (Err why) out = tells (number_of (answer_for why)) (output 0 out)
 
 -- some bytes at its front; a buffer that is too short gets 7 and stays untouched
 abbrev pub written : List ℕ → List ℕ → Told Output

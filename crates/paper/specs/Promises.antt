@@ -1,12 +1,13 @@
 -- What holds of every answer, of bytes in a lent buffer, and of table 12. Each is a statement; proofs/ has the proof under the same name in lower case.
-use Rattle.std.specs.Prelude.{ℕ, List, [], ◌≡◌, eqb, get_or}
+use Rattle.std.specs.Prelude.{ℕ, false, List, [], Result, ◌≡◌, get_or}
 use Rattle.paper.specs.Answers.{number_of}
-use Rattle.paper.specs.Output.{Output, output, written}
+use Rattle.paper.specs.Output.{Output, output, wrote, written}
 use Rattle.paper.specs.Table12.{aborts, grid, row_of, column_of}
 use Rattle.paper.specs.Told.{Told, said}
 use Rattle.paper.specs.declared.Answer.{Answer}
 use Rattle.paper.specs.declared.Command.{Command}
 use Rattle.paper.specs.declared.Security.{Security}
+use Rattle.paper.specs.declared.Unwritten.{Unwritten}
 
 -- no two answers have one number
 abbrev pub NumberInjective : Type 0
@@ -16,15 +17,14 @@ NumberInjective = (a b : Answer) → number_of a ≡ number_of b → a ≡ b
 abbrev pub NoSecondAnswer : Type 1
 NoSecondAnswer = (X : Type 0) (t : Told X) (a b : Answer) (x y : X) → said a x ≡ t → said b y ≡ t → (a ≡ b) × (x ≡ y)
 
--- nor, of a call that writes into a lent buffer, a second number of bytes or a second buffer
+-- nor, of a call that writes into a lent buffer, a second number of bytes, a second reason why there are none, or a second buffer
 abbrev pub OneOutput : Type 0
-OneOutput =
-    (t : Told Output) (a b : Answer) (m n : ℕ) (x y : List ℕ) → said a (output m x) ≡ t → said b (output n y) ≡ t → (a ≡ b) × (m ≡ n) × (x ≡ y)
+OneOutput = (t : Told Output) (a b : Result ℕ Unwritten) (x y : List ℕ) → wrote a x ≡ t → wrote b y ≡ t → (a ≡ b) × (x ≡ y)
 
 -- a refusal writes nothing
 abbrev pub RefusalWritesNothing : Type 0
 RefusalWritesNothing = (bytes out : List ℕ) → ((written bytes out).number ≡ 0 → ⊥) → (written bytes out).state ≡ output 0 out
 
--- "A two by three array of arrays: the command's row by the security state's column": its 1s are what table 12 aborts
+-- "A two by three array of arrays: the command's row by the security state's column": true is what table 12 aborts
 abbrev pub GridRight : Type 0
-GridRight = (k : Command) (s : Security) → eqb (get_or (get_or grid (row_of k) []) (column_of s) 0) 1 ≡ aborts k s
+GridRight = (k : Command) (s : Security) → get_or (get_or grid (row_of k) []) (column_of s) false ≡ aborts k s

@@ -14,7 +14,7 @@ aborts Status Locked = false
 aborts Status Unlocked = false
 aborts Status Frozen = false
 
--- ## As the code has it: rows by columns, and 1 is aborted (specs/Promises, `GridRight`)
+-- ## As the code has it: rows by columns (specs/Promises, `GridRight`)
 
 abbrev pub row_of : Command → ℕ
 row_of Remove = 0
@@ -25,5 +25,5 @@ column_of Locked = 0
 column_of Unlocked = 1
 column_of Frozen = 2
 
-abbrev pub grid : List (List ℕ)
-grid = (1 ∷ 0 ∷ 0 ∷ []) ∷ (0 ∷ 0 ∷ 0 ∷ []) ∷ []
+abbrev pub grid : List (List Bool)
+grid = (true ∷ false ∷ false ∷ []) ∷ (false ∷ false ∷ false ∷ []) ∷ []

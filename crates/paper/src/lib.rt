@@ -4,7 +4,8 @@
 ghost use Rattle.std.specs.Prelude.{◌≡◌};
 ghost use Rattle.paper.specs.Answers.{number_of, sense_of};
 ghost use Rattle.paper.specs.Flags.{is_on};
-ghost use Rattle.paper.specs.Registers.{low48};
+ghost use Rattle.paper.specs.Output.{answer_for};
+ghost use Rattle.paper.specs.Registers.{low48, identifier_of};
 ghost use Rattle.paper.specs.Table12.{aborts, row_of, column_of};
 
 // "An element identifier, a logical block address and a page count are three quantities kept apart."
@@ -19,6 +20,15 @@ pub struct Lba(pub u64);
 #[repr(C)]
 #[derive(Clone, Copy)]
 pub struct PageCount(pub u16);
+
+// What a command is handed over in. Of LBA, 48 bits count.
+#[derive(Clone, Copy)]
+pub struct Registers {
+    pub code: u8,
+    pub feature: u16,
+    pub count: u16,
+    pub lba: Lba,
+}
 
 // The columns of 000, table 12.
 #[derive(Clone, Copy)]
@@ -51,11 +61,11 @@ pub enum Answer {
     GradeRefused,
 }
 
-// What a call says that writes into a lent buffer, and how many bytes it wrote: none unless it says 0.
+// Why a call that writes into a lent buffer wrote nothing.
 #[derive(Clone, Copy)]
-pub struct Written {
-    pub answer: Answer,
-    pub count: usize,
+pub enum Unwritten {
+    InvalidField,
+    SmallBuffer,
 }
 
 #[derive(Clone, Copy)]
@@ -65,15 +75,8 @@ pub struct Sense {
     pub ascq: u8,
 }
 
-// Document 01's last column: three codes, or none, which is not 0/00/00.
-#[derive(Clone, Copy)]
-pub enum Sensed {
-    None,
-    Codes(Sense),
-}
-
-// 000, table 12: the command's row by the security state's column; 1 is aborted.
-const ABORTED: [[u8; 3]; 2] = [[1, 0, 0], [0, 0, 0]];
+// 000, table 12: the command's row by the security state's column.
+const ABORTED: [[bool; 3]; 2] = [[true, false, false], [false, false, false]];
 
 // Whether a flag's byte says yes: any but 0 does, so that no byte is wild.
 pub fn is_on(flag: u8) -> bool
@@ -88,6 +91,15 @@ impl Lba {
         ensures { result ≡ low48 self }
     {
         Lba(self.0 % 281474976710656)
+    }
+}
+
+impl Registers {
+    // FEATURE x 65,536 + COUNT.
+    pub fn identifier(self) -> ElementId
+        ensures { result ≡ identifier_of self }
+    {
+        ElementId(u32::from(self.feature) * 65536 + u32::from(self.count))
     }
 }
 
@@ -116,36 +128,49 @@ pub fn is_aborted(command: Command, security: Security) -> bool
 {
     let i = row(command);
     let j = column(security);
-    ABORTED[i][j] == 1
+    ABORTED[i][j]
 }
 
-// The number of an answer in document 01's table.
-pub fn number_of(answer: Answer) -> u8
-    ensures { result ≡ number_of answer }
-{
-    match answer {
-        Answer::Done => 0,
-        Answer::SecurityLocked => 1,
-        Answer::InProgress => 2,
-        Answer::Failed => 3,
-        Answer::InvalidField => 4,
-        Answer::BeyondMax => 5,
-        Answer::UnknownCommand => 6,
-        Answer::SmallBuffer => 7,
-        Answer::TableRefused => 8,
-        Answer::NoRemoval => 10,
-        Answer::GradeRefused => 11,
+impl From<Unwritten> for Answer {
+    ghost from_gives = { λ why answer. answer ≡ answer_for why };
+
+    fn from(why: Unwritten) -> Answer {
+        match why {
+            Unwritten::InvalidField => Answer::InvalidField,
+            Unwritten::SmallBuffer => Answer::SmallBuffer,
+        }
     }
 }
 
-fn codes(key: u8, asc: u8, ascq: u8) -> Sensed
-    ensures { result ≡ Sensed.Codes (record { key = key; asc = asc; ascq = ascq }) }
-{
-    Sensed::Codes(Sense { key, asc, ascq })
+// The number of an answer in document 01's table.
+impl From<Answer> for u8 {
+    ghost from_gives = { λ answer number. number ≡ number_of answer };
+
+    fn from(answer: Answer) -> u8 {
+        match answer {
+            Answer::Done => 0,
+            Answer::SecurityLocked => 1,
+            Answer::InProgress => 2,
+            Answer::Failed => 3,
+            Answer::InvalidField => 4,
+            Answer::BeyondMax => 5,
+            Answer::UnknownCommand => 6,
+            Answer::SmallBuffer => 7,
+            Answer::TableRefused => 8,
+            Answer::NoRemoval => 10,
+            Answer::GradeRefused => 11,
+        }
+    }
 }
 
-// The sense of a number in document 01's table.
-pub fn sense_at(number: u8) -> Sensed
+fn codes(key: u8, asc: u8, ascq: u8) -> Option<Sense>
+    ensures { result ≡ Some (record { key = key; asc = asc; ascq = ascq }) }
+{
+    Some(Sense { key, asc, ascq })
+}
+
+// The sense of a number in document 01's table: its last column has three codes, or none, which is not 0/00/00.
+pub fn sense_at(number: u8) -> Option<Sense>
     ensures { result ≡ sense_of number }
 {
     match number {
@@ -156,13 +181,13 @@ pub fn sense_at(number: u8) -> Sensed
         4 => codes(5, 0x24, 0x00),
         5 => codes(5, 0x21, 0x00),
         6 => codes(5, 0x20, 0x00),
-        _ => Sensed::None,
+        _ => None,
     }
 }
 
 // The sense of an answer.
-pub fn sense_of(answer: Answer) -> Sensed
+pub fn sense_of(answer: Answer) -> Option<Sense>
     ensures { result ≡ sense_of (number_of answer) }
 {
-    sense_at(number_of(answer))
+    sense_at(u8::from(answer))
 }

@@ -4,7 +4,7 @@
 ghost use Rattle.std.specs.Prelude.{◌≡◌, drop};
 ghost use Rattle.pieces.specs.Pieces as spec;
 
-// A line as far as it was read: its first `len` bytes; 201 if there are more than 200.
+// A line as far as it was read: its first `len` bytes; 201 if there are more than 200. Its room is fixed: nothing here is on the heap.
 #[derive(Clone, Copy)]
 pub struct Gathered {
     pub bytes: [u8; 200],
@@ -35,18 +35,15 @@ impl Gathered {
         }
     }
 
-    pub fn push(self, b: u8) -> Gathered
-        ensures { result ≡ spec.pushed self b }
+    pub fn push(&mut self, b: u8)
+        ensures { self.new ≡ spec.pushed self.old b }
     {
-        let at = self.len;
-        let mut next = self;
-        if at < 200 {
-            next.bytes[at] = b;
-            next.len = at + 1;
+        if self.len < 200 {
+            self.bytes[self.len] = b;
+            self.len += 1;
         } else {
-            next.len = 201;
+            self.len = 201;
         }
-        next
     }
 
     // The line with what a piece adds from a place on, up to the next newline or the piece's end.
@@ -54,22 +51,19 @@ impl Gathered {
         ensures { result ≡ spec.taken_from self (drop from piece.now) from }
     {
         let mut line = self;
-        let mut at = from;
-        while at < piece.len() {
-            let b = piece[at];
-            at += 1;
-            if b == b'\n' {
+        for at in from..piece.len() {
+            if piece[at] == b'\n' {
                 return Taken {
                     line,
-                    at,
+                    at: at + 1,
                     whole: true,
                 };
             }
-            line = line.push(b);
+            line.push(piece[at]);
         }
         Taken {
             line,
-            at,
+            at: from.max(piece.len()),
             whole: false,
         }
     }

@@ -12,10 +12,10 @@ use Rattle.offences.specs.Checks.{descriptor_at, last_before}
 use Rattle.reader.proofs.Taken.{Taken, taken}
 use Rattle.request.specs.Requests.{pages_of}
 use Rattle.request.specs.declared.Request.{Request}
+use Rattle.std.proofs.Common.{Some}
 use Rattle.words.specs.declared.Order.TheVariants.{Little}
 use Rattle.reach.specs.Opening.{accepted}
 use Rattle.reach.specs.Pages.{count_of, element_at, reach_of}
-use Rattle.reach.specs.declared.Bound.TheVariants.{UpTo}
 use Rattle.reach.specs.Promises.{CutBounds}
 
 module _ (s : List ℕ) (q : Request) (page : Taken Little s q) (cut : (header_in Little s).returned < (header_in Little s).number) where
@@ -46,6 +46,6 @@ cut_bounds s q ok cut =
     let n : ℕ = (header_in Little s).returned in
     let at_last = last s q page cut n refl in (
       full s q page cut (leb (room_of (pages_of q)) (header_in Little s).number) refl,
-      rw (lt-ltb n (header_in Little s).number cut) (ap (λ (id : ℕ). UpTo (record { 0 = id })) at_last.0),
+      rw (lt-ltb n (header_in Little s).number cut) (ap (λ (id : ℕ). Some (record { 0 = id })) at_last.0),
       at_last.1,
     )

@@ -9,11 +9,11 @@ use Rattle.reader.proofs.Reserved.{header_same, descriptor_same, last_same, read
 use Rattle.reader.specs.Reserved.{LooksAlike}
 use Rattle.request.specs.Requests.{request_for}
 use Rattle.request.specs.declared.Request.{Request}
+use Rattle.std.proofs.Common.{Some, None}
 use Rattle.words.specs.declared.Order.TheVariants.{Little}
 use Rattle.reach.specs.Opening.{bound, turn, accepted, open_of, judged}
 use Rattle.reach.specs.Pages.{count_of, element_at, reach_of, smallest, bound_of}
 use Rattle.reach.specs.Promises.{ReservedUnopened}
-use Rattle.reach.specs.declared.Bound.TheVariants.{Whole, UpTo}
 use Rattle.reach.specs.declared.Turn.TheVariants.{Older, Newer}
 
 -- ## One page
@@ -35,7 +35,7 @@ module _ (s s' : List ℕ) (alike : LooksAlike Little s s') where
   unfolding reach_of
   reach_same = λ i.
       let h = header_same Little s s' alike i in
-      cond (ltb h.returned h.number) (UpTo (record { 0 = last_same Little s s' alike h.returned i })) Whole
+      cond (ltb h.returned h.number) (Some (record { 0 = last_same Little s s' alike h.returned i })) None
 
 -- ## Both
 

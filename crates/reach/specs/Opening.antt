@@ -1,25 +1,23 @@
 -- "Compare two that the reader accepted for the same request"; "Refusals: 9 with the page's turn, older first."
-use Rattle.std.specs.Prelude.{ℕ, Bool, cond, List, eqb, ltb, length}
+use Rattle.std.specs.Prelude.{ℕ, Bool, cond, List, eqb, ltb, length, Option, Result, Ok, Err}
 use Rattle.paper.specs.Told.{Told, tells}
+use Rattle.paper.specs.declared.ElementId.{ElementId}
 use Rattle.reader.specs.Judgement.{read_of}
 use Rattle.request.specs.Requests.{request_of}
 use Rattle.request.specs.declared.Request.{Request}
 use Rattle.words.specs.declared.Order.TheVariants.{Little}
 use Rattle.reach.specs.Pages.{bound_of}
-use Rattle.reach.specs.declared.Bound.{Bound}
-use Rattle.reach.specs.declared.Opening.TheVariants.{Accepted, Refused}
-use Rattle.reach.specs.declared.Opening.{Opening}
 use Rattle.reach.specs.declared.Turn.TheVariants.{Older, Newer}
 use Rattle.reach.specs.declared.Turn.{Turn}
 
 -- what goes with the number: how far, or a page's turn
 pub data Values : Type 0 where
-  bound : Bound → Values
+  bound : Option ElementId → Values
   turn : Turn → Values
 
-abbrev pub heard : Opening → Told Values
-heard (Accepted b) = tells 0 (bound b)
-heard (Refused t) = tells 9 (turn t)
+abbrev pub heard : Result (Option ElementId) Turn → Told Values
+heard (Ok b) = tells 0 (bound b)
+heard (Err t) = tells 9 (turn t)
 
 -- the reader accepts the page for the request
 unfoldable pub accepted : List ℕ → Request → Bool

@@ -5,6 +5,7 @@ use mathlib.Core.List.{List, [], ◌∷◌, ◌++◌}
 use mathlib.Core.Path.{◌≡◌, refl}
 use lib.Dec.{eqb}
 use lib.ListN.{get_or, set, take, drop, replicate}
+use Rattle.std.proofs.Common.{None, Some}
 use Rattle.layout.specs.Examples.{zeros, header_g1, element_g1, front_g1, page_g1}
 use Rattle.layout.specs.Reserved.{in_header, in_descriptor}
 use Rattle.paper.specs.Told.{tells}
@@ -13,7 +14,6 @@ use Rattle.request.specs.declared.Request.{Request}
 use Rattle.slices.specs.Lists.{all, up_to}
 use Rattle.words.specs.declared.Order.TheVariants.{Little, Big}
 use Rattle.reader.specs.Judgement.{Values, header, place, read_of, slot_of}
-use Rattle.reader.specs.declared.Slot.TheVariants.{Outside, Holds}
 
 abbrev request : ℕ → ℕ → ℕ → Request
 request feature count lba = record { feature = feature; count = record { 0 = count }; lba = record { 0 = lba } }
@@ -22,7 +22,7 @@ G1Read : read_of Little page_g1 (request 0x4100 1 0) ≡ tells 0 (header header_
 unfolding refused takes_health
 G1Read = refl
 
-G1Slots : (slot_of Little page_g1 0 ≡ Holds element_g1) × (slot_of Little page_g1 1 ≡ Outside)
+G1Slots : (slot_of Little page_g1 0 ≡ Some element_g1) × (slot_of Little page_g1 1 ≡ None)
 G1Slots = (refl, refl)
 
 -- ## A byte or two changed, or another request
@@ -80,7 +80,7 @@ ones n = replicate n 0xFF
 abbrev wild : List ℕ
 wild = take 16 front_g1 ++ ones 20 ++ take 4 (drop 36 front_g1) ++ ones 5 ++ (0xFE ∷ take 10 (drop 46 front_g1)) ++ ones 8 ++ zeros 448
 
-reserved : (read_of Little wild (request 0x4100 1 0) ≡ tells 0 (header header_g1)) × (slot_of Little wild 0 ≡ Holds element_g1)
+reserved : (read_of Little wild (request 0x4100 1 0) ≡ tells 0 (header header_g1)) × (slot_of Little wild 0 ≡ Some element_g1)
 unfolding refused takes_health
 reserved = (refl, refl)
 

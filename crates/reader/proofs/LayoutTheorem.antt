@@ -12,8 +12,9 @@ use Rattle.layout.specs.Bytes.{header_in, returned_of}
 use Rattle.layout.specs.declared.Descriptor.{Descriptor}
 use Rattle.layout.specs.declared.Header.{Header}
 use Rattle.offences.specs.Checks.{base_of, descriptor_at, last_before, in_turn, earned, check_of, offence_at}
+use Rattle.std.proofs.Common.{Ok, Err, Result}
+use Rattle.std.specs.Prelude.{⊤}
 use Rattle.offences.specs.First.{unless, ◌or_else◌, first_below}
-use Rattle.offences.specs.declared.Offence.TheVariants.{Clean, At}
 use Rattle.offences.specs.declared.Offence.{Offence}
 use Rattle.paper.specs.Elements.{storage_type, removed_health, slow, graded_health}
 use Rattle.paper.specs.Told.{Told, tells}
@@ -108,7 +109,7 @@ descriptor_decides q last base d =
     (next (takes_type (report_type_of q) d.kind) (rule (base + 14) _) type.0 type.1 _ _
     (one (takes_health (filter_of q) d.health) (rule (base + 15) _) health.0 health.1)))
 
-pub next_same : (a b p : ℕ) (c : Offence) (rs : List Rule) → Decides c rs → Decides (unless (eqb a b) p or_else c) (rule p (a ≡ b) ∷ rs)
+pub next_same : (a b p : ℕ) (c : Result ⊤ Offence) (rs : List Rule) → Decides c rs → Decides (unless (eqb a b) p or_else c) (rule p (a ≡ b) ∷ rs)
 next_same a b p = next (eqb a b) (rule p (a ≡ b)) (eqb-true a b) (eq-eqb a b)
 
 module _ (o : Order) (s : List ℕ) (q : Request) where
@@ -123,8 +124,8 @@ module _ (o : Order) (s : List ℕ) (q : Request) where
   page_decides : Decides (page_offence o s q) (page_rules o s q)
   page_decides =
       let n = (header_in o s).returned in
-      let list : Offence = first_below n (offence_at o s q) in
-      let padding : Offence = first_below (length s - base_of n) (padding_at s (base_of n)) in
+      let list : Result ⊤ Offence = first_below n (offence_at o s q) in
+      let padding : Result ⊤ Offence = first_below (length s - base_of n) (padding_at s (base_of n)) in
       let rest : List Rule = below n (rules_at o s q) ++ below (length s - base_of n) (padding_rules s (base_of n)) in
       next (not (refused q)) (rule 0 (Asked q)) (λ e. asked_to q (not-true _ e)) (λ a. ap not (asked_from q a)) _ _
       (next_same (length s) (512 * pages_of q) 0 _ _
@@ -138,7 +139,7 @@ placed (header h) = 0
 placed (place p) = p
 
 module _ (o : Order) (s : List ℕ) (q : Request) where
-  abbrev answered : Offence → Told Values
+  abbrev answered : Result ⊤ Offence → Told Values
   answered a = answer_of a (header_in o s)
 
 pub takes_exactly : TakesExactly
@@ -156,13 +157,13 @@ given g (place p) = g
 
 module _ (o : Order) (s : List ℕ) (q : Request) where
   -- a header goes with 0, and is the page's
-  pub heard_clean : (h : Header) → tells 0 (header h) ≡ read_of o s q → (page_offence o s q ≡ Clean) × (h ≡ header_in o s)
+  pub heard_clean : (h : Header) → tells 0 (header h) ≡ read_of o s q → (page_offence o s q ≡ Ok tt) × (h ≡ header_in o s)
   unfolding given
   heard_clean h e =
-      let clean : page_offence o s q ≡ Clean = clean_0 (answered o s q) place refl (λ p. refl) (page_offence o s q) (ap (λ (t : Told Values). t.number) (sym e)) in
+      let clean : page_offence o s q ≡ Ok tt = clean_0 (answered o s q) place refl (λ p. refl) (page_offence o s q) (ap (λ (t : Told Values). t.number) (sym e)) in
       (clean, ap (λ (t : Told Values). given h t.state) (e ∙ ap (answered o s q) clean))
 
-  pub heard_at : (p : ℕ) → tells 9 (place p) ≡ read_of o s q → page_offence o s q ≡ At p
+  pub heard_at : (p : ℕ) → tells 9 (place p) ≡ read_of o s q → page_offence o s q ≡ Err (record { 0 = p })
   unfolding placed
   heard_at p e = at_9 (answered o s q) place refl (λ r. refl) placed (λ r. refl) (page_offence o s q) p (sym e)
 
@@ -170,10 +171,10 @@ tag : Values → ℕ
 tag (header h) = 0
 tag (place p) = 1
 
-header_of : (a : Offence) (g h : Header) → (answer_of a g).state ≡ header h → ((answer_of a g).number ≡ 0) × (g ≡ h)
+header_of : (a : Result ⊤ Offence) (g h : Header) → (answer_of a g).state ≡ header h → ((answer_of a g).number ≡ 0) × (g ≡ h)
 unfolding tag given
-header_of Clean g h e = (refl, ap (given g) e)
-header_of (At p) g h e = absurd (let no : ◌≡◌ {A = ℕ} 1 0 = ap tag e in omega arith)
+header_of (Ok _) g h e = (refl, ap (given g) e)
+header_of (Err p) g h e = absurd (let no : ◌≡◌ {A = ℕ} 1 0 = ap tag e in omega arith)
 
 pub with_header : (o : Order) (s : List ℕ) (q : Request) (h : Header) → (read_of o s q).state ≡ header h → ((read_of o s q).number ≡ 0) × (header_in o s ≡ h)
 with_header o s q h = header_of (page_offence o s q) (header_in o s) h

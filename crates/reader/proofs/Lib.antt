@@ -4,7 +4,7 @@ pub mod Examples
 pub mod Ignored
 pub mod LayoutTheorem
 pub mod Once
-pub mod Page
+pub mod Padding
 pub mod Reserved
 pub mod Rules
 pub mod Taken

@@ -9,6 +9,7 @@ use lib.Dec.{eqb, ltb}
 use lib.ListN.{drop}
 use lib.Seq.{get_or-drop}
 use borrow.Author.Tests.{ltb-true, ltb-false}
+use Rattle.std.proofs.Common.{None, Some}
 use Rattle.layout.proofs.Reserved.{header_reserved, descriptor_reserved}
 use Rattle.layout.specs.Bytes.{header_in, returned_of}
 use Rattle.layout.specs.Reserved.{in_descriptor, DescriptorsAlike}
@@ -23,7 +24,6 @@ use Rattle.reader.specs.Judgement.{answer_of, read_of, slot_of}
 use Rattle.reader.specs.Page.{padding_at, contents_of, page_offence}
 use Rattle.reader.specs.Promises.{ReservedUnseen}
 use Rattle.reader.specs.Reserved.{LooksAlike}
-use Rattle.reader.specs.declared.Slot.TheVariants.{Outside, Holds}
 
 module _ (o : Order) (s t : List ℕ) (alike : LooksAlike o s t) where
   abbrev n : ℕ
@@ -67,7 +67,7 @@ module _ (o : Order) (s t : List ℕ) (alike : LooksAlike o s t) where
     read_same = λ i. answer_of (offences_same i) (header_same i)
 
   slot_same : (k : ℕ) → slot_of o s k ≡ slot_of o t k
-  slot_same k = λ i. cond (ltb k (header_same i).returned) (Holds (descriptor_same k i)) Outside
+  slot_same k = λ i. cond (ltb k (header_same i).returned) (Some (descriptor_same k i)) None
 
 pub reserved_unseen : ReservedUnseen
 reserved_unseen o s t alike = (read_same o s t alike, slot_same o s t alike)

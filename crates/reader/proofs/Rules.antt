@@ -7,15 +7,19 @@ use mathlib.Core.Path.{◌≡◌, refl, sym, ap, subst, ◌∙◌}
 use native.Mathlib.Omega.{arith}
 use lib.Dec.{eqb}
 use borrow.Author.Tests.{eqb-true, eqb-false}
+use Rattle.std.proofs.Common.{Ok, Err, Result}
+use Rattle.std.specs.Prelude.{⊤}
 use Rattle.offences.specs.First.{unless, ◌or_else◌, first_below}
-use Rattle.offences.specs.declared.Offence.TheVariants.{Clean, At}
 use Rattle.offences.specs.declared.Offence.{Offence}
 use Rattle.paper.specs.Told.{Told, tells}
 use Rattle.reader.specs.Layout.{Rule, Each, FirstBroken, below}
 
-abbrev pub Decides : Offence → List Rule → Type 0
-Decides Clean rs = Each rs
-Decides (At p) rs = FirstBroken rs p
+abbrev at : ℕ → Result ⊤ Offence
+at p = Err (record { 0 = p })
+
+abbrev pub Decides : Result ⊤ Offence → List Rule → Type 0
+Decides (Ok _) rs = Each rs
+Decides (Err e) rs = FirstBroken rs e.0
 
 -- ## Put together
 
@@ -36,17 +40,17 @@ first_in [] ss p f = absurd f
 first_in (r ∷ rs) ss p (inl f) = inl f
 first_in (r ∷ rs) ss p (inr (h, f)) = inr (h, first_in rs ss p f)
 
-pub join : (a b : Offence) (rs ss : List Rule) → Decides a rs → Decides b ss → Decides (a or_else b) (rs ++ ss)
-join Clean Clean rs ss v w = each_both rs ss v w
-join Clean (At p) rs ss v w = first-after rs ss p v w
-join (At p) b rs ss v w = first_in rs ss p v
+pub join : (a b : Result ⊤ Offence) (rs ss : List Rule) → Decides a rs → Decides b ss → Decides (a or_else b) (rs ++ ss)
+join (Ok _) (Ok _) rs ss v w = each_both rs ss v w
+join (Ok _) (Err e) rs ss v w = first-after rs ss e.0 v w
+join (Err e) b rs ss v w = first_in rs ss e.0 v
 
 -- a rule more in front
 pub next : (t : Bool) (r : Rule) → (t ≡ true → r.Says) → (r.Says → t ≡ true)
-    → (b : Offence) (rs : List Rule) → Decides b rs → Decides (unless t r.place or_else b) (r ∷ rs)
+    → (b : Result ⊤ Offence) (rs : List Rule) → Decides b rs → Decides (unless t r.place or_else b) (r ∷ rs)
 next t r to from b rs v = join (unless t r.place) b (r ∷ []) rs (one t r to from) v
 
-pub all-below : (n : ℕ) (f : ℕ → Offence) (g : ℕ → List Rule) → ((k : ℕ) → Decides (f k) (g k)) → Decides (first_below n f) (below n g)
+pub all-below : (n : ℕ) (f : ℕ → Result ⊤ Offence) (g : ℕ → List Rule) → ((k : ℕ) → Decides (f k) (g k)) → Decides (first_below n f) (below n g)
 all-below zero f g v = tt
 all-below (suc n) f g v = join (first_below n f) (f n) (below n g) (g n) (all-below n f g v) (v n)
 
@@ -86,35 +90,35 @@ one-first (x ∷ rs) p r (inl (n, at)) (inr (h, g)) = absurd (n h)
 one-first (x ∷ rs) p r (inr (h, f)) (inl (m, to)) = absurd (m h)
 one-first (x ∷ rs) p r (inr (h, f)) (inr (k, g)) = one-first rs p r f g
 
-clean_if : (a : Offence) (rs : List Rule) → Decides a rs → Each rs → a ≡ Clean
-clean_if Clean rs v e = refl
-clean_if (At p) rs v e = absurd (never_both rs p e v)
+clean_if : (a : Result ⊤ Offence) (rs : List Rule) → Decides a rs → Each rs → a ≡ Ok tt
+clean_if (Ok _) rs v e = refl
+clean_if (Err p) rs v e = absurd (never_both rs p.0 e v)
 
-at_if : (a : Offence) (rs : List Rule) (p : ℕ) → Decides a rs → FirstBroken rs p → a ≡ At p
-at_if Clean rs p v f = absurd (never_both rs p v f)
-at_if (At r) rs p v f = ap At (one-first rs r p v f)
+at_if : (a : Result ⊤ Offence) (rs : List Rule) (p : ℕ) → Decides a rs → FirstBroken rs p → a ≡ at p
+at_if (Ok _) rs p v f = absurd (never_both rs p v f)
+at_if (Err r) rs p v f = ap at (one-first rs r.0 p v f)
 
 -- ## An answer that goes by a check: 0 where it is clean, else 9 with the place
 
-module _ {X : Type 0} (t : Offence → Told X) (place : ℕ → X) (is_0 : (t Clean).number ≡ 0) (is_9 : (p : ℕ) → t (At p) ≡ tells 9 (place p)) where
-  pub clean_0 : (a : Offence) → (t a).number ≡ 0 → a ≡ Clean
-  clean_0 Clean e = refl
-  clean_0 (At p) e = absurd (let no : ◌≡◌ {A = ℕ} 9 0 = sym (ap (λ (u : Told X). u.number) (is_9 p)) ∙ e in omega arith)
+module _ {X : Type 0} (t : Result ⊤ Offence → Told X) (place : ℕ → X) (is_0 : (t (Ok tt)).number ≡ 0) (is_9 : (p : ℕ) → t (at p) ≡ tells 9 (place p)) where
+  pub clean_0 : (a : Result ⊤ Offence) → (t a).number ≡ 0 → a ≡ Ok tt
+  clean_0 (Ok _) e = refl
+  clean_0 (Err p) e = absurd (let no : ◌≡◌ {A = ℕ} 9 0 = sym (ap (λ (u : Told X). u.number) (is_9 p.0)) ∙ e in omega arith)
 
   -- a place can be told from the answer
-  pub at_9 : (placed : X → ℕ) → ((p : ℕ) → placed (place p) ≡ p) → (a : Offence) (p : ℕ) → t a ≡ tells 9 (place p) → a ≡ At p
-  at_9 placed back Clean p e = absurd (let no : ◌≡◌ {A = ℕ} 0 9 = sym is_0 ∙ ap (λ (u : Told X). u.number) e in omega arith)
-  at_9 placed back (At r) p e = ap At (sym (back r) ∙ ap (λ (u : Told X). placed u.state) (sym (is_9 r) ∙ e) ∙ back p)
+  pub at_9 : (placed : X → ℕ) → ((p : ℕ) → placed (place p) ≡ p) → (a : Result ⊤ Offence) (p : ℕ) → t a ≡ tells 9 (place p) → a ≡ at p
+  at_9 placed back (Ok _) p e = absurd (let no : ◌≡◌ {A = ℕ} 0 9 = sym is_0 ∙ ap (λ (u : Told X). u.number) e in omega arith)
+  at_9 placed back (Err r) p e = ap at (sym (back r.0) ∙ ap (λ (u : Told X). placed u.state) (sym (is_9 r.0) ∙ e) ∙ back p)
 
-  module _ (a : Offence) (rs : List Rule) (v : Decides a rs) where
-    decided : (b : Offence) → a ≡ b → Decides b rs
-    decided b e = subst (λ (x : Offence). Decides x rs) e v
+  module _ (a : Result ⊤ Offence) (rs : List Rule) (v : Decides a rs) where
+    decided : (b : Result ⊤ Offence) → a ≡ b → Decides b rs
+    decided b e = subst (λ (x : Result ⊤ Offence). Decides x rs) e v
 
     -- 0 exactly if each rule holds
-    pub takes : ((t a).number ≡ 0 → Each rs) × (Each rs → t a ≡ t Clean)
-    takes = (λ e. decided Clean (clean_0 a e), λ each. ap t (clean_if a rs v each))
+    pub takes : ((t a).number ≡ 0 → Each rs) × (Each rs → t a ≡ t (Ok tt))
+    takes = (λ e. decided (Ok tt) (clean_0 a e), λ each. ap t (clean_if a rs v each))
 
     -- 9 with a place exactly if the first rule broken has it
     pub refuses : (placed : X → ℕ) → ((p : ℕ) → placed (place p) ≡ p) → (p : ℕ)
         → (t a ≡ tells 9 (place p) → FirstBroken rs p) × (FirstBroken rs p → t a ≡ tells 9 (place p))
-    refuses placed back p = (λ e. decided (At p) (at_9 placed back a p e), λ first. ap t (at_if a rs p v first) ∙ is_9 p)
+    refuses placed back p = (λ e. decided (at p) (at_9 placed back a p e), λ first. ap t (at_if a rs p v first) ∙ is_9 p)

@@ -1,6 +1,8 @@
 -- What holds of every judgement. Each is a statement; proofs/ has the proof under the same name in lower case.
-use Rattle.std.specs.Prelude.{ℕ, List, ◌≡◌}
+use Rattle.std.specs.Prelude.{ℕ, List, Result, ◌≡◌}
 use Rattle.layout.specs.Bytes.{header_in}
+use Rattle.layout.specs.declared.Header.{Header}
+use Rattle.offences.specs.declared.Offence.{Offence}
 use Rattle.paper.specs.Told.{tells}
 use Rattle.request.specs.Requests.{SameFields}
 use Rattle.request.specs.declared.Request.{Request}
@@ -8,11 +10,10 @@ use Rattle.words.specs.declared.Order.{Order}
 use Rattle.reader.specs.Judgement.{header, place, heard, read_of, slot_of}
 use Rattle.reader.specs.Layout.{Each, FirstBroken, page_rules}
 use Rattle.reader.specs.Reserved.{LooksAlike}
-use Rattle.reader.specs.declared.Judgement.{Judgement}
 
 -- no second answer fits
 abbrev pub OneJudgement : Type 0
-OneJudgement = (o : Order) (s : List ℕ) (q : Request) (a b : Judgement) → heard a ≡ read_of o s q → heard b ≡ read_of o s q → a ≡ b
+OneJudgement = (o : Order) (s : List ℕ) (q : Request) (a b : Result Header Offence) → heard a ≡ read_of o s q → heard b ≡ read_of o s q → a ≡ b
 
 -- ## The layout theorem, in either byte order
 

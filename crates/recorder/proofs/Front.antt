@@ -4,7 +4,6 @@ use Prim.Native.Nat.{ℕ}
 use mathlib.Core.List.{List}
 use mathlib.Core.Path.{◌≡◌, sym, ap, ◌∙◌}
 use lib.ListN.{length}
-use borrow.Author.Tests.{ne_eqb}
 use Rattle.calls.proofs.Lists.{made_alike}
 use Rattle.calls.specs.Offered.{offer_of}
 use Rattle.device.specs.Machine.{command}
@@ -14,8 +13,8 @@ use Rattle.image.specs.Calls.{told_of, made_as, made_by}
 use Rattle.image.specs.Reading.{device_of}
 use Rattle.image.specs.declared.Image.{Image}
 use Rattle.offer.specs.declared.Element.{Element}
-use Rattle.paper.specs.Registers.{Registers}
 use Rattle.paper.specs.Told.{Told, tells}
+use Rattle.paper.specs.declared.Registers.{Registers}
 use Rattle.paper.specs.declared.Security.{Security}
 use Rattle.request.specs.Requests.{asked}
 use Rattle.request.specs.declared.Request.{Request}
@@ -27,9 +26,6 @@ use Rattle.recorder.specs.Made.{made_in}
 module _ (i e : Image) (s : Security) (r : Registers) (buf : List ℕ) (n : ℕ) (is : tells n e ≡ told_of i (command s r (length buf))) where
   abbrev Front : List ℕ → Type 0
   Front out = (tells n e ≡ told_of i (command s r (length buf))) × (out ≡ lent (device_of i) s r buf)
-
-  pub front-other : (r.code ≡ 0x12 → ⊥) → Front buf
-  front-other z = (is, sym (rw (ne_eqb _ _ z)))
 
   module _ (is_status : r.code ≡ 0x12) where
     unchanged : device_of e ≡ device_of i

@@ -28,78 +28,72 @@ ghost use Rattle.recorder.specs.Made.{made_in};
 
 use calls::copied;
 use compare::Cursor;
-use image::Image;
+use image::{Image, Imaged};
 use offer::Element;
-use paper::{ElementId, Lba, PageCount};
+use paper::{ElementId, Lba, PageCount, Registers};
 use query::Query;
 use request::Request;
 use spelt::{Count, Difference, Onward, Opened, Reading, Sense, Span, Stand, Turned};
 
 // ---- The device
 
+// Stores back the image that a call by value hands back.
+fn stored_back(r: Imaged, d: &mut Image) -> u8
+    ensures answer { result ≡ r.answer }
+    ensures image { d.exit.now ≡ r.image }
+{
+    *d = r.image;
+    r.answer
+}
+
 // What every record of the code has, that its numbers fit their types, is promised here, where each run begins.
 pub fn recorder_make(d: &mut Image, list: &[Element], limit: u16) -> u8
     ensures { (tells result d.exit.now ≡ made_in d.entry.now list.now limit) × Fits (device_of d.exit.now) }
 {
     let r = (*d).make(copied(list), list.len(), limit);
-    *d = r.image;
-    r.answer
+    stored_back(r, d)
 }
 
 pub fn recorder_step(d: &mut Image) -> u8
     ensures { tells result d.exit.now ≡ told_of d.entry.now machine.step }
 {
-    let r = (*d).step();
-    *d = r.image;
-    r.answer
+    stored_back((*d).step(), d)
 }
 
 pub fn recorder_media_error(d: &mut Image) -> u8
     ensures { tells result d.exit.now ≡ told_of d.entry.now machine.media_error }
 {
-    let r = (*d).media_error();
-    *d = r.image;
-    r.answer
+    stored_back((*d).media_error(), d)
 }
 
 pub fn recorder_power_cut(d: &mut Image) -> u8
     ensures { tells result d.exit.now ≡ told_of d.entry.now machine.power_cut }
 {
-    let r = (*d).power_cut();
-    *d = r.image;
-    r.answer
+    stored_back((*d).power_cut(), d)
 }
 
 pub fn recorder_comreset(d: &mut Image) -> u8
     ensures { tells result d.exit.now ≡ told_of d.entry.now machine.comreset }
 {
-    let r = (*d).comreset();
-    *d = r.image;
-    r.answer
+    stored_back((*d).comreset(), d)
 }
 
 pub fn recorder_hardware_reset(d: &mut Image) -> u8
     ensures { tells result d.exit.now ≡ told_of d.entry.now machine.hardware_reset }
 {
-    let r = (*d).hardware_reset();
-    *d = r.image;
-    r.answer
+    stored_back((*d).hardware_reset(), d)
 }
 
 pub fn recorder_software_reset(d: &mut Image) -> u8
     ensures { tells result d.exit.now ≡ told_of d.entry.now machine.software_reset }
 {
-    let r = (*d).software_reset();
-    *d = r.image;
-    r.answer
+    stored_back((*d).software_reset(), d)
 }
 
 pub fn recorder_grade(d: &mut Image, id: ElementId, health: u8) -> u8
     ensures { tells result d.exit.now ≡ told_of d.entry.now (machine.grade id health) }
 {
-    let r = (*d).grade(id, health);
-    *d = r.image;
-    r.answer
+    stored_back((*d).grade(id, health), d)
 }
 
 pub fn recorder_command(
@@ -114,10 +108,16 @@ pub fn recorder_command(
     ensures { (tells result d.exit.now ≡ told_of d.entry.now (machine.command (security_of security) (record { code = code; feature = feature; count = count; lba = lba }) (length buf.old)))
         × (buf.new ≡ lent (device_of d.entry.now) (security_of security) (record { code = code; feature = feature; count = count; lba = lba }) buf.old) }
 {
-    let r = (*d).command(security, code, feature, count, lba, buf.len());
+    let registers = Registers {
+        code,
+        feature,
+        count,
+        lba,
+    };
+    let r = (*d).command(security, registers, buf.len());
     *d = r.image;
     if code == 0x12 {
-        recorder_show(d, security, commands::asked(feature, count, lba), buf);
+        recorder_show(d, security, Request::from(registers), buf);
     }
     r.answer
 }

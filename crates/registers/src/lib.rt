@@ -1,74 +1,39 @@
 // The words of a command's registers: the security state, and FEATURE, COUNT and LBA.
 #![tactic(auto)]
 
-ghost use Rattle.std.specs.Prelude.{◌&&◌, ◌≡◌};
+ghost use Rattle.std.specs.Prelude.{◌≡◌};
 ghost use Rattle.registers.specs.Registers.{state_of, asked_at};
 
-use lines::{field_at, is_same};
+use lines::field_at;
 use paper::{Lba, PageCount, Security};
 use request::Request;
 
-// A security state that a word names, and whether it names one.
-#[derive(Clone, Copy)]
-pub struct State {
-    pub fits: bool,
-    pub security: Security,
-}
-
-// FEATURE, COUNT and LBA, and whether each fits its field.
-#[derive(Clone, Copy)]
-pub struct Asked {
-    pub fits: bool,
-    pub request: Request,
-}
-
-pub fn both(a: bool, b: bool) -> bool
-    ensures { result ≡ (a && b) }
+// The security state that a word names.
+pub fn state_of(word: &[u8]) -> Option<Security>
+    ensures { result ≡ state_of word.now }
 {
-    if a { b } else { false }
-}
-
-pub fn each(a: bool, b: bool, c: bool) -> bool
-    ensures { result ≡ (a && (b && c)) }
-{
-    both(a, both(b, c))
-}
-
-pub fn state_of(w: &[u8]) -> State
-    ensures { result ≡ state_of w.now }
-{
-    if is_same(w, b"locked") {
-        return State {
-            fits: true,
-            security: Security::Locked,
-        };
-    }
-    if is_same(w, b"unlocked") {
-        return State {
-            fits: true,
-            security: Security::Unlocked,
-        };
-    }
-    State {
-        fits: is_same(w, b"frozen"),
-        security: Security::Frozen,
+    if word == b"locked".as_slice() {
+        Some(Security::Locked)
+    } else if word == b"unlocked".as_slice() {
+        Some(Security::Unlocked)
+    } else if word == b"frozen".as_slice() {
+        Some(Security::Frozen)
+    } else {
+        None
     }
 }
 
-// FEATURE, COUNT and LBA from word k on.
-pub fn asked_at(line: &[u8], k: u8) -> Asked
+// FEATURE, COUNT and LBA from word k on, if each fits its field.
+pub fn asked_at(line: &[u8], k: u8) -> Option<Request>
     ensures { result ≡ asked_at line.now k }
 {
     let first = k as usize;
-    let feature = field_at(line, first, 0xFFFF);
-    let count = field_at(line, first + 1, 0xFFFF);
-    let lba = field_at(line, first + 2, 0xFFFF_FFFF_FFFF_FFFF);
-    Asked {
-        fits: each(feature.fits, count.fits, lba.fits),
-        request: Request {
-            feature: feature.value as u16,
-            count: PageCount(count.value as u16),
-            lba: Lba(lba.value),
-        },
-    }
+    let feature = field_at(line, first, 0xFFFF)?;
+    let count = field_at(line, first + 1, 0xFFFF)?;
+    let lba = field_at(line, first + 2, 0xFFFF_FFFF_FFFF_FFFF)?;
+    Some(Request {
+        feature: feature as u16,
+        count: PageCount(count as u16),
+        lba: Lba(lba),
+    })
 }

@@ -1,11 +1,12 @@
 -- Document 01, "REMOVE ELEMENT AND TRUNCATE (7Ch)": the checks in order. Their differences are written as sums, so that
 -- none is cut off at 0; the new maximum's comes after check 6.
-use Rattle.std.specs.Prelude.{ℕ, ◌+◌, ◌-◌, ◌*◌, Bool, cond, not, ◌&&◌, leb, ltb, eqb}
+use Rattle.std.specs.Prelude.{ℕ, ◌+◌, ◌-◌, Bool, cond, not, ◌&&◌, Option, None, Some, leb, ltb, eqb}
 use Rattle.paper.specs.Elements.{removed_health}
-use Rattle.paper.specs.Registers.{Registers, low48}
+use Rattle.paper.specs.Registers.{low48, identifier_of}
 use Rattle.paper.specs.Table12.{aborts}
 use Rattle.paper.specs.declared.ElementId.{ElementId}
 use Rattle.paper.specs.declared.Lba.{Lba}
+use Rattle.paper.specs.declared.Registers.{Registers}
 use Rattle.paper.specs.declared.Security.{Security}
 use Rattle.table.specs.Elements.{is_storage}
 use Rattle.table.specs.declared.Table.{Table}
@@ -20,10 +21,6 @@ use Rattle.cells.specs.declared.Position.{Position}
 use Rattle.cells.specs.declared.Removal.{Removal}
 use Rattle.cells.specs.declared.Seen.{Seen}
 use Rattle.cells.specs.declared.Store.TheVariants.{FailedTo, Noted}
-
--- "Identifier = FEATURE x 65,536 + COUNT"
-abbrev pub identifier_of : Registers → ElementId
-identifier_of r = record { 0 = r.feature * 65536 + r.count }
 
 -- 5: "limit not 0 and as many elements already FFh"
 abbrev pub limit_met : ℕ → ℕ → Bool
@@ -54,9 +51,10 @@ judge_room p native id lba blocks =
 -- 3: "identifier not in the table, or type not 01h: 4"
 -- 4: "health FFh: 0; no element or address changes, but a failed mark is cleared"
 -- then 5, and 6 and 7
-unfoldable pub judge_found : Table → Cells → Position → ElementId → Lba → Seen → Ruled
-judge_found t c p id lba s =
-    cond (not (s.hit && is_storage s.part)) (quiet 4 p)
+unfoldable pub judge_found : Table → Cells → Position → ElementId → Lba → Option Seen → Ruled
+judge_found t c p id lba None = quiet 4 p
+judge_found t c p id lba (Some s) =
+    cond (not (is_storage s.part)) (quiet 4 p)
     (cond (removed_health s.health) (goes (FailedTo Clear) p)
     (cond (limit_met t.limit (removed_in t c)) (quiet 4 p)
     (judge_room p c.native id lba s.part.blocks)))

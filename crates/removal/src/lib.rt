@@ -1,20 +1,13 @@
 // REMOVE ELEMENT AND TRUNCATE (7Ch): its seven checks, in document 01's order.
 #![tactic(auto)]
 
-ghost use Rattle.std.specs.Prelude.{◌≡◌, ◌+◌, ◌*◌};
+ghost use Rattle.std.specs.Prelude.{◌≡◌};
 ghost use Rattle.cells.specs.Rulings.{ruled};
 ghost use Rattle.removal.specs.Remove as remove;
 
 use cells::{Cells, Mark, Position, Removal, Ruling, Seen, Store, goes, quiet};
-use paper::{Answer, Command, ElementId, Lba, Security};
+use paper::{Answer, Command, ElementId, Lba, Registers, Security};
 use table::Table;
-
-// FEATURE x 65,536 + COUNT.
-fn identifier(feature: u16, count: u16) -> ElementId
-    ensures { result ≡ record { 0 = feature * 65536 + count } }
-{
-    ElementId((feature as u32) * 65536 + (count as u32))
-}
 
 // The LBA, or the difference if the LBA is 0.
 fn new_max(difference: u64, lba: Lba) -> Lba
@@ -27,10 +20,7 @@ fn new_max(difference: u64, lba: Lba) -> Lba
 fn limit_met(limit: u16, removed: u16) -> bool
     ensures { result ≡ remove.limit_met limit removed }
 {
-    if limit == 0 {
-        return false;
-    }
-    limit <= removed
+    limit != 0 && limit <= removed
 }
 
 // Checks 6 and 7.
@@ -55,25 +45,31 @@ fn judge_room(at: Position, old: Lba, id: ElementId, lba: Lba, blocks: u64) -> R
     )
 }
 
-// Checks 3 to 7.
-fn judge_found(t: Table, c: Cells, at: Position, id: ElementId, lba: Lba, s: Seen) -> Ruling
-    ensures { ruled result ≡ remove.judge_found t c at id lba s }
+// Checks 3 to 7, of what the search sees.
+#[tactic(auto, unfolding(crate::specs::Remove::judge_found))]
+fn judge_found(
+    t: Table,
+    c: Cells,
+    at: Position,
+    id: ElementId,
+    lba: Lba,
+    seen: Option<Seen>,
+) -> Ruling
+    ensures { ruled result ≡ remove.judge_found t c at id lba seen }
 {
-    if !s.hit {
+    let Some(s) = seen else {
         return quiet(Answer::InvalidField, at);
-    }
+    };
     if s.part.kind != 1 {
         return quiet(Answer::InvalidField, at);
     }
     if s.health == 0xFF {
         return goes(Store::FailedTo(Mark::Clear), at);
     }
-    let healths = c.healths;
-    if limit_met(t.limit, table::removed(healths, t.count)) {
+    if limit_met(t.limit, table::removed(c.healths, t.count)) {
         return quiet(Answer::InvalidField, at);
     }
-    let old = c.native;
-    judge_room(at, old, id, lba, s.part.blocks)
+    judge_room(at, c.native, id, lba, s.part.blocks)
 }
 
 // What 7Ch rules over a table, its cells and the position: checks 1 and 2, then the others.
@@ -82,11 +78,9 @@ pub fn rule_remove(
     c: Cells,
     at: Position,
     security: Security,
-    feature: u16,
-    count: u16,
-    lba: Lba,
+    registers: Registers,
 ) -> Ruling
-    ensures { ruled result ≡ remove.rule_remove t c at security (record { code = 0x7C; feature = feature; count = count; lba = lba }) }
+    ensures { ruled result ≡ remove.rule_remove t c at security registers }
 {
     if paper::is_aborted(Command::Remove, security) {
         return quiet(Answer::SecurityLocked, at);
@@ -95,8 +89,8 @@ pub fn rule_remove(
     if note.is_full() {
         return quiet(Answer::InProgress, at);
     }
-    let id = identifier(feature, count);
-    let low = lba.low48();
+    let id = registers.identifier();
+    let lba = registers.lba;
     let s = cells::see(t, c, id);
-    judge_found(t, c, at, id, low, s)
+    judge_found(t, c, at, id, lba.low48(), s)
 }

@@ -4,13 +4,12 @@ use mathlib.Core.List.{List, [], ◌∷◌, ◌++◌}
 use mathlib.Core.Path.{◌≡◌, ap, ◌∙◌}
 use native.Mathlib.Omega.{arith}
 use lib.ListN.{length, take, get_or, length-append}
+use Rattle.std.specs.Prelude.{Option, Some, None}
 use Rattle.dump.proofs.Dump.{enough, length_touched}
 use Rattle.dump.specs.Dump.{page_text, touched_text}
 use Rattle.paper.specs.Answers.{number_of, sense_of}
 use Rattle.paper.specs.declared.Answer.{Answer}
 use Rattle.paper.specs.declared.Sense.{Sense}
-use Rattle.paper.specs.declared.Sensed.TheVariants.{None, Codes}
-use Rattle.paper.specs.declared.Sensed.{Sensed}
 use Rattle.slices.proofs.Lists.{length-stored}
 use Rattle.slices.specs.Lists.{stored, ended}
 use Rattle.text.proofs.Digits.{length_decimal}
@@ -27,15 +26,15 @@ pub codes_laid : (s : Sense) (k a q : List ℕ) → k ≡ digits 16 2 s.key → 
     → 32 ∷ get_or k 1 0 ∷ 47 ∷ get_or a 0 0 ∷ get_or a 1 0 ∷ 47 ∷ get_or q 0 0 ∷ get_or q 1 0 ∷ [] ≡ codes_text s
 codes_laid s k a q is_k is_a is_q = rw (is_k, is_a, is_q)
 
-module _ (sense : Sensed) (d : List ℕ) (at : ℕ) where
+module _ (sense : Option Sense) (d : List ℕ) (at : ℕ) where
   pub sense_none : sense ≡ None → Puts d at (sense_text sense) d at
   sense_none e = rw e (puts_none d at)
 
-  pub sense_puts : (s : Sense) (t x : List ℕ) (r : ℕ) → sense ≡ Codes s → t ≡ codes_text s → x ≡ stored d at t → r ≡ ended d at t
+  pub sense_puts : (s : Sense) (t x : List ℕ) (r : ℕ) → sense ≡ Some s → t ≡ codes_text s → x ≡ stored d at t → r ≡ ended d at t
       → Puts d at (sense_text sense) x r
   sense_puts s t x r e is_t is_x is_r = rw e (puts_same d x at r t (codes_text s) is_t is_x is_r)
 
-pub answer_puts : (a : Answer) (sense : Sensed) (d x y z : List ℕ) (n at m k r : ℕ) → n ≡ number_of a → sense ≡ sense_of (number_of a)
+pub answer_puts : (a : Answer) (sense : Option Sense) (d x y z : List ℕ) (n at m k r : ℕ) → n ≡ number_of a → sense ≡ sense_of (number_of a)
     → x ≡ stored d at (decimal_of n) → m ≡ ended d at (decimal_of n) → Puts x m (sense_text sense) y k → z ≡ stored y k (ascii "\n") → r ≡ ended y k (ascii "\n")
     → Puts d at (answer_line (number_of a)) z r
 unfolding answer_line
@@ -46,9 +45,9 @@ answer_puts a sense d x y z n at m k r is_n is_sense is_x is_m two is_z is_r =
     let both : Puts d at (N ++ S) y k = puts_more d x at m N S y k (rw (← is_sense) two) one in
     puts_more d y at k (N ++ S) (ascii "\n") z r (puts_one y z k r (ascii "\n") is_z is_r) both
 
-length_sense : (s : Sensed) → length (sense_text s) ≤ 8
+length_sense : (s : Option Sense) → length (sense_text s) ≤ 8
 length_sense None = omega arith
-length_sense (Codes s) = omega arith
+length_sense (Some s) = omega arith
 
 pub length_answer : (n : ℕ) → length (answer_line n) ≤ 29
 unfolding answer_line

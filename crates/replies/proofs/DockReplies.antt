@@ -7,9 +7,10 @@ use native.Mathlib.Omega.{arith}
 use lib.Dec.{eqb}
 use lib.ListN.{length, take, length-append}
 use borrow.Author.Tests.{eq-eqb, ne_eqb}
+use Rattle.std.proofs.Common.{Result, Err}
 use Rattle.contents.specs.Contents.{refused_line}
 use Rattle.convert.specs.Convert as convert
-use Rattle.convert.specs.declared.Converted.{Converted}
+use Rattle.convert.specs.declared.Refusal.{Refusal}
 use Rattle.docking.specs.Dock.{Kind, scsi, toscsi, toata, Answered, place_in, heard, kind_said, number_said, place_said, count_said}
 use Rattle.docking.specs.declared.Docked.{Docked}
 use Rattle.docking.specs.declared.Said.{Said}
@@ -29,11 +30,17 @@ use Rattle.replies.proofs.Answers.{length_answer, three_puts}
 
 -- ## The first line, by what was said
 
-abbrev bare_of : Converted → List ℕ
+abbrev bare_of : Result ℕ Refusal → List ℕ
 bare_of c = bare_line (convert.heard c []).number (place_in (convert.heard c []).state)
 
-pub at_bare : (c found : Converted) → c ≡ found → (d x : List ℕ) (r : ℕ) → x ≡ stored d 0 (bare_of found) → r ≡ ended d 0 (bare_of found) → Puts d 0 (bare_of c) x r
+pub at_bare : (c found : Result ℕ Refusal) → c ≡ found → (d x : List ℕ) (r : ℕ) → x ≡ stored d 0 (bare_of found) → r ≡ ended d 0 (bare_of found) → Puts d 0 (bare_of c) x r
 at_bare c found e d x r is_x is_r = rw e (puts_one d x 0 r (bare_of found) is_x is_r)
+
+pub at_refusal : (a found : Refusal) → a ≡ found → (d x : List ℕ) (r : ℕ) → x ≡ stored d 0 (bare_of (Err found)) → r ≡ ended d 0 (bare_of (Err found)) → Puts d 0 (bare_of (Err a)) x r
+at_refusal a found e = at_bare (Err a) (Err found) (ap Err e)
+
+pub refused_bare : (c : Result ℕ Refusal) (a : Refusal) → c ≡ Err a → (d x : List ℕ) (r : ℕ) → Puts d 0 (bare_of (Err a)) x r → Puts d 0 (bare_of c) x r
+refused_bare c a e d x r so = rw e so
 
 pub at_first : (s found : Said) → s ≡ found → (d x : List ℕ) (r : ℕ) → Puts d 0 (first_line (kind_said found) (number_said found) (place_said found)) x r
     → Puts d 0 (first_line (kind_said s) (number_said s) (place_said s)) x r

@@ -1,5 +1,5 @@
 -- docs/BENCH.md: what the bench says to a line, as text.
-use Rattle.std.specs.Prelude.{ℕ, cond, List, [], ◌++◌, eqb, take}
+use Rattle.std.specs.Prelude.{ℕ, cond, List, [], ◌++◌, Option, Some, None, eqb, take}
 use Rattle.acts.specs.Acts.{Saying, nothing, not_acall, no_device, outside, long_now, answered, commanded, cells, reads, walks, reads_scsi, docked}
 use Rattle.contents.specs.Contents.{refused_line, reading_of}
 use Rattle.contents.specs.DockContents.{scsi_reading_of}
@@ -10,8 +10,6 @@ use Rattle.inventory.specs.Inventory.{cells_of}
 use Rattle.moves.specs.Moves.{next_text}
 use Rattle.paper.specs.Answers.{sense_of}
 use Rattle.paper.specs.declared.Sense.{Sense}
-use Rattle.paper.specs.declared.Sensed.TheVariants.{None, Codes}
-use Rattle.paper.specs.declared.Sensed.{Sensed}
 use Rattle.text.specs.Digits.{digits, decimal_of}
 use Rattle.text.specs.Text.{ascii}
 use Rattle.writing.specs.Writing.{number_line}
@@ -22,9 +20,9 @@ use Rattle.writing.specs.Writing.{number_line}
 abbrev pub codes_text : Sense → List ℕ
 codes_text s = ascii " " ++ digits 16 1 s.key ++ ascii "/" ++ digits 16 2 s.asc ++ ascii "/" ++ digits 16 2 s.ascq
 
-abbrev pub sense_text : Sensed → List ℕ
+abbrev pub sense_text : Option Sense → List ℕ
 sense_text None = []
-sense_text (Codes s) = codes_text s
+sense_text (Some s) = codes_text s
 
 -- "An answer is the number in decimal"
 unfoldable pub answer_line : ℕ → List ℕ

@@ -1,7 +1,7 @@
 // What the bench says to a line, as text in a lent buffer.
 #![tactic(auto)]
 
-ghost use Rattle.std.specs.Prelude.{◌≡◌, [], ◌≤◌, length};
+ghost use Rattle.std.specs.Prelude.{◌≡◌, [], ◌≤◌, Err, length};
 ghost use Rattle.acts.specs.Acts.{heard};
 ghost use Rattle.convert.specs.Convert as convert;
 ghost use Rattle.docking.specs.Dock as dock;
@@ -11,10 +11,10 @@ ghost use Rattle.writing.specs.Writing.{stored_in, ended_in};
 ghost use Rattle.replies.specs.Replies.{codes_text, sense_text, answer_line, lent_text, bare_line, first_line, shown_as, bytes_text, dock_text, text_of};
 
 use acts::{Lent, Reply};
-use convert::Converted;
+use convert::Refusal;
 use device::Device;
 use docking::{Docked, Said};
-use paper::{Answer, Sense, Sensed};
+use paper::{Answer, Sense};
 
 // ---- An answer
 
@@ -28,12 +28,12 @@ fn codes(s: Sense) -> [u8; 8]
     [b' ', k[1], b'/', a[0], a[1], b'/', q[0], q[1]]
 }
 
-fn put_sense(out: &mut [u8], at: usize, sense: Sensed) -> usize
+fn put_sense(out: &mut [u8], at: usize, sense: Option<Sense>) -> usize
     ensures { writing·private.Puts out.old at (sense_text sense) out.new result }
 {
     match sense {
-        Sensed::None => at,
-        Sensed::Codes(s) => {
+        None => at,
+        Some(s) => {
             let text = codes(s);
             writing::word(out, at, &text)
         }
@@ -44,20 +44,28 @@ fn put_sense(out: &mut [u8], at: usize, sense: Sensed) -> usize
 fn put_answer(out: &mut [u8], at: usize, answer: Answer) -> usize
     ensures { writing·private.Puts out.old at (answer_line (number_of answer)) out.new result }
 {
-    let a = writing::decimal(out, at, paper::number_of(answer) as u64);
+    let a = writing::decimal(out, at, u8::from(answer) as u64);
     let b = put_sense(out, a, paper::sense_of(answer));
     writing::word(out, b, b"\n")
 }
 
 // ---- The calls for a SCSI host
 
-fn put_bare(out: &mut [u8], c: Converted) -> usize
+fn put_refusal(out: &mut [u8], refusal: Refusal) -> usize
+    ensures { writing·private.Puts out.old 0 (bare_line (convert.heard (Err refusal) []).number (dock.place_in (convert.heard (Err refusal) []).state)) out.new result }
+{
+    match refusal {
+        Refusal::SmallBuffer => writing::word(out, 0, b"7\n"),
+        Refusal::Offence(offence) => writing::numbered(out, 0, b"9 at ", offence.0 as u64),
+    }
+}
+
+fn put_bare(out: &mut [u8], c: Result<usize, Refusal>) -> usize
     ensures { writing·private.Puts out.old 0 (bare_line (convert.heard c []).number (dock.place_in (convert.heard c []).state)) out.new result }
 {
     match c {
-        Converted::Done(_) => writing::word(out, 0, b"0\n"),
-        Converted::SmallBuffer => writing::word(out, 0, b"7\n"),
-        Converted::Refused(place) => writing::numbered(out, 0, b"9 at ", place as u64),
+        Ok(_) => writing::word(out, 0, b"0\n"),
+        Err(refusal) => put_refusal(out, refusal),
     }
 }
 
@@ -66,10 +74,8 @@ fn put_first(out: &mut [u8], said: Said) -> usize
     ensures { writing·private.Puts out.old 0 (first_line (dock.kind_said said) (dock.number_said said) (dock.place_said said)) out.new result }
 {
     match said {
-        Said::Sent(w) => {
-            let answer = w.answer;
-            put_answer(out, 0, answer)
-        }
+        Said::Sent(Ok(_)) => put_answer(out, 0, Answer::Done),
+        Said::Sent(Err(why)) => put_answer(out, 0, Answer::from(why)),
         Said::ToScsi(c) => put_bare(out, c),
         Said::ToAta(c) => put_bare(out, c),
     }

@@ -1,9 +1,10 @@
 -- Document 01, "GET PHYSICAL ELEMENT STATUS (12h)", with request 2026-05: a request's fields, what it is answered, and the tests of an element.
 use Rattle.std.specs.Prelude.{ℕ, ◌+◌, ◌*◌, ◌/◌, ◌%◌, ◌^◌, Bool, cond, not, ◌||◌, List, ◌≡◌, leb, ltb, eqb, length}
 use Rattle.paper.specs.Elements.{storage_type, removed_health, slow}
-use Rattle.paper.specs.Registers.{Registers, low48}
+use Rattle.paper.specs.Registers.{low48}
 use Rattle.paper.specs.Table12.{aborts}
 use Rattle.paper.specs.declared.Command.TheVariants.{Status}
+use Rattle.paper.specs.declared.Registers.{Registers}
 use Rattle.paper.specs.declared.Security.{Security}
 use Rattle.request.specs.declared.Request.{Request}
 

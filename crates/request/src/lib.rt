@@ -3,9 +3,9 @@
 
 ghost use Rattle.std.specs.Prelude.{◌≡◌};
 ghost use Rattle.paper.specs.Answers.{number_of};
-ghost use Rattle.request.specs.Requests.{filter_of, report_type_of, start_of, sets_reserved, refused, status_number, takes_id, takes_type, takes_health, request_for};
+ghost use Rattle.request.specs.Requests.{asked, filter_of, report_type_of, start_of, sets_reserved, refused, status_number, takes_id, takes_type, takes_health, request_for};
 
-use paper::{Answer, Command, ElementId, Lba, PageCount, Security};
+use paper::{Answer, Command, ElementId, Lba, PageCount, Registers, Security};
 
 // A request for status pages (12h), as the registers have it.
 #[repr(C)]
@@ -14,6 +14,19 @@ pub struct Request {
     pub feature: u16,
     pub count: PageCount,
     pub lba: Lba,
+}
+
+// What 12h asks for.
+impl From<Registers> for Request {
+    ghost from_gives = { λ registers request. request ≡ asked registers };
+
+    fn from(registers: Registers) -> Request {
+        Request {
+            feature: registers.feature,
+            count: PageCount(registers.count),
+            lba: registers.lba,
+        }
+    }
 }
 
 impl Request {

@@ -41,7 +41,7 @@ pub fn new_run() -> Run
     }
 }
 
-// Makes the call of a line, and stores what it says.
+// Makes the call of a line, and stores what it says. The three buffers are lent one by one, since each has a clause of its own.
 fn obey(bench: Bench, line: Gathered, page: &mut [u8], lent: &mut [u8], out: &mut [u8]) -> Obeyed
     ensures value { result ≡ paper.obeyed bench line page.old lent.old out.old }
     ensures page_after { page.new ≡ page_on bench (meaning_of line) page.old lent.old }

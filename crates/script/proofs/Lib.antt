@@ -1,4 +1,3 @@
 -- What is proved of `script`'s definitions, and of its functions.
 pub mod EveryLine
 pub mod Examples
-pub mod Says

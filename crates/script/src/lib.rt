@@ -11,7 +11,9 @@ use arguments::{
 use lines::{is_named, is_passed};
 use pieces::{Gathered, is_long};
 
-fn dock_call(line: &[u8]) -> Line
+// The names are asked one after the other: a `match` on the word has a way out for each byte of each name.
+#[tactic(auto, unfolding(crate::specs::Names::dock_call))]
+fn dock_call(line: &[u8]) -> Option<Line>
     ensures { result ≡ spec.dock_call line.now }
 {
     if is_named(line, b"scsi", 6) {
@@ -26,10 +28,11 @@ fn dock_call(line: &[u8]) -> Line
     if is_named(line, b"toata", 6) {
         return toata_call(line);
     }
-    Line::NotACall
+    None
 }
 
-fn page_call(line: &[u8]) -> Line
+#[tactic(auto, unfolding(crate::specs::Names::page_call))]
+fn page_call(line: &[u8]) -> Option<Line>
     ensures { result ≡ spec.page_call line.now }
 {
     if is_named(line, b"length", 2) {
@@ -47,32 +50,34 @@ fn page_call(line: &[u8]) -> Line
     dock_call(line)
 }
 
-fn reset_call(line: &[u8]) -> Line
+#[tactic(auto, unfolding(crate::specs::Names::reset_call))]
+fn reset_call(line: &[u8]) -> Option<Line>
     ensures { result ≡ spec.reset_call line.now }
 {
     if is_named(line, b"comreset", 1) {
-        return Line::Bare(Bare::Comreset);
+        return Some(Line::Bare(Bare::Comreset));
     }
     if is_named(line, b"hardreset", 1) {
-        return Line::Bare(Bare::Hardreset);
+        return Some(Line::Bare(Bare::Hardreset));
     }
     if is_named(line, b"softreset", 1) {
-        return Line::Bare(Bare::Softreset);
+        return Some(Line::Bare(Bare::Softreset));
     }
     page_call(line)
 }
 
-fn event_call(line: &[u8]) -> Line
+#[tactic(auto, unfolding(crate::specs::Names::event_call))]
+fn event_call(line: &[u8]) -> Option<Line>
     ensures { result ≡ spec.event_call line.now }
 {
     if is_named(line, b"step", 1) {
-        return Line::Bare(Bare::Step);
+        return Some(Line::Bare(Bare::Step));
     }
     if is_named(line, b"error", 1) {
-        return Line::Bare(Bare::Error);
+        return Some(Line::Bare(Bare::Error));
     }
     if is_named(line, b"cut", 1) {
-        return Line::Bare(Bare::Cut);
+        return Some(Line::Bare(Bare::Cut));
     }
     if is_named(line, b"grade", 3) {
         return grade_call(line);
@@ -80,7 +85,8 @@ fn event_call(line: &[u8]) -> Line
     reset_call(line)
 }
 
-fn device_call(line: &[u8]) -> Line
+#[tactic(auto, unfolding(crate::specs::Names::device_call))]
+fn device_call(line: &[u8]) -> Option<Line>
     ensures { result ≡ spec.device_call line.now }
 {
     if is_named(line, b"element", 6) {
@@ -93,12 +99,13 @@ fn device_call(line: &[u8]) -> Line
         return command_call(line);
     }
     if is_named(line, b"cells", 1) {
-        return Line::Cells;
+        return Some(Line::Cells);
     }
     event_call(line)
 }
 
 // Of a line without its newline.
+#[tactic(auto, unfolding(crate::specs::Names::line_of))]
 pub fn meaning(line: &[u8]) -> Line
     ensures { result ≡ spec.line_of line.now }
 {
@@ -108,7 +115,7 @@ pub fn meaning(line: &[u8]) -> Line
     if is_passed(line) {
         return Line::Passed;
     }
-    device_call(line)
+    device_call(line).unwrap_or(Line::NotACall)
 }
 
 // Of a line as it was gathered.

@@ -5,11 +5,11 @@ use mathlib.Core.List.{List, [], ◌∷◌, ◌++◌}
 use mathlib.Core.Path.{◌≡◌, refl}
 use lib.Dec.{eqb}
 use lib.ListN.{set, take}
+use Rattle.std.proofs.Common.{None, Some}
 use Rattle.layout.specs.Examples.{zeros, header_g1, element_g1}
 use Rattle.paper.specs.Told.{tells}
 use Rattle.query.specs.Queries.{due_four}
 use Rattle.query.specs.declared.Query.{Query}
-use Rattle.reader.specs.declared.Slot.TheVariants.{Outside, Holds}
 use Rattle.request.specs.Requests.{takes_health}
 use Rattle.slices.specs.Lists.{all}
 use Rattle.words.specs.declared.Order.TheVariants.{Little, Big}
@@ -24,13 +24,13 @@ whole =
     (0 ∷ 0 ∷ 0 ∷ 1 ∷ 0 ∷ 0 ∷ 0 ∷ 1 ∷ zeros 4) ++ (0 ∷ 2 ∷ zeros 18)
     ++ (zeros 4 ++ (0x00 ∷ 0x01 ∷ 0x00 ∷ 0x03 ∷ zeros 6)) ++ (0x01 ∷ 0x70 ∷ zeros 6) ++ (0x01 ∷ 0xF4 ∷ zeros 8)
 
-read : (read_of Big whole (request 1 1 3) ≡ tells 0 (reading header_g1 1 false)) × (slot_of Big whole 0 ≡ Holds element_g1) × (slot_of Big whole 1 ≡ Outside)
+read : (read_of Big whole (request 1 1 3) ≡ tells 0 (reading header_g1 1 false)) × (slot_of Big whole 0 ≡ Some element_g1) × (slot_of Big whole 1 ≡ None)
 unfolding due_four takes_health
 read = (refl, refl, refl)
 
 -- cut after the header, and through the descriptor
 cut : (read_of Big (take 32 whole) (request 0 0 0) ≡ tells 0 (reading header_g1 0 false)) × (read_of Big (take 63 whole) (request 0 0 0) ≡ tells 0 (reading header_g1 0 true))
-    × (slot_of Big (take 63 whole) 0 ≡ Outside)
+    × (slot_of Big (take 63 whole) 0 ≡ None)
 unfolding due_four takes_health
 cut = (refl, refl, refl)
 

@@ -10,8 +10,9 @@ use borrow.Author.Tests.{le-leb, leb-true, not-true}
 use Rattle.layout.specs.Bytes.{header_in}
 use Rattle.layout.specs.declared.Header.{Header}
 use Rattle.offences.specs.Checks.{base_of, offence_at}
+use Rattle.std.proofs.Common.{Ok, Err, Result}
+use Rattle.std.specs.Prelude.{⊤}
 use Rattle.offences.specs.First.{unless, first_below}
-use Rattle.offences.specs.declared.Offence.TheVariants.{Clean, At}
 use Rattle.offences.specs.declared.Offence.{Offence}
 use Rattle.paper.specs.Told.{Told, tells}
 use Rattle.query.proofs.Queries.{not_due, due_not}
@@ -41,15 +42,15 @@ module _ (o : Order) (s : List ℕ) (q : Query) where
 
   data_decides : Decides (data_offence o s q) (data_rules o s q)
   data_decides =
-      let list : Offence = first_below whole (offence_at o s (asked q)) in
-      let past : Offence = unless (leb (length s) (base_of n)) (base_of n) in
+      let list : Result ⊤ Offence = first_below whole (offence_at o s (asked q)) in
+      let past : Result ⊤ Offence = unless (leb (length s) (base_of n)) (base_of n) in
       next (leb 32 (length s)) (rule 0 (32 ≤ length s)) (leb-true _ _) (le-leb _ _) _ _
       (next (not (due_four q)) (rule 0 _) (asked_to q) (asked_from q) _ _
       (next_same (header_in o s).returned n 4 _ _
       (join list past _ _ (list_decides o s (asked q) whole)
       (one (leb (length s) (base_of n)) (rule (base_of n) (length s ≤ base_of n)) (leb-true _ _) (le-leb _ _)))))
 
-  abbrev answered : Offence → Told Values
+  abbrev answered : Result ⊤ Offence → Told Values
   answered a = answer_of a (header_in o s) whole (torn_of n (length s))
 
 placed : Values → ℕ
@@ -76,13 +77,13 @@ whole_in n (place p) = n
 module _ (o : Order) (s : List ℕ) (q : Query) where
   -- a reading goes with 0, and is the data's
   pub heard_clean : (h : Header) (w : ℕ) (t : Bool) → tells 0 (reading h w t) ≡ read_of o s q
-      → (data_offence o s q ≡ Clean) × (h ≡ header_in o s) × (w ≡ whole_of (header_in o s).number (length s))
+      → (data_offence o s q ≡ Ok tt) × (h ≡ header_in o s) × (w ≡ whole_of (header_in o s).number (length s))
   unfolding reading_in whole_in
   heard_clean h w t e =
-      let clean : data_offence o s q ≡ Clean = clean_0 (answered o s q) place refl (λ p. refl) (data_offence o s q) (ap (λ (u : Told Values). u.number) (sym e)) in
-      let same : tells 0 (reading h w t) ≡ answered o s q Clean = e ∙ ap (answered o s q) clean in
+      let clean : data_offence o s q ≡ Ok tt = clean_0 (answered o s q) place refl (λ p. refl) (data_offence o s q) (ap (λ (u : Told Values). u.number) (sym e)) in
+      let same : tells 0 (reading h w t) ≡ answered o s q (Ok tt) = e ∙ ap (answered o s q) clean in
       (clean, ap (λ (u : Told Values). reading_in h u.state) same, ap (λ (u : Told Values). whole_in w u.state) same)
 
-  pub heard_at : (p : ℕ) → tells 9 (place p) ≡ read_of o s q → data_offence o s q ≡ At p
+  pub heard_at : (p : ℕ) → tells 9 (place p) ≡ read_of o s q → data_offence o s q ≡ Err (record { 0 = p })
   unfolding placed
   heard_at p e = at_9 (answered o s q) place refl (λ r. refl) placed (λ r. refl) (data_offence o s q) p (sym e)

@@ -18,7 +18,7 @@ use Rattle.scsi.specs.Data.{whole_of, torn_of, contents_of, data_offence}
 use Rattle.scsi.specs.Judgement.{answer_of, read_of, slot_of}
 use Rattle.scsi.specs.Promises.{ReservedUnseen}
 use Rattle.scsi.specs.Reserved.{LooksAlike}
-use Rattle.scsi.proofs.Data.{slots_alike}
+use Rattle.scsi.proofs.Slots.{slots_alike}
 
 module _ (o : Order) (s t : List ℕ) (alike : LooksAlike o s t) where
   abbrev n : ℕ

@@ -1,7 +1,8 @@
 -- What holds of every judgement. Each is a statement; proofs/ has the proof under the same name in lower case.
-use Rattle.std.specs.Prelude.{ℕ, ◌+◌, ◌≤◌, ◌<◌, true, List, ◌≡◌, length}
+use Rattle.std.specs.Prelude.{ℕ, ◌+◌, ◌≤◌, ◌<◌, true, List, Result, ◌≡◌, length}
 use Rattle.layout.specs.Bytes.{header_in}
 use Rattle.offences.specs.Checks.{base_of}
+use Rattle.offences.specs.declared.Offence.{Offence}
 use Rattle.paper.specs.Told.{tells}
 use Rattle.query.specs.declared.Query.{Query}
 use Rattle.reader.specs.Layout.{Each, FirstBroken}
@@ -10,11 +11,11 @@ use Rattle.scsi.specs.Data.{whole_of, torn_of}
 use Rattle.scsi.specs.Judgement.{reading, place, heard, read_of, slot_of}
 use Rattle.scsi.specs.Layout.{data_rules}
 use Rattle.scsi.specs.Reserved.{LooksAlike}
-use Rattle.scsi.specs.declared.Judgement.{Judgement}
+use Rattle.scsi.specs.declared.Reading.{Reading}
 
 -- no second answer fits
 abbrev pub OneJudgement : Type 0
-OneJudgement = (o : Order) (s : List ℕ) (q : Query) (a b : Judgement) → heard a ≡ read_of o s q → heard b ≡ read_of o s q → a ≡ b
+OneJudgement = (o : Order) (s : List ℕ) (q : Query) (a b : Result Reading Offence) → heard a ≡ read_of o s q → heard b ≡ read_of o s q → a ≡ b
 
 -- ## What of a list is there
 

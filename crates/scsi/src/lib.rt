@@ -7,11 +7,10 @@ ghost use Rattle.words.specs.declared.Order.TheVariants.{Big};
 ghost use Rattle.scsi.specs.Data.{whole_of, torn_of, contents_of};
 ghost use Rattle.scsi.specs.Judgement as paper;
 
-use layout::Header;
+use layout::{Descriptor, Header};
 use offences::Offence;
 use paper::PageCount;
 use query::Query;
-use reader::Slot;
 use words::Order;
 
 // The header's numbers, how many whole descriptors are there, and whether one was cut through.
@@ -20,13 +19,6 @@ pub struct Reading {
     pub header: Header,
     pub whole: u32,
     pub torn: bool,
-}
-
-// What was read, or the place of the first offence.
-#[derive(Clone, Copy)]
-pub enum Judgement {
-    Accepted(Reading),
-    Refused(usize),
 }
 
 // How many of N descriptors are there whole.
@@ -49,64 +41,55 @@ fn is_torn(number: u32, size: usize) -> bool
     size % 32 != 0
 }
 
-// The first offence of the whole descriptors, and of what follows the list.
-fn check_contents(bytes: &[u8], query: Query, number: u32, whole: u32, o: Order) -> Offence
+// The first offence of the whole descriptors, and of what follows the list: any byte, where a page has padding to look at.
+fn check_contents(
+    bytes: &[u8],
+    query: Query,
+    number: u32,
+    whole: u32,
+    o: Order,
+) -> Result<(), Offence>
     ensures { result ≡ contents_of o bytes.now query number whole }
 {
     let request = query.for_pages(PageCount(0));
-    let first = offences::check_list(bytes, request, whole, o);
-    if let Offence::At(place) = first {
-        return Offence::At(place);
-    }
+    offences::check_list(bytes, request, whole, o)?;
     let end = 32 + 32 * (number as usize);
     if end < bytes.len() {
-        return Offence::At(end);
+        return Err(Offence(end));
     }
-    Offence::Clean
+    Ok(())
 }
 
-fn answer(found: Offence, header: Header, whole: u32, torn: bool) -> Judgement
-    ensures { paper.heard result ≡ paper.answer_of found header whole torn }
-{
-    match found {
-        Offence::Clean => {
-            let reading = Reading {
-                header,
-                whole,
-                torn,
-            };
-            Judgement::Accepted(reading)
-        }
-        Offence::At(place) => Judgement::Refused(place),
-    }
-}
-
-// Data as the answer to a request.
-pub fn read(bytes: &[u8], query: Query) -> Judgement
+// Data as the answer to a request: what was read, or the first offence.
+pub fn read(bytes: &[u8], query: Query) -> Result<Reading, Offence>
     ensures { paper.heard result ≡ paper.read_of Big bytes.now query }
 {
     if bytes.len() < 32 {
-        return Judgement::Refused(0);
+        return Err(Offence(0));
     }
     if query.is_refused() {
-        return Judgement::Refused(0);
+        return Err(Offence(0));
     }
     let h = Header::read(bytes, Order::Big);
     if h.returned != h.number {
-        return Judgement::Refused(4);
+        return Err(Offence(4));
     }
     let whole = whole_of(h.number, bytes.len());
-    let found = check_contents(bytes, query, h.number, whole, Order::Big);
-    answer(found, h, whole, is_torn(h.number, bytes.len()))
+    check_contents(bytes, query, h.number, whole, Order::Big)?;
+    Ok(Reading {
+        header: h,
+        whole,
+        torn: is_torn(h.number, bytes.len()),
+    })
 }
 
-// Descriptor k of some data; outside where it is not there whole.
-pub fn descriptor(bytes: &[u8], k: u32) -> Slot
+// Descriptor k of some data; none where it is not there whole.
+pub fn descriptor(bytes: &[u8], k: u32) -> Option<Descriptor>
     ensures { result ≡ paper.slot_of Big bytes.now k }
 {
     let h = Header::read(bytes, Order::Big);
     if whole_of(h.number, bytes.len()) <= k {
-        return Slot::Outside;
+        return None;
     }
-    Slot::Holds(offences::descriptor_at(bytes, k, Order::Big))
+    Some(offences::descriptor_at(bytes, k, Order::Big))
 }

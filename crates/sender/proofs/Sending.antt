@@ -8,6 +8,7 @@ use native.Mathlib.Omega.{arith}
 use lib.ListN.{length, take, drop, get_or, length-append, length-take, drop_of_length-le}
 use lib.Seq.{take_all, take-take, take-length, length-take-le}
 use mir.Val.{bool_byte}
+use Rattle.std.specs.Prelude.{Ok, Err}
 use Rattle.device.specs.Record.{removed_number}
 use Rattle.device.specs.declared.Device.{Device}
 use Rattle.layout.proofs.Bytes.{header_wide, wide}
@@ -15,9 +16,9 @@ use Rattle.layout.specs.Bytes.{header_bytes, descriptor_bytes}
 use Rattle.layout.specs.declared.Descriptor.{Descriptor}
 use Rattle.layout.specs.declared.Header.{Header}
 use Rattle.paper.proofs.Output.{written_small, written_done, refusal_writes_nothing}
-use Rattle.paper.specs.Output.{output, written}
-use Rattle.paper.specs.Told.{tells, said}
-use Rattle.paper.specs.declared.Answer.TheVariants.{Done, InvalidField, SmallBuffer}
+use Rattle.paper.specs.Output.{output, wrote, written}
+use Rattle.paper.specs.Told.{tells}
+use Rattle.paper.specs.declared.Unwritten.TheVariants.{InvalidField, SmallBuffer}
 use Rattle.query.specs.Queries.{due_four, asked}
 use Rattle.query.specs.declared.Query.{Query}
 use Rattle.request.specs.declared.Request.{Request}
@@ -176,7 +177,7 @@ part_filled d q n g is_n is_g b b₁ b₂ r most is_r is_b₁ is_b₂ =
 -- ## The answer, and the buffer
 
 module _ (d : Device) (q : Query) (a : ℕ) (buf : List ℕ) (b : Bool) (is_b : b ≡ due_four q) where
-  pub sent_due : b ≡ true → said InvalidField (output 0 buf) ≡ sent d q a buf
+  pub sent_due : b ≡ true → wrote (Err InvalidField) buf ≡ sent d q a buf
   sent_due y = sym (rw (sym is_b ∙ y))
 
   module _ (no : b ≡ false) (r : Request) (is_r : r ≡ asked q) (number : ℕ) (is_number : number ≡ length (list_of d r)) (size : ℕ) (is_size : size ≡ min a (32 + 32 * number)) where
@@ -198,11 +199,11 @@ module _ (d : Device) (q : Query) (a : ℕ) (buf : List ℕ) (b : Bool) (is_b : 
     long_cut : size ≡ length (take a (data_of Big d q))
     long_cut = sym (ap length (sym cut) ∙ length-take-le size (data_for d r) (omega (arith, is_size, long_data)))
 
-    pub sent_small : length buf < size → said SmallBuffer (output 0 buf) ≡ sent d q a buf
+    pub sent_small : length buf < size → wrote (Err SmallBuffer) buf ≡ sent d q a buf
     sent_small short = written_small (take a (data_of Big d q)) buf size long_cut short ∙ sym (rw (sym is_b ∙ no))
 
     pub sent_done : size ≤ length buf → (y : List ℕ) → y ≡ take (length (take (size - 0) buf)) (data_for d r)
-        → said Done (output size (y ++ drop (size - 0) buf)) ≡ sent d q a buf
+        → wrote (Ok size) (y ++ drop (size - 0) buf) ≡ sent d q a buf
     sent_done room y is_y =
         let whole : size - 0 ≡ size = omega arith in
         let part : length (take (size - 0) buf) ≡ size = rw whole (length-take-le size buf room) in

@@ -3,15 +3,14 @@
 
 ghost use Rattle.std.specs.Prelude.{◌≡◌, ◌+◌, ◌-◌, ◌*◌, ◌≤◌, length, take};
 ghost use Rattle.layout.specs.Bytes.{descriptor_bytes};
-ghost use Rattle.paper.specs.Output.{output};
-ghost use Rattle.paper.specs.Told.{said};
+ghost use Rattle.paper.specs.Output.{wrote};
 ghost use Rattle.slices.specs.Lists.{flat, stored};
 ghost use Rattle.status.specs.Page.{list_of};
 ghost use Rattle.sender.specs.Private as private;
 ghost use Rattle.sender.specs.Sent.{sent};
 
 use device::Device;
-use paper::{Answer, PageCount, Written};
+use paper::{PageCount, Unwritten};
 use query::Query;
 use request::Request;
 use words::Order;
@@ -66,28 +65,19 @@ fn fill_part(d: Device, request: Request, number: usize, part: &mut [u8])
     put_asked(d, request, part);
 }
 
-// The answer, and after 0 how many bytes were written: "the smaller of the allocation length and 32 + 32N".
-pub fn send(d: Device, query: Query, allocation: u32, buf: &mut [u8]) -> Written
-    ensures { said result.answer (output result.count buf.new) ≡ sent d query allocation buf.old }
+// How many bytes were written: "the smaller of the allocation length and 32 + 32N".
+pub fn send(d: Device, query: Query, allocation: u32, buf: &mut [u8]) -> Result<usize, Unwritten>
+    ensures { wrote result buf.new ≡ sent d query allocation buf.old }
 {
     if query.is_refused() {
-        return Written {
-            answer: Answer::InvalidField,
-            count: 0,
-        };
+        return Err(Unwritten::InvalidField);
     }
     let request = query.for_pages(PageCount(0));
     let number = number_asked(d, request);
     let size = slices::smaller(allocation as usize, 32 + 32 * number);
     if buf.len() < size {
-        return Written {
-            answer: Answer::SmallBuffer,
-            count: 0,
-        };
+        return Err(Unwritten::SmallBuffer);
     }
     fill_part(d, request, number, &mut buf[0..size]);
-    Written {
-        answer: Answer::Done,
-        count: size,
-    }
+    Ok(size)
 }

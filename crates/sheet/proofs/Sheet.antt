@@ -13,7 +13,7 @@ use Rattle.heading.proofs.Heading.{length_header}
 use Rattle.layout.specs.declared.Header.{Header}
 use Rattle.rows.specs.Rows.{header_line, refused_line}
 use Rattle.slices.specs.Lists.{stored, ended}
-use Rattle.tally.proofs.Tally.{length_tally}
+use Rattle.tally.proofs.Line.{length_tally}
 use Rattle.tally.specs.Tally.{tally_line}
 use Rattle.words.specs.declared.Order.{Order}
 use Rattle.writing.proofs.Puts.{puts_one, puts_more}

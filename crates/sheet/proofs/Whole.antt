@@ -8,18 +8,18 @@ use lib.Dec.{leb}
 use lib.ListN.{length, drop, length-append}
 use lib.Seq.{length-take-le}
 use borrow.Author.Tests.{leb-true, leb-false, le-leb, lt-leb}
+use Rattle.std.specs.Prelude.{Ok, Err}
 use Rattle.io.specs.Counts.{IsPrefixLen}
 use Rattle.paper.proofs.Output.{written_small, written_done}
-use Rattle.paper.specs.Output.{output, written}
-use Rattle.paper.specs.Told.{said}
-use Rattle.paper.specs.declared.Answer.TheVariants.{Done, SmallBuffer}
+use Rattle.paper.specs.Output.{wrote, written}
+use Rattle.paper.specs.declared.Unwritten.TheVariants.{SmallBuffer}
 use Rattle.slices.proofs.Lists.{stored-front}
 use Rattle.slices.specs.Lists.{stored, ended}
 use Rattle.writing.proofs.Puts.{puts_one}
 use Rattle.writing.specs.Private.{Puts}
 
 module _ (text out : List ℕ) (t : Bool) (is_t : t ≡ leb (length text) (length out)) where
-  pub none_written : t ≡ false → said SmallBuffer (output 0 out) ≡ written text out
+  pub none_written : t ≡ false → wrote (Err SmallBuffer) out ≡ written text out
   none_written short = written_small text out (length text) refl (leb-false (length text) (length out) (sym is_t ∙ short))
 
   module _ (yes : t ≡ true) (x : List ℕ) (size : ℕ) (puts : Puts out 0 text x size) where
@@ -36,7 +36,7 @@ module _ (text out : List ℕ) (t : Bool) (is_t : t ≡ leb (length text) (lengt
     filled : x ≡ text ++ drop (length text) out
     filled = stands.0 ∙ stored-front out text room
 
-    pub all-written : said Done (output size x) ≡ written text out
+    pub all-written : wrote (Ok size) x ≡ written text out
     all-written = written_done text out size is_size (omega (arith, room, is_size)) x filled
 
     -- how many bytes were written: so many the buffer has
@@ -51,10 +51,10 @@ module _ (text out x : List ℕ) (size : ℕ) (is_x : x ≡ stored out 0 text) (
   abbrev fit : Bool
   fit = leb (0 + length text) (length out)
 
-  pub line_small : size ≡ 0 → said SmallBuffer (output 0 x) ≡ written text out
+  pub line_small : size ≡ 0 → wrote (Err SmallBuffer) x ≡ written text out
   line_small none = by_test fit refl
     where
-      by_test : (t : Bool) → fit ≡ t → said SmallBuffer (output 0 x) ≡ written text out
+      by_test : (t : Bool) → fit ≡ t → wrote (Err SmallBuffer) x ≡ written text out
       by_test true e = let wide : size ≡ 0 + length text = is_size ∙ rw e in absurd (omega (arith, some))
       by_test false e =
           let same : x ≡ out = is_x ∙ rw e in
@@ -68,7 +68,7 @@ module _ (text out x : List ℕ) (size : ℕ) (is_x : x ≡ stored out 0 text) (
         by_test true e = sym (le-leb (length text) (length out) (omega (arith, leb-true (0 + length text) (length out) e)))
         by_test false e = absurd (stored_some (is_size ∙ rw e))
 
-    pub line_written : said Done (output size x) ≡ written text out
+    pub line_written : wrote (Ok size) x ≡ written text out
     line_written = all-written text out true room_there refl x size (puts_one out x 0 size text is_x is_size)
 
     pub line_counts : IsPrefixLen size x

@@ -9,53 +9,48 @@ ghost use Rattle.slices.specs.Lists.{fits, stored, one};
 pub fn byte_at(s: &[u8], at: usize) -> u8
     ensures { result ≡ get_or s.now at 0 }
 {
-    if at < s.len() { s[at] } else { 0 }
+    s.get(at).copied().unwrap_or(0)
 }
 
 pub fn smaller(a: usize, b: usize) -> usize
     ensures { result ≡ min a b }
 {
-    if a < b { a } else { b }
+    a.min(b)
 }
 
 pub fn bit(b: bool) -> u8
     ensures { result ≡ one b }
 {
-    if b { 1 } else { 0 }
+    b as u8
 }
 
 // The first n bytes, or all if these are fewer.
 pub fn head(s: &[u8], n: usize) -> &[u8]
     ensures { result.now ≡ take n s.now }
 {
-    if n < s.len() { &s[0..n] } else { s }
+    s.get(..n).unwrap_or(s)
 }
 
 // What stands from a place on, nothing past the end.
 pub fn tail(s: &[u8], at: usize) -> &[u8]
     ensures { result.now ≡ drop at s.now }
 {
-    if at < s.len() { &s[at..] } else { &s[0..0] }
+    s.get(at..).unwrap_or(&[])
 }
 
 // Whether n bytes fit from a place on.
 pub fn does_fit(n: usize, at: usize, room: usize) -> bool
     ensures { result ≡ fits n at room }
 {
-    if room < n {
-        return false;
-    }
-    at <= room - n
+    n <= room && at <= room - n
 }
 
 fn copy(buf: &mut [u8], at: usize, b: &[u8])
     requires { at + length b.now ≤ length buf.old }
     ensures { buf.new ≡ paste buf.old at b.now (length b.now) }
 {
-    let mut k = 0;
-    while k < b.len() {
-        buf[at + k] = b[k];
-        k += 1;
+    for (k, x) in b.iter().enumerate() {
+        buf[at + k] = *x;
     }
 }
 
@@ -72,12 +67,7 @@ pub fn put(buf: &mut [u8], at: usize, b: &[u8])
 pub fn clear(buf: &mut [u8], from: usize, to: usize)
     ensures { buf.new ≡ stored buf.old from (replicate (to - from) 0) }
 {
-    if buf.len() < to {
-        return;
-    }
-    let mut i = from;
-    while i < to {
-        buf[i] = 0;
-        i += 1;
+    if from <= to && to <= buf.len() {
+        buf[from..to].fill(0);
     }
 }

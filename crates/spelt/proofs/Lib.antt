@@ -1,3 +1,2 @@
 -- What is proved of answers in numbers.
 pub mod Spans
-pub mod Told

@@ -1,29 +1,24 @@
 -- Each answer in numbers alone, by its number in document 01's table and its values. What an answer does not name is 0.
-use Rattle.std.specs.Prelude.{ℕ, Bool, true, false}
+use Rattle.std.specs.Prelude.{ℕ, Bool, true, false, Option, Some, None, is_some, Result, Ok, Err}
 use Rattle.compare.specs.Walk.{cursor, first}
 use Rattle.compare.specs.declared.Cursor.{Cursor}
 use Rattle.compare.specs.declared.Line.TheVariants.{OnlyOlder, OnlyNewer, Changed}
 use Rattle.compare.specs.declared.Line.{Line}
-use Rattle.compare.specs.declared.Step.TheVariants.{Done, Found}
-use Rattle.compare.specs.declared.Step.{Step}
+use Rattle.compare.specs.declared.Hit.{Hit}
 use Rattle.convert.specs.Convert as convert
 use Rattle.layout.specs.declared.Descriptor.{Descriptor}
 use Rattle.layout.specs.declared.Header.{Header}
 use Rattle.paper.specs.Answers.{number_of}
+use Rattle.paper.specs.Output.{answer_for}
 use Rattle.paper.specs.Told.{Told}
 use Rattle.paper.specs.declared.ElementId.{ElementId}
-use Rattle.paper.specs.declared.Sensed.TheVariants.{None, Codes}
-use Rattle.paper.specs.declared.Sensed.{Sensed}
-use Rattle.paper.specs.declared.Written.{Written}
+use Rattle.paper.specs.declared.Sense as paper
+use Rattle.paper.specs.declared.Unwritten.{Unwritten}
 use Rattle.reach.specs.Opening as opening
 use Rattle.reach.specs.Pages.{end_of}
-use Rattle.reach.specs.declared.Bound.TheVariants.{Whole, UpTo}
-use Rattle.reach.specs.declared.Bound.{Bound}
 use Rattle.reach.specs.declared.Turn.TheVariants.{Older, Newer}
 use Rattle.reach.specs.declared.Turn.{Turn}
 use Rattle.reader.specs.Judgement as pages
-use Rattle.reader.specs.declared.Slot.TheVariants.{Outside, Holds}
-use Rattle.reader.specs.declared.Slot.{Slot}
 use Rattle.scsi.specs.Judgement as dock
 use Rattle.walk.specs.Next as walk
 use Rattle.spelt.specs.declared.Count.{Count}
@@ -40,8 +35,9 @@ no_element = record { 0 = 0 }
 
 -- ## A lent buffer
 
-abbrev pub count_of : Written → Count
-count_of w = record { count = w.count; answer = number_of w.answer }
+abbrev pub count_of : Result ℕ Unwritten → Count
+count_of (Ok n) = record { count = n; answer = 0 }
+count_of (Err why) = record { count = 0; answer = number_of (answer_for why) }
 
 -- ## The readers
 
@@ -72,9 +68,9 @@ data_reading t = data_reading_for t.number t.state
 abbrev pub no_descriptor : Descriptor
 no_descriptor = record { id = no_element; restorable = false; kind = 0; health = 0; capacity = 0 }
 
-abbrev pub stand_of : Slot → Stand
-stand_of Outside = record { descriptor = no_descriptor; there = false }
-stand_of (Holds d) = record { descriptor = d; there = true }
+abbrev pub stand_of : Option Descriptor → Stand
+stand_of None = record { descriptor = no_descriptor; there = false }
+stand_of (Some d) = record { descriptor = d; there = true }
 
 -- ## The walk
 
@@ -92,15 +88,8 @@ abbrev pub turn_of : Turn → ℕ
 turn_of Older = 1
 turn_of Newer = 2
 
-abbrev pub is_cut : Bound → Bool
-is_cut Whole = false
-is_cut (UpTo id) = true
-
-abbrev pub bounded_by : Bound → ℕ → Opened
-bounded_by b n = record { end = end_of b; cut = is_cut b; turn = 0; answer = n }
-
 abbrev pub opened_for : ℕ → opening.Values → Opened
-opened_for n (opening.bound b) = bounded_by b n
+opened_for n (opening.bound b) = record { end = end_of b; cut = is_some b; turn = 0; answer = n }
 opened_for n (opening.turn t) = record { end = no_element; cut = false; turn = turn_of t; answer = n }
 
 abbrev pub opened_of : Told opening.Values → Opened
@@ -112,9 +101,9 @@ difference_at (OnlyOlder k) next = record { at = cursor k 0; next = next; kind =
 difference_at (OnlyNewer k) next = record { at = cursor 0 k; next = next; kind = 2 }
 difference_at (Changed c) next = record { at = c; next = next; kind = 3 }
 
-abbrev pub difference_of : Step → Difference
-difference_of Done = record { at = first; next = first; kind = 0 }
-difference_of (Found h) = difference_at h.line h.next
+abbrev pub difference_of : Option Hit → Difference
+difference_of None = record { at = first; next = first; kind = 0 }
+difference_of (Some h) = difference_at h.line h.next
 
 -- ## The conversion
 
@@ -127,6 +116,6 @@ turned_of t = turned_for t.number t.state
 
 -- ## "Sense key/ASC/ASCQ": none is not 0/00/00
 
-abbrev pub sense_of : Sensed → Sense
+abbrev pub sense_of : Option paper.Sense → Sense
 sense_of None = record { there = false; key = 0; asc = 0; ascq = 0 }
-sense_of (Codes s) = record { there = true; key = s.key; asc = s.asc; ascq = s.ascq }
+sense_of (Some s) = record { there = true; key = s.key; asc = s.asc; ascq = s.ascq }

@@ -1,5 +1,5 @@
 // What calls say, in numbers alone, for C: a struct in the place of each enum that an answer is, by its name in c/recorder.h. What an answer does not
-// name is 0.
+// name is 0, and written out: an identifier and a header have no default value.
 #![tactic(auto)]
 
 ghost use Rattle.std.specs.Prelude.{ℕ, List, ◌≡◌};
@@ -11,12 +11,12 @@ ghost use Rattle.walk.specs.Next as walk;
 ghost use Rattle.spelt.specs.Spelt as spelt;
 ghost use Rattle.spelt.specs.Spans as spans;
 
-use compare::{Cursor, Line, Step};
-use convert::Converted;
+use compare::{Cursor, Hit, Line};
+use convert::Refusal;
 use layout::{Descriptor, Header};
-use paper::{ElementId, Sensed, Written};
-use reach::{Bound, Opening, Turn};
-use walk::Move;
+use offences::Offence;
+use paper::{Answer, ElementId, Unwritten};
+use reach::Turn;
 
 // `recorder_written`: how many bytes a call wrote into a lent buffer; its number in document 01's table.
 #[repr(C)]
@@ -104,14 +104,15 @@ pub struct Sense {
 
 // ---- One for each answer
 
-pub fn count_of(w: Written) -> Count
-    ensures { result ≡ spelt.count_of w }
+pub fn count_of(written: Result<usize, Unwritten>) -> Count
+    ensures { result ≡ spelt.count_of written }
 {
-    let said = w.answer;
-    let answer = paper::number_of(said);
-    Count {
-        count: w.count,
-        answer,
+    match written {
+        Ok(count) => Count { count, answer: 0 },
+        Err(why) => Count {
+            count: 0,
+            answer: u8::from(Answer::from(why)),
+        },
     }
 }
 
@@ -146,29 +147,29 @@ fn refused(place: usize) -> Reading
 }
 
 // Of a page every descriptor that is returned is there.
-pub fn page_reading(j: reader::Judgement) -> Reading
-    ensures { result ≡ spelt.page_reading (pages.heard j) }
+pub fn page_reading(said: Result<Header, Offence>) -> Reading
+    ensures { result ≡ spelt.page_reading (pages.heard said) }
 {
-    match j {
-        reader::Judgement::Accepted(h) => accepted(h, h.returned, false),
-        reader::Judgement::Refused(place) => refused(place),
+    match said {
+        Ok(h) => accepted(h, h.returned, false),
+        Err(offence) => refused(offence.0),
     }
 }
 
-pub fn data_reading(j: scsi::Judgement) -> Reading
-    ensures { result ≡ spelt.data_reading (dock.heard j) }
+pub fn data_reading(said: Result<scsi::Reading, Offence>) -> Reading
+    ensures { result ≡ spelt.data_reading (dock.heard said) }
 {
-    match j {
-        scsi::Judgement::Accepted(x) => accepted(x.header, x.whole, x.torn),
-        scsi::Judgement::Refused(place) => refused(place),
+    match said {
+        Ok(x) => accepted(x.header, x.whole, x.torn),
+        Err(first) => refused(first.0),
     }
 }
 
-pub fn stand_of(s: reader::Slot) -> Stand
+pub fn stand_of(s: Option<Descriptor>) -> Stand
     ensures { result ≡ spelt.stand_of s }
 {
     match s {
-        reader::Slot::Outside => Stand {
+        None => Stand {
             descriptor: Descriptor {
                 id: ElementId(0),
                 restorable: false,
@@ -178,31 +179,25 @@ pub fn stand_of(s: reader::Slot) -> Stand
             },
             there: false,
         },
-        reader::Slot::Holds(descriptor) => Stand {
+        Some(descriptor) => Stand {
             descriptor,
             there: true,
         },
     }
 }
 
-pub fn onward_of(m: Move) -> Onward
+pub fn onward_of(m: Result<Option<ElementId>, Offence>) -> Onward
     ensures { result ≡ spelt.onward_of (walk.heard m) }
 {
     match m {
-        Move::Ask(start) => Onward {
+        Ok(next) => Onward {
             place: 0,
-            start,
-            asks: true,
+            start: next.unwrap_or(ElementId(0)),
+            asks: next.is_some(),
             answer: 0,
         },
-        Move::End => Onward {
-            place: 0,
-            start: ElementId(0),
-            asks: false,
-            answer: 0,
-        },
-        Move::Refused(place) => Onward {
-            place,
+        Err(offence) => Onward {
+            place: offence.0,
             start: ElementId(0),
             asks: false,
             answer: 9,
@@ -210,6 +205,7 @@ pub fn onward_of(m: Move) -> Onward
     }
 }
 
+// C's number, which `reach` does not know, so that it is no `From` there.
 fn turn_of(t: Turn) -> u8
     ensures { result ≡ spelt.turn_of t }
 {
@@ -219,31 +215,17 @@ fn turn_of(t: Turn) -> u8
     }
 }
 
-fn bounded(b: Bound) -> Opened
-    ensures { result ≡ spelt.bounded_by b 0 }
-{
-    match b {
-        Bound::Whole => Opened {
-            end: ElementId(0xFFFF_FFFF),
-            cut: false,
-            turn: 0,
-            answer: 0,
-        },
-        Bound::UpTo(end) => Opened {
-            end,
-            cut: true,
-            turn: 0,
-            answer: 0,
-        },
-    }
-}
-
-pub fn opened_of(o: Opening) -> Opened
+pub fn opened_of(o: Result<Option<ElementId>, Turn>) -> Opened
     ensures { result ≡ spelt.opened_of (opening.heard o) }
 {
     match o {
-        Opening::Accepted(b) => bounded(b),
-        Opening::Refused(t) => Opened {
+        Ok(bound) => Opened {
+            end: bound.unwrap_or(ElementId(0xFFFF_FFFF)),
+            cut: bound.is_some(),
+            turn: 0,
+            answer: 0,
+        },
+        Err(t) => Opened {
             end: ElementId(0),
             cut: false,
             turn: turn_of(t),
@@ -270,55 +252,52 @@ fn difference_at(line: Line, next: Cursor) -> Difference
     }
 }
 
-pub fn difference_of(s: Step) -> Difference
+pub fn difference_of(s: Option<Hit>) -> Difference
     ensures { result ≡ spelt.difference_of s }
 {
     match s {
-        Step::Done => Difference {
-            at: Cursor { older: 0, newer: 0 },
-            next: Cursor { older: 0, newer: 0 },
+        Some(hit) => difference_at(hit.line, hit.next),
+        None => Difference {
+            at: Cursor::first(),
+            next: Cursor::first(),
             kind: 0,
         },
-        Step::Found(hit) => {
-            let line = hit.line;
-            difference_at(line, hit.next)
-        }
     }
 }
 
-pub fn turned_of(c: Converted) -> Turned
+pub fn turned_of(c: Result<usize, Refusal>) -> Turned
     ensures { (buf : List ℕ) → result ≡ spelt.turned_of (convert.heard c buf) }
 {
     match c {
-        Converted::Done(count) => Turned {
+        Ok(count) => Turned {
             count,
             place: 0,
             answer: 0,
         },
-        Converted::SmallBuffer => Turned {
+        Err(Refusal::SmallBuffer) => Turned {
             count: 0,
             place: 0,
             answer: 7,
         },
-        Converted::Refused(place) => Turned {
+        Err(Refusal::Offence(offence)) => Turned {
             count: 0,
-            place,
+            place: offence.0,
             answer: 9,
         },
     }
 }
 
-pub fn sense_of(s: Sensed) -> Sense
+pub fn sense_of(s: Option<paper::Sense>) -> Sense
     ensures { result ≡ spelt.sense_of s }
 {
     match s {
-        Sensed::None => Sense {
+        None => Sense {
             there: false,
             key: 0,
             asc: 0,
             ascq: 0,
         },
-        Sensed::Codes(c) => Sense {
+        Some(c) => Sense {
             there: true,
             key: c.key,
             asc: c.asc,
@@ -354,16 +333,15 @@ fn no_span() -> Span
     }
 }
 
-// The descriptor that a difference speaks of; of a kind that is none, no bytes.
+// The descriptor that a difference speaks of; of a kind that is none, no bytes. 2 and 3 have an arm each: as one pattern they are tested as a range, and
+// the proof does not close.
 pub fn span_of(older: &[u8], newer: &[u8], d: Difference) -> Span
     ensures { result ≡ spans.span_of older.now newer.now d }
 {
-    let kind = d.kind;
-    let at = d.at;
-    match kind {
-        1 => span_in(1, older, at.older),
-        2 => span_in(2, newer, at.newer),
-        3 => span_in(2, newer, at.newer),
+    match d.kind {
+        1 => span_in(1, older, d.at.older),
+        2 => span_in(2, newer, d.at.newer),
+        3 => span_in(2, newer, d.at.newer),
         _ => no_span(),
     }
 }

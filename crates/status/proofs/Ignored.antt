@@ -16,11 +16,12 @@ use Rattle.device.specs.Record.{says, tell}
 use Rattle.device.specs.declared.Device.{Device}
 use Rattle.layout.specs.declared.Descriptor.{Descriptor}
 use Rattle.open.specs.Open.{is_open}
-use Rattle.paper.specs.Registers.{Registers, low48}
+use Rattle.paper.specs.Registers.{low48, identifier_of}
 use Rattle.paper.specs.Told.{Told}
 use Rattle.paper.specs.declared.Lba.{Lba}
+use Rattle.paper.specs.declared.Registers.{Registers}
 use Rattle.paper.specs.declared.Security.{Security}
-use Rattle.removal.specs.Remove.{identifier_of, judge}
+use Rattle.removal.specs.Remove.{judge}
 use Rattle.request.proofs.Requests.{refused-same}
 use Rattle.request.proofs.ReservedBits.{high_bits_alike}
 use Rattle.request.specs.Requests.{SameFields, asked, status_number, takes_type, takes_health}

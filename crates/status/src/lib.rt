@@ -38,11 +38,9 @@ fn put_list(ps: [Part; 128], hs: [u8; 128], places: [u8; 128], returned: usize, 
     requires { (returned ≤ 128) × (32 + 32 * returned ≤ length buf.old) × private.Slots places }
     ensures { buf.new ≡ stored buf.old 32 (flat (descriptor_bytes Order.Little) (private.shown_there ps hs places returned)) }
 {
-    let mut k: usize = 0;
-    while k < returned {
+    for k in 0..returned {
         let j = places[k] as usize;
         view::put_shown(ps[j], hs[j], 32 + 32 * k, Order::Little, buf);
-        k += 1;
     }
 }
 
@@ -68,11 +66,9 @@ fn fill(d: Device, request: Request, buf: &mut [u8])
     let n = table::bounded(d.table.count);
     let mut places: [u8; 128] = [0; 128];
     let mut number: usize = 0;
-    let mut i: usize = 0;
-    while i < n {
+    for i in 0..n {
         places[number] = i as u8;
         number += view::does_ask(request, ps[i], hs[i]) as usize;
-        i += 1;
     }
     let returned = slices::smaller(number, 16 * (request.count.0 as usize) - 1);
     let header = header_of(d, number as u32, returned as u32);
@@ -86,7 +82,7 @@ pub fn show(d: Device, security: Security, request: Request, buf: &mut [u8]) -> 
     ensures { said result buf.new ≡ shown d security request buf.old }
 {
     let answer = request::judge(security, request, buf.len());
-    if paper::number_of(answer) == 0 {
+    if u8::from(answer) == 0 {
         fill(d, request, buf);
     }
     answer

@@ -1,5 +1,5 @@
 -- Document 01: "Work steps", "Winding up" and "Grade".
-use Rattle.std.specs.Prelude.{ℕ, cond, not, ◌||◌}
+use Rattle.std.specs.Prelude.{ℕ, cond, not, ◌||◌, Option, None, Some}
 use Rattle.paper.specs.Elements.{removed_health, graded_health}
 use Rattle.paper.specs.declared.ElementId.{ElementId}
 use Rattle.paper.specs.declared.Lba.{Lba}
@@ -18,16 +18,17 @@ use Rattle.cells.specs.declared.Store.TheVariants.{Nothing, NativeTo, Accessible
 use Rattle.cells.specs.declared.Store.{Store}
 
 -- "both to the new value if the noted element is FFh, else the old"; one that is not there is not
-abbrev pub wound_to : Seen → Removal → Lba
+abbrev pub wound_to : Option Seen → Removal → Lba
 wound_to s w = cond (gone s) w.new w.old
 
 -- "health := FFh, the marking store"; no such element, no store
-abbrev pub marking : Seen → Store
-marking s = cond s.hit (Marked s.place) Nothing
+abbrev pub marking : Option Seen → Store
+marking None = Nothing
+marking (Some s) = Marked s.place
 
 -- "(1) native max := new; (2) accessible max := new; (3) health := FFh, the marking store; (4) failed mark cleared; (5) note emptied"
 -- "(1) native, (2) accessible ..; (3) failed mark set; (4) note emptied"
-abbrev pub store_from : Seen → Removal → Position → Store
+abbrev pub store_from : Option Seen → Removal → Position → Store
 store_from s w Work1 = NativeTo w.new
 store_from s w Work2 = AccessibleTo w.new
 store_from s w Work3 = marking s
@@ -62,8 +63,9 @@ rule_stop p idle Empty = quiet idle p
 rule_stop p idle (Full w) = goes Nothing Wind1
 
 -- "Unknown identifier, element at FFh, or a value above CFh: 11."
-unfoldable pub grade_seen : Position → ℕ → Seen → Ruled
-grade_seen p h s = cond (not s.hit || (removed_health s.health || not (graded_health h))) (quiet 11 p) (goes (Graded s.place h) p)
+unfoldable pub grade_seen : Position → ℕ → Option Seen → Ruled
+grade_seen p h None = quiet 11 p
+grade_seen p h (Some s) = cond (removed_health s.health || not (graded_health h)) (quiet 11 p) (goes (Graded s.place h) p)
 
 abbrev pub rule_grade : Table → Cells → Position → ElementId → ℕ → Ruled
 rule_grade t c p id h = grade_seen p h (see_in t c id)

@@ -33,72 +33,54 @@ fn next_of(at: Position) -> Position
 fn does_look(at: Position) -> bool
     ensures { result ≡ false → private.Blind at }
 {
-    match at {
-        Position::Work1 => false,
-        Position::Work2 => false,
-        Position::Work3 => true,
-        Position::Work4 => false,
-        Position::Work5 => false,
-        Position::Wind1 => true,
-        Position::Wind2 => true,
-        Position::Wind3 => false,
-        Position::Wind4 => false,
-    }
+    matches!(at, Position::Work3 | Position::Wind1 | Position::Wind2)
 }
 
 // The marking store; no such element, no store.
-fn marking(s: Seen) -> Store
-    ensures { result ≡ steps.marking s }
+fn marking(seen: Option<Seen>) -> Store
+    ensures { result ≡ steps.marking seen }
 {
-    if s.hit {
-        Store::Marked(s.place)
-    } else {
-        Store::Nothing
+    match seen {
+        Some(s) => Store::Marked(s.place),
+        None => Store::Nothing,
     }
 }
 
 // Where winding up takes the addresses.
-fn wound_to(s: Seen, w: Removal) -> Lba
-    ensures { result ≡ steps.wound_to s w }
+fn wound_to(seen: Option<Seen>, w: Removal) -> Lba
+    ensures { result ≡ steps.wound_to seen w }
 {
-    let new = w.new;
-    let old = w.old;
-    if !s.hit {
-        return old;
+    match seen {
+        Some(s) if s.health == 0xFF => w.new,
+        _ => w.old,
     }
-    if s.health == 0xFF { new } else { old }
 }
 
 // The store of a step.
-fn store_from(s: Seen, w: Removal, at: Position) -> Store
-    ensures { result ≡ steps.store_from s w at }
+fn store_from(seen: Option<Seen>, w: Removal, at: Position) -> Store
+    ensures { result ≡ steps.store_from seen w at }
 {
-    let new = w.new;
     match at {
-        Position::Work1 => Store::NativeTo(new),
-        Position::Work2 => Store::AccessibleTo(new),
-        Position::Work3 => marking(s),
+        Position::Work1 => Store::NativeTo(w.new),
+        Position::Work2 => Store::AccessibleTo(w.new),
+        Position::Work3 => marking(seen),
         Position::Work4 => Store::FailedTo(Mark::Clear),
         Position::Work5 => Store::NoteEmptied,
-        Position::Wind1 => Store::NativeTo(wound_to(s, w)),
-        Position::Wind2 => Store::AccessibleTo(wound_to(s, w)),
+        Position::Wind1 => Store::NativeTo(wound_to(seen, w)),
+        Position::Wind2 => Store::AccessibleTo(wound_to(seen, w)),
         Position::Wind3 => Store::FailedTo(Mark::Set),
         Position::Wind4 => Store::NoteEmptied,
     }
 }
 
-// What a step sees of the noted element, or something blank where it need not look.
-fn look(t: Table, c: Cells, id: ElementId, at: Position) -> Seen
-    ensures { private.Alike at result (see_in t c id) }
+// The store of a step, which looks at the noted element only if it needs to.
+fn stored(t: Table, c: Cells, w: Removal, at: Position) -> Store
+    ensures { result ≡ steps.store_from (see_in t c w.element) w at }
 {
     if does_look(at) {
-        return cells::see(t, c, id);
-    }
-    Seen {
-        part: table::blank_part(),
-        place: 0,
-        health: 0,
-        hit: false,
+        store_from(cells::see(t, c, w.element), w, at)
+    } else {
+        store_from(None, w, at)
     }
 }
 
@@ -109,7 +91,7 @@ pub fn rule_step(t: Table, c: Cells, at: Position) -> Ruling
     let note = c.note;
     match note {
         Note::Empty => quiet(Answer::NoRemoval, at),
-        Note::Full(w) => goes(store_from(look(t, c, w.element, at), w, at), next_of(at)),
+        Note::Full(w) => goes(stored(t, c, w, at), next_of(at)),
     }
 }
 
@@ -123,13 +105,13 @@ pub fn rule_stop(note: Note, at: Position, idle: Answer) -> Ruling
     }
 }
 
+#[tactic(auto, unfolding(crate::specs::Steps::grade_seen))]
 pub fn rule_grade(t: Table, c: Cells, at: Position, id: ElementId, health: u8) -> Ruling
     ensures { ruled result ≡ steps.rule_grade t c at id health }
 {
-    let s = cells::see(t, c, id);
-    if !s.hit {
+    let Some(s) = cells::see(t, c, id) else {
         return quiet(Answer::GradeRefused, at);
-    }
+    };
     if s.health == 0xFF {
         return quiet(Answer::GradeRefused, at);
     }

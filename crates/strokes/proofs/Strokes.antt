@@ -2,7 +2,7 @@
 use Prim.Native.Nat.{ℕ, zero, suc, ◌+◌, ◌-◌, ◌*◌, ◌/◌, ◌%◌, ◌^◌, ◌≤◌, ◌<◌}
 use mathlib.Core.Bool.{Bool, true, false}
 use mathlib.Core.List.{List, ◌++◌, append-nil}
-use mathlib.Core.Path.{◌≡◌, refl, sym, ap, ◌∙◌}
+use mathlib.Core.Path.{◌≡◌, refl, sym, ap, ◌∙◌, subst}
 use native.Mathlib.Omega.{arith}
 use lib.Dec.{leb}
 use lib.ListN.{length, take, drop, set, replicate, length-replicate, replicate-append-replicate}
@@ -148,13 +148,19 @@ module _ (d : List ℕ) (at x n : ℕ) where
         put_more 1 (omega arith) _
         (part_stored y b (at + 4 * k) m (omega (arith, before)) (omega arith) z is_z ∙ ap (stored y (at + 4 * k)) (is_b ∙ sym (append-nil (low_bytes 4 x))))
 
-    pub put_run : 128 ≤ n - k → (z : List ℕ) → z ≡ stored y (at + 4 * k) (times 128 x) → TimesPut z (k + 128)
-    put_run many = put_more 128 (omega (arith, before))
+    -- a run of 128 more, after j of them
+    pub put_run : (j : ℕ) → k ≡ 128 * j → j < n / 128 → (z : List ℕ) → z ≡ stored y (at + 512 * j) (times 128 x) → TimesPut z (128 * (j + 1))
+    put_run j is_k less z is_z =
+        let place : at + 512 * j ≡ at + 4 * k = omega arith in
+        let next : k + 128 ≡ 128 * (j + 1) = omega arith in
+        subst (TimesPut z) next (put_more 128 (omega arith) z (is_z ∙ ap (λ (i : ℕ). stored y i (times 128 x)) place))
 
-    pub put_rest : (z : List ℕ) → z ≡ stored y (at + 4 * k) (times (n - k) x) → z ≡ stored d at (times n x)
-    put_rest z is_z =
-        let all : k + (n - k) ≡ n = omega (arith, before) in
-        (put_more (n - k) (omega (arith, before)) z is_z).2 ∙ ap (λ (m : ℕ). stored d at (times m x)) all
+    -- what is left after the runs
+    pub put_rest : k ≡ 128 * (n / 128) → (z : List ℕ) → z ≡ stored y (at + 512 * (n / 128)) (times (n % 128) x) → z ≡ stored d at (times n x)
+    put_rest is_k z is_z =
+        let place : at + 512 * (n / 128) ≡ at + 4 * k = omega arith in
+        let all : k + n % 128 ≡ n = omega arith in
+        (put_more (n % 128) (omega arith) z (is_z ∙ ap (λ (i : ℕ). stored y i (times (n % 128) x)) place)).2 ∙ ap (λ (m : ℕ). stored d at (times m x)) all
 
     pub put_whole : n ≤ k → y ≡ stored d at (times n x)
     put_whole high =

@@ -22,7 +22,7 @@ pub struct Row {
 fn put8(buf: &mut [u8], at: usize, x: u64)
     ensures { buf.new ≡ stored buf.old at (low_bytes 8 x) }
 {
-    slices::put(buf, at, &words::bytes8(x));
+    slices::put(buf, at, &x.to_le_bytes());
 }
 
 // Its n low bytes, at most one. Here and below no loop goes over a number of bytes that the compiler does not know: it would become a call of
@@ -44,7 +44,7 @@ fn put_low3(buf: &mut [u8], at: usize, x: u64, n: usize)
     if n < 2 {
         put_low1(buf, at, x, n);
     } else {
-        slices::put(buf, at, &words::bytes2((x % 65536) as u16));
+        slices::put(buf, at, &((x % 65536) as u16).to_le_bytes());
         put_low1(buf, at + 2, x / 65536, n - 2);
     }
 }
@@ -57,7 +57,7 @@ fn put_low7(buf: &mut [u8], at: usize, x: u64, n: usize)
     if n < 4 {
         put_low3(buf, at, x, n);
     } else {
-        slices::put(buf, at, &words::bytes4((x % 4294967296) as u32));
+        slices::put(buf, at, &((x % 4294967296) as u32).to_le_bytes());
         put_low3(buf, at + 4, x / 4294967296, n - 4);
     }
 }
@@ -107,10 +107,7 @@ impl Row {
 fn is_room_for(n: usize, at: usize, room: usize) -> bool
     ensures { result ≡ fits (4 * n) at room }
 {
-    if room < at {
-        return false;
-    }
-    n <= (room - at) / 4
+    at <= room && n <= (room - at) / 4
 }
 
 // Stores it n times. There is room.
@@ -118,11 +115,9 @@ fn put_each(buf: &mut [u8], at: usize, x: u32, n: usize)
     requires { at + 4 * n ≤ length buf.old }
     ensures { buf.new ≡ stored buf.old at (times n x) }
 {
-    let mut k: usize = 0;
-    while k < n {
+    for k in 0..n {
         let i = at + 4 * k;
-        slices::put(&mut buf[i..i + 4], 0, &words::bytes4(x));
-        k += 1;
+        slices::put(&mut buf[i..i + 4], 0, &x.to_le_bytes());
     }
 }
 
@@ -131,12 +126,11 @@ fn put_runs(buf: &mut [u8], at: usize, x: u32, n: usize)
     requires { at + 4 * n ≤ length buf.old }
     ensures { buf.new ≡ stored buf.old at (times n x) }
 {
-    let mut k: usize = 0;
-    while 128 <= n - k {
-        put_each(buf, at + 4 * k, x, 128);
-        k += 128;
+    let runs = n / 128;
+    for k in 0..runs {
+        put_each(buf, at + 512 * k, x, 128);
     }
-    put_each(buf, at + 4 * k, x, n - k);
+    put_each(buf, at + 512 * runs, x, n % 128);
 }
 
 // Stores a number n times, side by side from a place on, if all of it fits there.

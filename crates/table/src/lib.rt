@@ -1,9 +1,7 @@
 // The table as built, which no call changes, and its search; the healths, a cell for each place.
 #![tactic(auto)]
 
-ghost use Rattle.std.specs.Prelude.{◌≡◌, ◌≤◌, min, take, get_or, set};
-ghost use Rattle.paper.specs.Elements.{removed_health};
-ghost use Rattle.slices.specs.Lists.{one};
+ghost use Rattle.std.specs.Prelude.{◌≡◌, min, take, get_or, set};
 ghost use Rattle.table.specs.Elements.{blank_part, removed_count};
 ghost use Rattle.table.specs.Search as search;
 
@@ -21,7 +19,7 @@ pub struct Part {
     pub blocks: u64,
 }
 
-// The table as built.
+// The table as built. Arrays of 128 with a count beside: fixed memory, laid out as the C interface's image has it; a health is a cell of its own.
 #[derive(Clone, Copy)]
 pub struct Table {
     pub parts: [Part; 128],
@@ -29,12 +27,11 @@ pub struct Table {
     pub limit: u16,
 }
 
-// Where the search stopped, the part there, and whether it is the one sought; past the end a blank one.
+// What the search finds: a part, and its place.
 #[derive(Clone, Copy)]
 pub struct Sight {
     pub part: Part,
     pub place: usize,
-    pub hit: bool,
 }
 
 // How many of an array's 128 a count takes.
@@ -59,37 +56,21 @@ pub fn blank_part() -> Part
 
 // ---- The search
 
-// The search among the first `count`.
-fn seek(ps: [Part; 128], count: usize, want: u32) -> Sight
-    ensures { result ≡ search.sight_in want (take count ps) }
+// The search among parts. It stops at the first identifier that is not below the one sought.
+fn seek(parts: &[Part], id: ElementId) -> Option<Sight>
+    ensures { result ≡ search.sight_in id.0 parts.now }
 {
-    let n = bounded(count);
-    let mut i: usize = 0;
-    while i < n {
-        let part = ps[i];
-        if want <= part.id.0 {
-            return Sight {
-                part,
-                place: i,
-                hit: part.id.0 == want,
-            };
-        }
-        i += 1;
-    }
-    Sight {
-        part: blank_part(),
-        place: i,
-        hit: false,
-    }
+    let place = parts.iter().position(|part| id.0 <= part.id.0)?;
+    let part = parts[place];
+    (part.id.0 == id.0).then_some(Sight { part, place })
 }
 
 impl Table {
     // The search for an identifier.
-    pub fn sight(self, id: ElementId) -> Sight
+    pub fn sight(self, id: ElementId) -> Option<Sight>
         ensures { result ≡ search.sight id.0 self }
     {
-        let ps = self.parts;
-        seek(ps, self.count, id.0)
+        seek(&self.parts[..bounded(self.count)], id)
     }
 }
 
@@ -99,40 +80,27 @@ impl Table {
 pub fn health_at(healths: [u8; 128], place: usize) -> u8
     ensures { result ≡ get_or healths place 0 }
 {
-    if 128 <= place {
-        return 0;
-    }
-    healths[place]
+    healths.get(place).copied().unwrap_or(0)
 }
 
 // The healths with this one at a place.
-pub fn with_health(healths: [u8; 128], place: usize, health: u8) -> [u8; 128]
+pub fn with_health(mut healths: [u8; 128], place: usize, health: u8) -> [u8; 128]
     ensures { result ≡ set healths place health }
 {
-    if 128 <= place {
-        return healths;
+    if place < 128 {
+        healths[place] = health;
     }
-    let mut hs = healths;
-    hs[place] = health;
-    hs
+    healths
 }
 
-fn one_at_ff(health: u8) -> u16
-    ensures { (result ≡ one (removed_health health)) × (result ≤ 1) }
-{
-    if health == 0xFF { 1 } else { 0 }
-}
-
-// How many of the first `count` are at FFh.
+// How many of the first `count` are at FFh. Counted in 16 bits: a filter and its count, which go by 64, take some 6 instructions more an element.
 pub fn removed(healths: [u8; 128], count: usize) -> u16
     ensures { result ≡ removed_count (take count healths) }
 {
-    let n = bounded(count);
-    let mut i: usize = 0;
-    let mut k: u16 = 0;
-    while i < n {
-        k += one_at_ff(healths[i]);
-        i += 1;
+    let live = &healths[..bounded(count)];
+    let mut number: u16 = 0;
+    for health in live {
+        number += (*health == 0xFF) as u16;
     }
-    k
+    number
 }

@@ -1,2 +1,2 @@
 -- What is proved of the line.
-pub mod Tally
+pub mod Line

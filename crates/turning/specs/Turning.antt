@@ -1,5 +1,5 @@
 -- Request 2026-03, `./recorder convert`: what a file is converted to, and the lent buffer.
-use Rattle.std.specs.Prelude.{ℕ, List, leb, length}
+use Rattle.std.specs.Prelude.{ℕ, List, leb, length, Result, ⊤}
 use Rattle.convert.specs.Convert.{turned, paged, scsi_offence, ata_offence, Outcome, outcome}
 use Rattle.offences.specs.First.{unless, ◌or_else◌}
 use Rattle.offences.specs.declared.Offence.{Offence}
@@ -9,7 +9,7 @@ use Rattle.request.specs.Requests.{request_of}
 use Rattle.words.specs.declared.Order.TheVariants.{Little, Big}
 
 -- "Input above 65,536 bytes is refused at 65536"
-abbrev pub within : List ℕ → Offence
+abbrev pub within : List ℕ → Result ⊤ Offence
 within s = unless (leb (length s) 65536) 65536
 
 -- "turns an ATA page (request as the listing's) into SCSI data"

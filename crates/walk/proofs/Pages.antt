@@ -8,11 +8,13 @@ use native.Mathlib.Nat.{min-le_left}
 use native.Mathlib.Omega.{arith}
 use lib.Dec.{eqb, ltb}
 use borrow.Author.Tests.{lt-ltb, eq-eqb, eqb-true, ltb-true, ltb-false}
+use Rattle.std.proofs.Common.{Option, Some, None, Ok, Err, Result}
+use Rattle.std.specs.Prelude.{⊤}
+use Rattle.std.specs.Prelude.{option_to_list}
 use Rattle.layout.specs.Bytes.{header_in, room_of}
 use Rattle.layout.specs.declared.Descriptor.{Descriptor}
 use Rattle.layout.specs.declared.Header.{Header}
 use Rattle.offences.specs.Checks.{descriptor_at, last_before}
-use Rattle.offences.specs.declared.Offence.TheVariants.{Clean, At}
 use Rattle.offences.specs.declared.Offence.{Offence}
 use Rattle.paper.specs.Told.{Told, tells}
 use Rattle.paper.specs.declared.ElementId.{ElementId}
@@ -21,8 +23,6 @@ use Rattle.reach.proofs.Cut.{cut_bounds}
 use Rattle.reach.proofs.Reserved.{reach_same}
 use Rattle.reach.specs.Opening.{accepted}
 use Rattle.reach.specs.Pages.{count_of, reach_of}
-use Rattle.reach.specs.declared.Bound.TheVariants.{Whole, UpTo}
-use Rattle.reach.specs.declared.Bound.{Bound}
 use Rattle.reader.proofs.Ignored.{ignored_unread}
 use Rattle.reader.proofs.LayoutTheorem.{heard_at}
 use Rattle.reader.proofs.Reserved.{header_same, read_same, reserved_unseen}
@@ -30,15 +30,13 @@ use Rattle.reader.proofs.Taken.{Taken, taken}
 use Rattle.reader.specs.Judgement as reader
 use Rattle.reader.specs.Page.{page_offence}
 use Rattle.reader.specs.Reserved.{LooksAlike}
-use Rattle.reader.specs.declared.Slot.TheVariants.{Outside, Holds}
-use Rattle.reader.specs.declared.Slot.{Slot}
 use Rattle.request.proofs.ReservedBits.{asked_again}
 use Rattle.request.specs.Requests.{pages_of, refused}
 use Rattle.request.specs.declared.Request.{Request}
 use Rattle.words.specs.declared.Order.TheVariants.{Little}
 use Rattle.walk.specs.Next.{Values, ask, end, place, after, onward, next_for, next_of, next_request}
 use Rattle.walk.specs.Promises.{RefusesAsReader, Ends, EndsExactly, Leads, AsksExactly, NextAsked, IgnoredUnasked, ReservedUnasked}
-use Rattle.walk.specs.Walk.{round, held, held_below, elements_in}
+use Rattle.walk.specs.Walk.{round, held_below, elements_in}
 
 -- ## The ways that a page leads
 
@@ -53,19 +51,19 @@ module _ (s : List ℕ) (q : Request) where
   abbrev h : Header
   h = header_in Little s
 
-  next_by : (a : Offence) → page_offence Little s q ≡ a → next_of s q ≡ next_for s (reader.answer_of a h).state
+  next_by : (a : Result ⊤ Offence) → page_offence Little s q ≡ a → next_of s q ≡ next_for s (reader.answer_of a h).state
   unfolding next_of
-  next_by a e = ap (λ (x : Offence). next_for s (reader.answer_of x h).state) e
+  next_by a e = ap (λ (x : Result ⊤ Offence). next_for s (reader.answer_of x h).state) e
 
-  read_by : (a : Offence) → page_offence Little s q ≡ a → reader.read_of Little s q ≡ reader.answer_of a h
-  read_by a e = ap (λ (x : Offence). reader.answer_of x h) e
+  read_by : (a : Result ⊤ Offence) → page_offence Little s q ≡ a → reader.read_of Little s q ≡ reader.answer_of a h
+  read_by a e = ap (λ (x : Result ⊤ Offence). reader.answer_of x h) e
 
-  module _ (clean : page_offence Little s q ≡ Clean) where
+  module _ (clean : page_offence Little s q ≡ Ok tt) where
     abbrev last : ℕ
     last = last_before Little s h.returned
 
     read_0 : (reader.read_of Little s q).number ≡ 0
-    read_0 = ap (λ (t : Told reader.Values). t.number) (read_by Clean clean)
+    read_0 = ap (λ (t : Told reader.Values). t.number) (read_by (Ok tt) clean)
 
     is_taken : accepted s q ≡ true
     unfolding accepted
@@ -74,12 +72,12 @@ module _ (s : List ℕ) (q : Request) where
     page : Taken Little s q
     page = taken Little s q read_0
 
-    next_reach : (b : Bound) → b ≡ reach_of s → next_of s q ≡ tells 0 (onward b)
-    next_reach b e = next_by Clean clean ∙ ap (λ (x : Bound). tells 0 (onward x)) (sym e)
+    next_reach : (b : Option ElementId) → b ≡ reach_of s → next_of s q ≡ tells 0 (onward b)
+    next_reach b e = next_by (Ok tt) clean ∙ ap (λ (x : Option ElementId). tells 0 (onward x)) (sym e)
 
     module _ (cut : h.returned < h.number) where
       next_after : next_of s q ≡ tells 0 (after (record { 0 = last }))
-      next_after = next_reach (UpTo (record { 0 = last })) (reach_cut s h refl cut (record { 0 = last }) refl)
+      next_after = next_reach (Some (record { 0 = last })) (reach_cut s h refl cut (record { 0 = last }) refl)
 
       -- "16p - 1 is at least 15"
       some : 15 ≤ h.returned
@@ -89,11 +87,11 @@ module _ (s : List ℕ) (q : Request) where
       final : Descriptor
       final = descriptor_at Little s (h.returned - 1)
 
-      final_held : (k : ℕ) → suc k ≡ h.returned → reader.slot_of Little s k ≡ Holds final
+      final_held : (k : ℕ) → suc k ≡ h.returned → reader.slot_of Little s k ≡ Some final
       unfolding final
       final_held k e =
           let back : k ≡ h.returned - 1 = omega (arith, e) in
-          rw (lt-ltb k h.returned (omega (arith, e))) (ap (λ (j : ℕ). Holds (descriptor_at Little s j)) back)
+          rw (lt-ltb k h.returned (omega (arith, e))) (ap (λ (j : ℕ). Some (descriptor_at Little s j)) back)
 
       final_last : final.id.0 ≡ last
       unfolding final
@@ -119,11 +117,11 @@ module _ (s : List ℕ) (q : Request) where
     by_cut true e = by_last (ltb-true _ _ e) (ltb last 0xFFFF_FFFF) refl
     by_cut false e =
         let all : h.number ≤ h.returned = ltb-false _ _ e in
-        whole is_taken (omega (arith, all, page.returned, min-le_left h.number (room_of (pages_of q)))) (next_reach Whole (reach_whole s h refl all))
+        whole is_taken (omega (arith, all, page.returned, min-le_left h.number (room_of (pages_of q)))) (next_reach None (reach_whole s h refl all))
 
-  by_offence : (a : Offence) → page_offence Little s q ≡ a → Way s q
-  by_offence Clean e = by_cut e (ltb h.returned h.number) refl
-  by_offence (At p) e = refuses p (read_by (At p) e) (next_by (At p) e)
+  by_offence : (a : Result ⊤ Offence) → page_offence Little s q ≡ a → Way s q
+  by_offence (Ok _) clean = by_cut clean (ltb h.returned h.number) refl
+  by_offence (Err e) is_e = refuses e.0 (read_by (Err e) is_e) (next_by (Err e) is_e)
 
   pub way : Way s q
   way = by_offence (page_offence Little s q) refl
@@ -145,9 +143,9 @@ place_in (ask id) = 0
 place_in end = 0
 place_in (place p) = p
 
-held_in : Descriptor → Slot → Descriptor
-held_in z Outside = z
-held_in z (Holds d) = d
+held_in : Descriptor → Option Descriptor → Descriptor
+held_in z None = z
+held_in z (Some d) = d
 
 module _ (s : List ℕ) (q : Request) where
   one_number : (m n : ℕ) (v w : Values) → next_of s q ≡ tells m v → next_of s q ≡ tells n w → m ≡ n
@@ -169,7 +167,7 @@ module _ (s : List ℕ) (q : Request) where
     last_here : (k : ℕ) → suc k ≡ (header_in Little s).returned → l.last ≡ descriptor_at Little s k
     unfolding held_in
     last_here k e =
-        let there : reader.slot_of Little s k ≡ Holds (descriptor_at Little s k) = rw (lt-ltb k (header_in Little s).returned (omega (arith, e))) in
+        let there : reader.slot_of Little s k ≡ Some (descriptor_at Little s k) = rw (lt-ltb k (header_in Little s).returned (omega (arith, e))) in
         ap (held_in l.last) (sym (l.held k e) ∙ there)
 
     last_led : (n : ℕ) → n ≡ (header_in Little s).returned → id.0 ≡ last_before Little s n + 1
@@ -182,7 +180,7 @@ module _ (s : List ℕ) (q : Request) where
 -- ## The statements
 
 pub refuses_as_reader : RefusesAsReader
-refuses_as_reader s q p = (by_way (way s q), λ e. next_by s q (At p) (heard_at Little s q p (sym e)))
+refuses_as_reader s q p = (by_way (way s q), λ e. next_by s q (Err (record { 0 = p })) (heard_at Little s q p (sym e)))
   where
     by_way : Way s q → next_of s q ≡ tells 9 (place p) → reader.read_of Little s q ≡ tells 9 (reader.place p)
     by_way (refuses r is_read is_next) e = is_read ∙ ap (λ (n : ℕ). tells 9 (reader.place n)) (one_place s q r p is_next e)
@@ -252,7 +250,7 @@ unfolding next_of
 next_read s t p q same_reach same_read = λ i. by_reader (same_read i).state i
   where
     by_reader : (v : reader.Values) → next_for s v ≡ next_for t v
-    by_reader (reader.header g) = ap (λ (b : Bound). tells 0 (onward b)) same_reach
+    by_reader (reader.header g) = ap (λ (b : Option ElementId). tells 0 (onward b)) same_reach
     by_reader (reader.place p) = refl
 
 pub ignored_unasked : IgnoredUnasked
@@ -261,7 +259,7 @@ ignored_unasked s p q same = next_read s s p q refl (ignored_unread Little s p q
 module _ (s t : List ℕ) (alike : LooksAlike Little s t) (q : Request) where
   below-same : (n : ℕ) → held_below s n ≡ held_below t n
   below-same zero = refl
-  below-same (suc n) = λ i. below-same n i ++ held ((reserved_unseen Little s t alike).1 n i)
+  below-same (suc n) = λ i. below-same n i ++ option_to_list ((reserved_unseen Little s t alike).1 n i)
 
   elements_same : elements_in (round q s) ≡ elements_in (round q t)
   unfolding elements_in accepted

@@ -1,28 +1,27 @@
 -- What holds of every page and of every walk, whatever pages come. Each is a statement; proofs/ has the proof under the same name in lower case.
-use Rattle.std.specs.Prelude.{ℕ, suc, ◌+◌, ◌/◌, ◌≤◌, ◌<◌, true, false, List, [], ◌∷◌, ◌⊎◌, ◌≡◌, length}
+use Rattle.std.specs.Prelude.{ℕ, suc, ◌+◌, ◌/◌, ◌≤◌, ◌<◌, true, false, List, [], ◌∷◌, ◌⊎◌, ◌≡◌, length, Option, Some, Result}
 use Rattle.layout.specs.Bytes.{header_in}
 use Rattle.layout.specs.declared.Descriptor.{Descriptor}
 use Rattle.offences.specs.Checks.{last_before}
+use Rattle.offences.specs.declared.Offence.{Offence}
 use Rattle.paper.specs.Told.{tells}
 use Rattle.paper.specs.declared.ElementId.{ElementId}
 use Rattle.paper.specs.declared.PageCount.{PageCount}
 use Rattle.reach.specs.Opening.{accepted}
 use Rattle.reader.specs.Judgement as reader
 use Rattle.reader.specs.Reserved.{LooksAlike}
-use Rattle.reader.specs.declared.Slot.TheVariants.{Holds}
 use Rattle.request.specs.Requests.{SameFields, start_of, refused}
 use Rattle.request.specs.declared.Request.{Request}
 use Rattle.slices.specs.Lists.{Every}
 use Rattle.words.specs.declared.Order.TheVariants.{Little}
 use Rattle.walk.specs.Next.{ask, end, place, heard, next_of, next_request}
 use Rattle.walk.specs.Walk.{Came, Round, round, ended, followed, walk, elements_in}
-use Rattle.walk.specs.declared.Move.{Move}
 
 -- ## After a page
 
 -- no second answer fits
 abbrev pub OneNext : Type 0
-OneNext = (s : List ℕ) (q : Request) (a b : Move) → heard a ≡ next_of s q → heard b ≡ next_of s q → a ≡ b
+OneNext = (s : List ℕ) (q : Request) (a b : Result (Option ElementId) Offence) → heard a ≡ next_of s q → heard b ≡ next_of s q → a ≡ b
 
 -- "9 with the reader's place", and nothing else is refused
 abbrev pub RefusesAsReader : Type 0
@@ -47,7 +46,7 @@ pub record Leads (s : List ℕ) (q : Request) (id : ElementId) : Type 0 where
   -- so it has a last descriptor: "16p - 1 is at least 15"
   pub some : 15 ≤ (header_in Little s).returned
   pub last : Descriptor
-  pub held : (k : ℕ) → suc k ≡ (header_in Little s).returned → reader.slot_of Little s k ≡ Holds last
+  pub held : (k : ℕ) → suc k ≡ (header_in Little s).returned → reader.slot_of Little s k ≡ Some last
   -- "starts the next at the last identifier plus one"; "never .. above FFFF_FFFFh"
   pub plus_one : id.0 ≡ last.id.0 + 1
   pub low : id.0 ≤ 0xFFFF_FFFF
@@ -73,7 +72,7 @@ ReservedUnasked =
 -- it goes by what the call answers
 abbrev pub GoesByNext : Type 0
 GoesByNext =
-    (q : Request) (c : Came) (cs : List Came) (m : Move) → heard m ≡ next_of c.page q
+    (q : Request) (c : Came) (cs : List Came) (m : Result (Option ElementId) Offence) → heard m ≡ next_of c.page q
     → walk q (c ∷ cs) ≡ followed (round q c.page) (heard m).state (λ id. walk (next_request q id c.next) cs)
 
 -- a round after another: the page before led to its start

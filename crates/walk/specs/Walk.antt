@@ -1,13 +1,11 @@
 -- Document 02, 2026-04: a whole walk, over whatever pages come.
-use Rattle.std.specs.Prelude.{ℕ, zero, suc, cond, List, [], ◌∷◌, ◌++◌}
+use Rattle.std.specs.Prelude.{ℕ, zero, suc, cond, List, [], ◌∷◌, ◌++◌, option_to_list}
 use Rattle.layout.specs.Bytes.{header_in}
 use Rattle.layout.specs.declared.Descriptor.{Descriptor}
 use Rattle.paper.specs.declared.ElementId.{ElementId}
 use Rattle.paper.specs.declared.PageCount.{PageCount}
 use Rattle.reach.specs.Opening.{accepted}
 use Rattle.reader.specs.Judgement.{slot_of}
-use Rattle.reader.specs.declared.Slot.TheVariants.{Outside, Holds}
-use Rattle.reader.specs.declared.Slot.{Slot}
 use Rattle.request.specs.declared.Request.{Request}
 use Rattle.slices.specs.Lists.{flat}
 use Rattle.words.specs.declared.Order.TheVariants.{Little}
@@ -53,14 +51,10 @@ walk q (c ∷ cs) = followed (round q c.page) (next_of c.page q).state (λ id. w
 
 -- ## What it lists
 
-abbrev pub held : Slot → List Descriptor
-held Outside = []
-held (Holds d) = d ∷ []
-
 -- descriptors 0 to n - 1 of a page, as the reader has them
 abbrev pub held_below : List ℕ → ℕ → List Descriptor
 held_below s zero = []
-held_below s (suc n) = held_below s n ++ held (slot_of Little s n)
+held_below s (suc n) = held_below s n ++ option_to_list (slot_of Little s n)
 
 -- of a page that the reader takes
 unfoldable pub elements_in : Round → List Descriptor

@@ -1,44 +1,31 @@
 // A host's walk over small pages: what it does after a page, by the page that came and the request that it answers, and its next request.
 #![tactic(auto)]
 
-ghost use Rattle.std.specs.Prelude.{◌≡◌};
+ghost use Rattle.std.specs.Prelude.{◌≡◌, Ok};
 ghost use Rattle.paper.specs.Told.{tells};
 ghost use Rattle.walk.specs.Next.{heard, after, next_of, next_request};
 
+use offences::Offence;
 use paper::{ElementId, Lba, PageCount};
-use reach::Bound;
-use reader::Judgement;
 use request::Request;
 
-// Where the next request starts; or that the walk ends; or the place of the page's first offence.
-#[derive(Clone, Copy)]
-pub enum Move {
-    Ask(ElementId),
-    End,
-    Refused(usize),
-}
-
-// At the last identifier plus one, if there is one.
-fn move_after(last: ElementId) -> Move
-    ensures { heard result ≡ tells 0 (after last) }
+// The last identifier plus one, if it is one.
+fn start_after(last: ElementId) -> Option<ElementId>
+    ensures { heard (Ok result) ≡ tells 0 (after last) }
 {
-    if last.0 == 0xFFFF_FFFF {
-        return Move::End;
-    }
-    Move::Ask(ElementId(last.0 + 1))
+    let next = last.0.checked_add(1)?;
+    Some(ElementId(next))
 }
 
-// What the walk does after a page, as the answer to a request.
-pub fn next(page: &[u8], request: Request) -> Move
+// What the walk does after a page, as the answer to a request: where the next request starts, none where the walk ends; or the page's first offence.
+pub fn next(page: &[u8], request: Request) -> Result<Option<ElementId>, Offence>
     ensures { heard result ≡ next_of page.now request }
 {
-    if let Judgement::Refused(place) = reader::read(page, request) {
-        return Move::Refused(place);
-    }
-    let Bound::UpTo(last) = reach::reach(page) else {
-        return Move::End;
+    reader::read(page, request)?;
+    let Some(last) = reach::reach(page) else {
+        return Ok(None);
     };
-    move_after(last)
+    Ok(start_after(last))
 }
 
 // The request after one, from a start on and for so many pages.

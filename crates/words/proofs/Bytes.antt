@@ -12,6 +12,7 @@ use native.Mathlib.Omega.{arith}
 use lib.Dec.{lit<}
 use lib.ListN.{length, get_or, take, drop, length-reverse}
 use lib.Seq.{drop-drop, get_or-drop}
+use Rattle.std.specs.Int.{w16, w32, w64, to_le_bytes}
 use Rattle.slices.specs.Lists.{Every}
 use Rattle.words.specs.Bytes.{low_bytes, value, ordered, bytes_of, number, front, number_at}
 use Rattle.words.specs.declared.Order.TheVariants.{Little, Big}
@@ -142,6 +143,17 @@ pub eight_given : (o : Order) (a b c d e f g h low high r : ℕ) → a < 256 →
 eight_given o a b c d e f g h low high r p q s t u v w y is_low is_high =
     of_turned o (a ∷ b ∷ c ∷ d ∷ e ∷ f ∷ g ∷ h ∷ []) (high * 4294967296 + low) r (p, (q, (s, (t, (u, (v, (w, (y, tt))))))))
     (rw (is_low, is_high) (sym (value-append (a ∷ b ∷ c ∷ d ∷ []) (e ∷ f ∷ g ∷ h ∷ []))))
+
+-- ## As the library gives them
+
+pub low_le2 : (x : ℕ) → to_le_bytes w16 x ≡ low_bytes 2 x
+low_le2 x = grind arith
+
+pub low_le4 : (x : ℕ) → to_le_bytes w32 x ≡ low_bytes 4 x
+low_le4 x = grind arith
+
+pub low_le8 : (x : ℕ) → to_le_bytes w64 x ≡ low_bytes 8 x
+low_le8 x = grind arith
 
 -- ## Bytes at a place
 

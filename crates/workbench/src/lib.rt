@@ -54,7 +54,7 @@ fn no_cells() -> Cells
     }
 }
 
-// What stands where the first device is made.
+// What stands where the first device is made: which mark, note and step these are is chosen here, and is no default of their types.
 fn no_device() -> Device
     ensures { result ≡ spec.no_device }
 {
@@ -93,10 +93,7 @@ fn lengthened(list: Offer, e: Element) -> Offer
 fn is_made(made: bool, answer: Answer) -> bool
     ensures { result ≡ changes.is_made made answer }
 {
-    if made {
-        return true;
-    }
-    paper::number_of(answer) == 0
+    made || u8::from(answer) == 0
 }
 
 impl Bench {

@@ -21,7 +21,8 @@ pub fn hex2(x: u8) -> [u8; 2]
     [glyphs[(x / 16) as usize], glyphs[(x % 16) as usize]]
 }
 
-// Two upper hexadecimal digits of each of two bytes, side by side.
+// Two upper hexadecimal digits of each of two bytes, side by side. Here and below not by `hex2`: the compiler would copy the table for each byte,
+// and a listing takes a twentieth more instructions then.
 pub fn hex_pair(a: u8, b: u8) -> [u8; 4]
     ensures { result ≡ digits 16 2 a ++ digits 16 2 b }
 {
@@ -95,39 +96,6 @@ fn eight(n: u64) -> u64
     four(n / 10000) + 4294967296 * four(n % 10000)
 }
 
-// The low bytes of a number, the lowest first. (`words` tells the order first, which the compiler does not see through here.)
-fn low2(x: u64) -> [u8; 2]
-    ensures { result ≡ low_bytes 2 x }
-{
-    [(x % 256) as u8, (x / 256 % 256) as u8]
-}
-
-fn low4(x: u64) -> [u8; 4]
-    ensures { result ≡ low_bytes 4 x }
-{
-    [
-        (x % 256) as u8,
-        (x / 256 % 256) as u8,
-        (x / 256 / 256 % 256) as u8,
-        (x / 256 / 256 / 256 % 256) as u8,
-    ]
-}
-
-fn low8(x: u64) -> [u8; 8]
-    ensures { result ≡ low_bytes 8 x }
-{
-    [
-        (x % 256) as u8,
-        (x / 256 % 256) as u8,
-        (x / 256 / 256 % 256) as u8,
-        (x / 256 / 256 / 256 % 256) as u8,
-        (x / 256 / 256 / 256 / 256 % 256) as u8,
-        (x / 256 / 256 / 256 / 256 / 256 % 256) as u8,
-        (x / 256 / 256 / 256 / 256 / 256 / 256 % 256) as u8,
-        (x / 256 / 256 / 256 / 256 / 256 / 256 / 256 % 256) as u8,
-    ]
-}
-
 fn put_one(out: &mut [u8], at: usize, n: u64) -> usize
     requires { n < 10 }
     ensures { private.Puts out.old at (digits 10 1 n) out.new result }
@@ -139,21 +107,21 @@ fn put_two(out: &mut [u8], at: usize, n: u64) -> usize
     requires { n < 100 }
     ensures { private.Puts out.old at (digits 10 2 n) out.new result }
 {
-    word(out, at, &low2(two(n)))
+    word(out, at, &(two(n) as u16).to_le_bytes())
 }
 
 fn put_four(out: &mut [u8], at: usize, n: u64) -> usize
     requires { n < 10 ^ 4 }
     ensures { private.Puts out.old at (digits 10 4 n) out.new result }
 {
-    word(out, at, &low4(four(n)))
+    word(out, at, &(four(n) as u32).to_le_bytes())
 }
 
 fn put_eight(out: &mut [u8], at: usize, n: u64) -> usize
     requires { n < 10 ^ 8 }
     ensures { private.Puts out.old at (digits 10 8 n) out.new result }
 {
-    word(out, at, &low8(eight(n)))
+    word(out, at, &eight(n).to_le_bytes())
 }
 
 // ---- A number in decimal, with no zero in front
@@ -224,7 +192,7 @@ struct Spelling {
     count: usize,
 }
 
-// A number's digits, made apart to be measured: from the last to the first.
+// A number's digits, made apart to be measured: from the last to the first, a division for each, so that how many there are is known at the end.
 fn decimal_of(n: u64) -> Spelling
     ensures { result ≡ private.spelled (decimal_of n) }
 {
@@ -255,9 +223,8 @@ impl Spelling {
         ensures out_after { out.new ≡ stored out.old at (private.shown self) }
         ensures value { result ≡ ended out.old at (private.shown self) }
     {
-        let bytes = self.bytes;
-        let from = 20 - slices::smaller(self.count, 20);
-        word(out, at, &bytes[from..])
+        let from = 20usize.saturating_sub(self.count);
+        word(out, at, &self.bytes[from..])
     }
 }
 
@@ -278,10 +245,7 @@ pub fn decimal(out: &mut [u8], at: usize, n: u64) -> usize
 fn do_fit(first: usize, second: usize, at: usize, room: usize) -> bool
     ensures { result ≡ fits (first + second) at room }
 {
-    if !slices::does_fit(first, at, room) {
-        return false;
-    }
-    slices::does_fit(second, at + first, room)
+    slices::does_fit(first, at, room) && slices::does_fit(second, at + first, room)
 }
 
 // A word, then a number in decimal.

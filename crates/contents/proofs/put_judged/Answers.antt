@@ -2,5 +2,5 @@
 use Rattle.contents.proofs.Contents.{judged-refused}
 use Rattle.contents.proofs.put_judged.Goals as goal
 
-pub returns-in-Refused : goal.returns-in-Refused
-returns-in-Refused c = search (judged-refused)
+pub returns-in-Err : goal.returns-in-Err
+returns-in-Err c = search (judged-refused)

@@ -15,4 +15,4 @@ command_spec =
     (λ c κs. search rules)
     (λ c. search rules)
     (λ c. let over = c.before.before.command_over.ensures in
-    called _ _ _ _ _ c.before.before.before.before.smaller-n.ensures (search rules) _ _ over.0 over.1))
+    called _ _ _ _ _ c.before.before.before.before.min-n.ensures (search rules) _ _ over.0 over.1))

@@ -7,4 +7,4 @@ pub returns-then-code-eq18 : goal.returns-then-code-eq18
 returns-then-code-eq18 c =
     front_status c.args.d.now c.command-r.result.image (security_of c.args.security)
     (record { code = c.args.code; feature = c.args.feature; count = c.args.count; lba = c.args.lba }) c.args.buf.now
-    c.command-r.result.answer c.command-r.ensures c.if-code-eq18.true _ c.asked.ensures c.recorder_show.result c.recorder_show.new.buf c.recorder_show.ensures
+    c.command-r.result.answer c.command-r.ensures c.if-code-eq18.true _ c.from.ensures c.recorder_show.result c.recorder_show.new.buf c.recorder_show.ensures

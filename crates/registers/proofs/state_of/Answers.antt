@@ -1,12 +1,20 @@
--- `registers::state_of`: each word's own law.
-use Rattle.registers.proofs.Fields.{state_locked, state_unlocked, state_frozen}
+-- `registers::state_of`.
+use Rattle.std.proofs.Common.{rules}
+use Rattle.registers.specs.Registers.{state_of}
 use Rattle.registers.proofs.state_of.Goals as goal
 
-pub returns-then-is_same : goal.returns-then-is_same
-returns-then-is_same c = search (state_locked)
+pub returns-then-eq : goal.returns-then-eq
+unfolding state_of
+returns-then-eq c = search rules
 
-pub returns-then-is_same-2 : goal.returns-then-is_same-2
-returns-then-is_same-2 c = search (state_unlocked)
+pub returns-then-eq-2 : goal.returns-then-eq-2
+unfolding state_of
+returns-then-eq-2 c = search rules
 
-pub returns : goal.returns
-returns c = search (state_frozen)
+pub returns-then-eq-3 : goal.returns-then-eq-3
+unfolding state_of
+returns-then-eq-3 c = search rules
+
+pub returns-else-eq-3 : goal.returns-else-eq-3
+unfolding state_of
+returns-else-eq-3 c = search rules

@@ -2,5 +2,5 @@
 use Rattle.contents.proofs.DockContents.{data_refused}
 use Rattle.contents.proofs.dock.put_judged.Goals as goal
 
-pub returns-in-Refused : goal.returns-in-Refused
-returns-in-Refused c = search (data_refused)
+pub returns-in-Err : goal.returns-in-Err
+returns-in-Err c = search (data_refused)

@@ -1,3 +1,0 @@
--- What is proved of `arguments`' definitions, and of its functions.
-pub mod DockFields
-pub mod Fields

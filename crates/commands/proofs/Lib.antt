@@ -1,4 +1,0 @@
--- What is proved of any command.
-
-pub mod Codes
-pub mod Judgement

@@ -1,2 +1,0 @@
--- What is proved of `kept`'s definitions, and of its functions.
-pub mod Left

@@ -1,2 +1,0 @@
--- What is proved of `registers`' definitions, and of its functions.
-pub mod Fields

@@ -1,2 +1,0 @@
--- What is proved of steps and grades.
-pub mod Rules
