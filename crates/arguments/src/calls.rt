@@ -5,7 +5,7 @@ ghost use Rattle.arguments.specs.Calls as spec;
 use crate::{Command, Grade, Line, PageCall, Poke};
 use lines::{field_at, word_at};
 use paper::{ElementId, Registers};
-use registers::{asked_at, state_of};
+use registers::{request_at, state_of};
 
 // ---- The calls on the device
 
@@ -41,7 +41,7 @@ pub fn command_call(line: &[u8]) -> Option<Line>
 {
     let security = state_of(word_at(line, 1))?;
     let code = field_at(line, 2, 0xFF)?;
-    let asked = asked_at(line, 3)?;
+    let asked = request_at(line, 3)?;
     let length = field_at(line, 6, 0x1_0000)?;
     Some(Line::Command(Command {
         security,
@@ -93,12 +93,12 @@ pub fn poke_call(line: &[u8]) -> Option<Line>
 pub fn read_call(line: &[u8]) -> Option<Line>
     ensures { result ≡ spec.read_of line.now }
 {
-    Some(Line::Page(PageCall::Read(asked_at(line, 1)?)))
+    Some(Line::Page(PageCall::Read(request_at(line, 1)?)))
 }
 
 #[tactic(auto, unfolding(crate::specs::Calls::next_of))]
 pub fn next_call(line: &[u8]) -> Option<Line>
     ensures { result ≡ spec.next_of line.now }
 {
-    Some(Line::Page(PageCall::Next(asked_at(line, 1)?)))
+    Some(Line::Page(PageCall::Next(request_at(line, 1)?)))
 }

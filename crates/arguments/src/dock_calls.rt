@@ -6,7 +6,7 @@ use crate::{Dock, DockCall, Line, PageCall, Send, ToAta};
 use lines::field_at;
 use paper::{ElementId, PageCount};
 use query::Query;
-use registers::asked_at;
+use registers::request_at;
 
 // FILTER, TYPE and START, from a line's second word on.
 #[tactic(auto, unfolding(crate::specs::DockCalls::query_in))]
@@ -50,7 +50,7 @@ pub fn scsiread_call(line: &[u8]) -> Option<Line>
 pub fn toscsi_call(line: &[u8]) -> Option<Line>
     ensures { result ≡ spec.toscsi_of line.now }
 {
-    let asked = asked_at(line, 1)?;
+    let asked = request_at(line, 1)?;
     let length = field_at(line, 4, 0x1_0000)?;
     Some(Line::Dock(Dock {
         call: DockCall::ToScsi(asked),

@@ -13,8 +13,20 @@ use std::io::Read;
 // Room for every reply.
 const TEXT_ROOM: usize = 140000;
 
+fn text_room() -> [u8; TEXT_ROOM]
+    ensures { 140000 ≡ length result }
+{
+    [0u8; TEXT_ROOM]
+}
+
 // Room for a page, and for a piece of input.
 const ROOM: usize = 65536;
+
+fn room() -> [u8; ROOM]
+    ensures { 65536 ≡ length result }
+{
+    [0u8; ROOM]
+}
 
 fn hand_out(rt: &HostRuntime, text: &[u8]) -> Result<(), Told> {
     input::hand_out(rt, b"bench: standard output", text)
@@ -61,12 +73,12 @@ fn read_piece<R: Read>(
 // A script from an empty bench; its end ends its last line. Nothing says that input ends, so its pieces are counted up to a number that
 // no run reaches.
 fn run_script<R: Read>(rt: &HostRuntime, script: &mut R, name: &[u8]) -> Result<(), Told> {
-    let mut page = [0u8; ROOM];
-    let mut lent = [0u8; ROOM];
-    let mut out = [0u8; TEXT_ROOM];
+    let mut page = room();
+    let mut lent = room();
+    let mut out = text_room();
     let mut run = runs::new_run();
     for _ in 0..u64::MAX {
-        let mut piece = [0u8; ROOM];
+        let mut piece = room();
         let n = read_piece(rt, script, name, &mut piece)?;
         if n == 0 {
             break;
@@ -78,7 +90,7 @@ fn run_script<R: Read>(rt: &HostRuntime, script: &mut R, name: &[u8]) -> Result<
 }
 
 fn run_file(rt: &HostRuntime, i: usize) -> Result<(), Told> {
-    let mut path = [0u8; input::NAME_ROOM];
+    let mut path = input::name_room();
     let length = input::arg(rt, i, &mut path);
     let name = &path[..length];
     hand_out(rt, b"script ")?;

@@ -19,17 +19,9 @@ ghost use Rattle.calls.specs.Offered.{array_of, check_list, find_list, made_from
 
 use device::{Device, Stepped};
 use offer::{Element, Offer};
-use paper::{Answer, ElementId, Lba, Registers, Security};
+use paper::{Answer, ElementId, Lba, Registers, Security, Written};
 use query::Query;
 use request::Request;
-
-// What `send` says, and how many bytes it wrote: none unless it says 0. No `Result`: that comes back through memory, and each element sent costs two
-// instructions more.
-#[derive(Clone, Copy)]
-pub struct Sent {
-    pub answer: Answer,
-    pub count: usize,
-}
 
 // ---- The device, changed in place
 
@@ -127,20 +119,11 @@ pub fn show(d: &Device, security: Security, request: Request, buf: &mut [u8]) ->
     status::show(*d, security, request, buf)
 }
 
-// The data for a SCSI host.
-pub fn send(d: &Device, query: Query, allocation: u32, buf: &mut [u8]) -> Sent
+// The data for a SCSI host. No `Result` comes back: that goes through memory, and each element sent costs two instructions more.
+pub fn send(d: &Device, query: Query, allocation: u32, buf: &mut [u8]) -> Written
     ensures { said result.answer (output result.count buf.new) ≡ sent d.now query allocation buf.old }
 {
-    match sender::send(*d, query, allocation, buf) {
-        Ok(count) => Sent {
-            answer: Answer::Done,
-            count,
-        },
-        Err(why) => Sent {
-            answer: Answer::from(why),
-            count: 0,
-        },
-    }
+    Written::of(sender::send(*d, query, allocation, buf))
 }
 
 // ---- The caller's own list of records

@@ -6,7 +6,7 @@ ghost use Rattle.paper.specs.Answers.{number_of};
 ghost use Rattle.cells.specs.Cells.{make, is_full, is_set};
 ghost use Rattle.cells.specs.Rulings as rulings;
 ghost use Rattle.cells.specs.Rulings.{ruled};
-ghost use Rattle.cells.specs.Sights.{see_in};
+ghost use Rattle.cells.specs.Sights.{look_in, see_in, seen_at};
 
 use paper::{Answer, ElementId, Lba};
 use table::{Part, Sight, Table};
@@ -79,7 +79,7 @@ pub struct Ruling {
     pub next: Position,
 }
 
-// What the search sees of an element: its part, its place and the health there.
+// What the search sees where it stops: the part, the place and the health there.
 #[derive(Clone, Copy)]
 pub struct Seen {
     pub part: Part,
@@ -223,14 +223,31 @@ pub fn goes(store: Store, next: Position) -> Ruling
     }
 }
 
+fn seen_at(c: Cells, sight: Sight) -> Seen
+    ensures { result ≡ seen_at c sight }
+{
+    Seen {
+        part: sight.part,
+        place: sight.place,
+        health: table::health_at(c.healths, sight.place),
+    }
+}
+
+// What the search for an identifier sees where it stops, as a hit or as a miss.
+#[tactic(auto, unfolding(crate::specs::Sights::look_in))]
+pub fn see(t: Table, c: Cells, id: ElementId) -> Result<Seen, Seen>
+    ensures { result ≡ look_in t c id }
+{
+    match t.sight(id) {
+        Ok(sight) => Ok(seen_at(c, sight)),
+        Err(sight) => Err(seen_at(c, sight)),
+    }
+}
+
 // What the search sees of an element, if it is in the table.
-pub fn see(t: Table, c: Cells, id: ElementId) -> Option<Seen>
+#[tactic(auto, using(crate::proofs::Sights::told_hit))]
+pub fn found(t: Table, c: Cells, id: ElementId) -> Option<Seen>
     ensures { result ≡ see_in t c id }
 {
-    let Sight { part, place } = t.sight(id)?;
-    Some(Seen {
-        part,
-        place,
-        health: table::health_at(c.healths, place),
-    })
+    see(t, c, id).ok()
 }

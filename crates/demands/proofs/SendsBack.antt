@@ -62,9 +62,9 @@ sent_back d q a fits asc ok there =
     }
 
 pub sends_back : SendsBack
-sends_back there es limit a d made z s ns x ran q allocation buf out count so whole =
+sends_back there es limit a d made z s ns x ran q allocation buf out b count so done whole =
     let (fits, asc) = run-leaves there es limit a d made z s ns x ran in
     let bytes : List ℕ = take allocation (data_of Big x q) in
-    let (ok, long, front) = left (due_four q) (ltb (length buf) (length bytes)) bytes buf out 0 count so refl in
+    let (ok, long, front) = left (due_four q) (ltb (length buf) (length bytes)) bytes buf out _ count so done in
     let least : 32 ≤ allocation = omega (arith, whole, long, sends_the_smaller Big x q allocation) in
     subst⁻¹ (SentBack x q) front (sent_back x q allocation fits asc ok least)

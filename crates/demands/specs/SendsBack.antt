@@ -1,10 +1,12 @@
 -- "The reader .. gives back what was written", of the data for a SCSI host. Its last premises are what `send` promises, answered 0, and that
 -- the header was not cut.
-use Rattle.std.specs.Prelude.{ℕ, ◌<◌, ◌≤◌, List, ◌≡◌, length, get_or, take, Some, Ok}
+use Rattle.std.specs.Prelude.{ℕ, ◌<◌, ◌≤◌, List, ◌≡◌, length, get_or, take, Some}
 use Rattle.device.specs.declared.Device.{Device}
 use Rattle.docklist.specs.Docklist.{judged}
-use Rattle.paper.specs.Output.{wrote}
-use Rattle.paper.specs.Told.{tells}
+use Rattle.paper.specs.Answers.{number_of}
+use Rattle.paper.specs.Output.{output}
+use Rattle.paper.specs.Told.{tells, said}
+use Rattle.paper.specs.declared.Answer.{Answer}
 use Rattle.query.specs.Queries.{asked, plain}
 use Rattle.query.specs.declared.Query.{Query}
 use Rattle.scsi.specs.Data.{whole_of, torn_of}
@@ -36,6 +38,6 @@ pub record SentBack (d : Device) (q : Query) (bytes : List ℕ) : Type 0 where
 abbrev pub SendsBack : Type 0
 SendsBack =
     AfterRuns (λ x.
-    (q : Query) (allocation : ℕ) (buf out : List ℕ) (count : ℕ)
-    → wrote (Ok count) out ≡ sent x q allocation buf → 32 ≤ count
+    (q : Query) (allocation : ℕ) (buf out : List ℕ) (b : Answer) (count : ℕ)
+    → said b (output count out) ≡ sent x q allocation buf → number_of b ≡ 0 → 32 ≤ count
     → SentBack x q (take count out))

@@ -4,8 +4,10 @@ use Rattle.std.specs.Prelude.{ℕ, ◌+◌, ◌*◌, ◌≤◌, List, ◌≡◌,
 use Rattle.convert.specs.Convert.{heard, to_scsi}
 use Rattle.convert.specs.declared.Refusal.{Refusal}
 use Rattle.device.specs.declared.Device.{Device}
-use Rattle.paper.specs.Output.{wrote}
-use Rattle.paper.specs.declared.Unwritten.{Unwritten}
+use Rattle.paper.specs.Answers.{number_of}
+use Rattle.paper.specs.Output.{Output, output, wrote}
+use Rattle.paper.specs.Told.{Told, said}
+use Rattle.paper.specs.declared.Written.{Written}
 use Rattle.query.specs.Promises.{SameAsked}
 use Rattle.query.specs.declared.Query.{Query}
 use Rattle.request.specs.declared.Request.{Request}
@@ -17,17 +19,26 @@ abbrev pub whole_size : Device → Query → ℕ
 whole_size d q = 32 + 32 * (sent_header d q).number
 
 -- so many bytes were converted, as many were sent, and they are the same
-pub record OneData (size : ℕ) (c : Result ℕ Refusal) (out : List ℕ) (b : Result ℕ Unwritten) (left : List ℕ) : Type 0 where
+pub record OneData (size : ℕ) (c : Result ℕ Refusal) (out : List ℕ) (Sends : Type 0) (left : List ℕ) : Type 0 where
   pub turns : c ≡ Ok size
-  pub sends : b ≡ Ok size
+  pub sends : Sends
   pub same : take size out ≡ take size left
 
-abbrev pub SendsPage : Type 0
-SendsPage =
+-- by what a call that sends says, and what it says then
+abbrev pub Sent : {A : Type 0} → (A → List ℕ → Told Output) → (ℕ → A → Type 0) → Type 0
+Sent {A} says Sends =
     AfterRuns (λ x.
     (r : Request) (page : List ℕ) → LeftBy x r page
     → (p : ℕ) (q : Query) → SameAsked p q r → (sent_header x q).number + 1 ≤ 16 * p
     → (room out : List ℕ) (c : Result ℕ Refusal) → heard c out ≡ to_scsi page r room → whole_size x q ≤ length room
-    → (allocation : ℕ) (free left : List ℕ) (b : Result ℕ Unwritten) → wrote b left ≡ sent x q allocation free
+    → (allocation : ℕ) (free left : List ℕ) (a : A) → says a left ≡ sent x q allocation free
     → whole_size x q ≤ allocation → whole_size x q ≤ length free
-    → OneData (whole_size x q) c out b left)
+    → OneData (whole_size x q) c out (Sends (whole_size x q) a) left)
+
+-- of the lent call: an answer and a count
+abbrev pub SendsPage : Type 0
+SendsPage = Sent {A = Written} (λ w out. said w.answer (output w.count out)) (λ size w. (number_of w.answer ≡ 0) × (w.count ≡ size))
+
+-- and of the call by value
+abbrev pub WritesPage : Type 0
+WritesPage = Sent wrote (λ size b. b ≡ Ok size)

@@ -9,20 +9,23 @@ const TEXT_ROOM: usize = 160000;
 
 const OUTPUT: &[u8] = b"diff: standard output";
 
-// Both files are read before either is judged, so that each that cannot be read is named.
-fn compare_files(rt: &HostRuntime, i: usize, j: usize) -> Result<(), Told> {
-    let mut older = [0u8; PAGE_ROOM];
-    let mut newer = [0u8; PAGE_ROOM];
-    let first = input::read_file(rt, i, &mut older);
-    let second = input::read_file(rt, j, &mut newer);
-    let older = &older[..first?];
-    let newer = &newer[..second?];
+// By itself: where an array follows a `?` in its function, the compiler clears it twice.
+fn compare<'a>(rt: &HostRuntime, older: &'a [u8], newer: &'a [u8]) -> Result<(), Told> {
     let mut text = [0u8; TEXT_ROOM];
     // There is room for every text.
     let Ok(end) = comparison::write(older, newer, &mut text) else {
         return Ok(());
     };
     input::hand_out(rt, OUTPUT, &text[..end])
+}
+
+// Both files are read before either is judged, so that each that cannot be read is named.
+fn compare_files(rt: &HostRuntime, i: usize, j: usize) -> Result<(), Told> {
+    let mut older = [0u8; PAGE_ROOM];
+    let mut newer = [0u8; PAGE_ROOM];
+    let first = input::read_file(rt, i, &mut older);
+    let second = input::read_file(rt, j, &mut newer);
+    compare(rt, &older[..first?], &newer[..second?])
 }
 
 fn compare_named(rt: &HostRuntime, i: usize, j: usize) -> Result<(), Told> {

@@ -15,9 +15,9 @@ use Rattle.std.proofs.Common.{Result, Ok, Err}
 use Rattle.convert.specs.declared.Refusal.TheVariants.{SmallBuffer, Offence}
 use Rattle.convert.specs.declared.Refusal.{Refusal}
 use Rattle.device.specs.declared.Device.{Device}
-use Rattle.paper.specs.Output.{Output, wrote}
-use Rattle.paper.specs.Told.{Told, tells}
-use Rattle.paper.specs.declared.Unwritten.{Unwritten}
+use Rattle.paper.specs.Output.{Output, output}
+use Rattle.paper.specs.Told.{Told, tells, said}
+use Rattle.paper.specs.declared.Written.{Written}
 use Rattle.request.specs.declared.Request.{Request}
 use Rattle.sender.specs.Sent.{sent}
 use Rattle.docking.specs.Dock.{answered, heard_over, heard_in, heard, kind_said, kind_of, told_over, room_of, filled, answered_by, lent_by}
@@ -30,7 +30,7 @@ pub at_kind : (call found : DockCall) (s : Said) → call ≡ found → kind_sai
 at_kind call found s e so = so ∙ sym (rw e)
 
 module _ (d : Device) (call : DockCall) (source buf x : List ℕ) where
-  pub sent-told : (s : Send) (w : Result ℕ Unwritten) → call ≡ calls.Send s → wrote w x ≡ sent d s.query s.allocation buf
+  pub sent-told : (s : Send) (w : Written) → call ≡ calls.Send s → said w.answer (output w.count x) ≡ sent d s.query s.allocation buf
       → heard_over (Sent w) x ≡ told_over d call source buf
   unfolding told_over
   sent-told s w e so = ap (λ (t : Told Output). tells t.number (put t.state)) so ∙ sym (rw e)
@@ -53,8 +53,7 @@ over_told d call source buf x y s is_x so = so ∙ ap (told_over d call source) 
 
 -- the buffer has no part in what is said, and is the one that is heard
 told_answer : (room : ℕ) (s : Said) (x : List ℕ) → heard_in room s ≡ answered (kind_said s) room (heard_over s x)
-told_answer room (Sent (Ok n)) x = refl
-told_answer room (Sent (Err why)) x = refl
+told_answer room (Sent w) x = refl
 told_answer room (ToScsi (Ok n)) x = refl
 told_answer room (ToScsi (Err SmallBuffer)) x = refl
 told_answer room (ToScsi (Err (Offence p))) x = refl
@@ -63,8 +62,7 @@ told_answer room (ToAta (Err SmallBuffer)) x = refl
 told_answer room (ToAta (Err (Offence p))) x = refl
 
 told_buffer : (s : Said) (x : List ℕ) → buffer_of (heard_over s x).state ≡ x
-told_buffer (Sent (Ok n)) x = refl
-told_buffer (Sent (Err why)) x = refl
+told_buffer (Sent w) x = refl
 told_buffer (ToScsi (Ok n)) x = refl
 told_buffer (ToScsi (Err SmallBuffer)) x = refl
 told_buffer (ToScsi (Err (Offence p))) x = refl

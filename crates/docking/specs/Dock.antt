@@ -6,7 +6,8 @@ use Rattle.arguments.specs.declared.DockCall.{DockCall}
 use Rattle.convert.specs.Convert as convert
 use Rattle.convert.specs.Convert.{Outcome, put, place, buffer_of, to_scsi, to_ata}
 use Rattle.device.specs.declared.Device.{Device}
-use Rattle.paper.specs.Output.{wrote}
+use Rattle.paper.specs.Answers.{number_of}
+use Rattle.paper.specs.Output.{output}
 use Rattle.paper.specs.Told.{Told, tells}
 use Rattle.sender.specs.Sent.{sent}
 use Rattle.docking.specs.declared.Docked.{Docked}
@@ -54,7 +55,7 @@ kind_said (said.ToAta c) = toata
 
 -- as the writer and the conversions promise it, with a buffer
 abbrev pub heard_over : Said → List ℕ → Told Outcome
-heard_over (said.Sent w) buf = let t = wrote w buf in tells t.number (put t.state)
+heard_over (said.Sent w) buf = tells (number_of w.answer) (put (output w.count buf))
 heard_over (said.ToScsi c) buf = convert.heard c buf
 heard_over (said.ToAta c) buf = convert.heard c buf
 

@@ -8,12 +8,12 @@ ghost use Rattle.docking.specs.Dock as paper;
 use arguments::{Dock, DockCall};
 use convert::Refusal;
 use device::Device;
-use paper::{Answer, Unwritten};
+use paper::Written;
 
 // What a call says, by its kind.
 #[derive(Clone, Copy)]
 pub enum Said {
-    Sent(Result<usize, Unwritten>),
+    Sent(Written),
     ToScsi(Result<usize, Refusal>),
     ToAta(Result<usize, Refusal>),
 }
@@ -50,8 +50,7 @@ impl Said {
         ensures { result ≡ paper.number_said self }
     {
         match self {
-            Said::Sent(Ok(_)) => 0,
-            Said::Sent(Err(why)) => u8::from(Answer::from(why)),
+            Said::Sent(w) => u8::from(w.answer),
             Said::ToScsi(c) => number_of(c),
             Said::ToAta(c) => number_of(c),
         }
@@ -62,7 +61,7 @@ impl Said {
         ensures { result ≡ paper.count_said self }
     {
         match self {
-            Said::Sent(w) => w.unwrap_or(0),
+            Said::Sent(w) => w.count,
             Said::ToScsi(c) => count_of(c),
             Said::ToAta(c) => count_of(c),
         }
@@ -77,7 +76,7 @@ fn answer(d: Device, call: DockCall, source: &[u8], lent: &mut [u8]) -> Said
     match call {
         DockCall::Send(s) => {
             let query = s.query;
-            Said::Sent(sender::send(d, query, s.allocation, lent))
+            Said::Sent(Written::of(sender::send(d, query, s.allocation, lent)))
         }
         DockCall::ToScsi(q) => Said::ToScsi(convert::to_scsi(source, q, lent)),
         DockCall::ToAta(t) => {

@@ -4,7 +4,7 @@
 
 ghost use Rattle.io.specs.Counts.{IsPrefixLen};
 ghost use Rattle.std.specs.Io.KnownBytes.{Consumes, IsAtEnd};
-ghost use Rattle.std.specs.Prelude.{◌≡◌, ◌<◌, ℕ, length, take, IfOk, OnErr};
+ghost use Rattle.std.specs.Prelude.{◌≡◌, ◌<◌, ℕ, length, take, replicate, IfOk, OnErr};
 
 use std::env::{Env, FillError};
 use std::fs::File;
@@ -23,6 +23,12 @@ pub const LISTING_ROOM: usize = 80000;
 
 // Room for the name of a file: the longest that the system takes, and more.
 pub const NAME_ROOM: usize = 4096;
+
+pub fn name_room() -> [u8; NAME_ROOM]
+    ensures { result ≡ replicate 4096 0 }
+{
+    [0u8; NAME_ROOM]
+}
 
 // How many words of an error there are: they end where std adds the system's number, or at the first zero.
 fn words_len(text: &[u8]) -> usize
@@ -115,7 +121,7 @@ pub fn read_file(rt: &HostRuntime, i: usize, buf: &mut [u8]) -> Result<usize, To
     ensures ok { IfOk result (λ n. IsPrefixLen n buf.new) }
     ensures err { OnErr result (length buf.new ≡ length buf.old) }
 {
-    let mut path = [0u8; NAME_ROOM];
+    let mut path = name_room();
     let length = arg(rt, i, &mut path);
     let name = &path[..length];
     read_named(rt, name, buf).map_err(|error| tell(rt, name, error))
@@ -129,7 +135,7 @@ pub fn hand_out(rt: &HostRuntime, what: &[u8], bytes: &[u8]) -> Result<(), Told>
 
 // Writes the name itself, and what ends it.
 pub fn write_name(rt: &HostRuntime, what: &[u8], i: usize, end: &[u8]) -> Result<(), Told> {
-    let mut path = [0u8; NAME_ROOM];
+    let mut path = name_room();
     let length = arg(rt, i, &mut path);
     hand_out(rt, what, &path[..length])?;
     hand_out(rt, what, end)

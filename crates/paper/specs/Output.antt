@@ -6,6 +6,7 @@ use Rattle.paper.specs.declared.Answer.TheVariants as answers
 use Rattle.paper.specs.declared.Answer.{Answer}
 use Rattle.paper.specs.declared.Unwritten.TheVariants.{InvalidField, SmallBuffer}
 use Rattle.paper.specs.declared.Unwritten.{Unwritten}
+use Rattle.paper.specs.declared.Written.{Written}
 
 -- how many bytes were written, and the whole buffer
 pub record Output : Type 0 where
@@ -19,6 +20,11 @@ output n out = record { count = n; buffer = out }
 abbrev pub answer_for : Unwritten → Answer
 answer_for InvalidField = answers.InvalidField
 answer_for SmallBuffer = answers.SmallBuffer
+
+-- the answer and the count of what the code wrote, or of why it wrote nothing
+abbrev pub written_of : Result ℕ Unwritten → Written
+written_of (Ok n) = record { answer = answers.Done; count = n }
+written_of (Err why) = record { answer = answer_for why; count = 0 }
 
 -- how many bytes the code wrote, or why none, and what it left
 abbrev pub wrote : Result ℕ Unwritten → List ℕ → Told Output

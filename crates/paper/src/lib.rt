@@ -1,12 +1,13 @@
 // What document 01 speaks of (identifiers, addresses, page counts, security) and what a call says.
 #![tactic(auto)]
 
-ghost use Rattle.std.specs.Prelude.{◌≡◌};
+ghost use Rattle.std.specs.Prelude.{ℕ, List, ◌≡◌};
 ghost use Rattle.paper.specs.Answers.{number_of, sense_of};
 ghost use Rattle.paper.specs.Flags.{is_on};
-ghost use Rattle.paper.specs.Output.{answer_for};
+ghost use Rattle.paper.specs.Output.{answer_for, output, wrote, written_of};
 ghost use Rattle.paper.specs.Registers.{low48, identifier_of};
 ghost use Rattle.paper.specs.Table12.{aborts, row_of, column_of};
+ghost use Rattle.paper.specs.Told.{said};
 
 // "An element identifier, a logical block address and a page count are three quantities kept apart."
 #[repr(C)]
@@ -66,6 +67,13 @@ pub enum Answer {
 pub enum Unwritten {
     InvalidField,
     SmallBuffer,
+}
+
+// What a call says that writes into a lent buffer, and how many bytes it wrote: none unless it says 0.
+#[derive(Clone, Copy)]
+pub struct Written {
+    pub answer: Answer,
+    pub count: usize,
 }
 
 #[derive(Clone, Copy)]
@@ -138,6 +146,25 @@ impl From<Unwritten> for Answer {
         match why {
             Unwritten::InvalidField => Answer::InvalidField,
             Unwritten::SmallBuffer => Answer::SmallBuffer,
+        }
+    }
+}
+
+impl Written {
+    // The answer and the count of what a call wrote, or of why it wrote nothing.
+    pub fn of(outcome: Result<usize, Unwritten>) -> Written
+        ensures value { result ≡ written_of outcome }
+        ensures told { (out : List ℕ) → said result.answer (output result.count out) ≡ wrote outcome out }
+    {
+        match outcome {
+            Ok(count) => Written {
+                answer: Answer::Done,
+                count,
+            },
+            Err(why) => Written {
+                answer: Answer::from(why),
+                count: 0,
+            },
         }
     }
 }

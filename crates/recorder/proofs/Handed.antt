@@ -6,20 +6,16 @@ use Rattle.std.proofs.Common.{Result, Ok, Err}
 use Rattle.convert.specs.Convert.{Outcome, buffer_of, heard}
 use Rattle.convert.specs.declared.Refusal.TheVariants.{SmallBuffer, Offence}
 use Rattle.convert.specs.declared.Refusal.{Refusal}
-use Rattle.paper.specs.Output.{Output, output, wrote}
-use Rattle.paper.specs.Told.{Told, tells}
-use Rattle.paper.specs.declared.Unwritten.{Unwritten}
+use Rattle.paper.specs.Output.{Output, output}
+use Rattle.paper.specs.Told.{Told, tells, said}
+use Rattle.paper.specs.declared.Written.{Written}
 use Rattle.spelt.specs.Spelt.{count_of, turned_of}
 use Rattle.spelt.specs.declared.Count.{Count}
 use Rattle.spelt.specs.declared.Turned.{Turned}
 
-spelt_out : (w : Result ℕ Unwritten) (out : List ℕ) → tells (count_of w).answer (output (count_of w).count out) ≡ wrote w out
-spelt_out (Ok n) out = refl
-spelt_out (Err why) out = refl
-
-pub counted : (w : Result ℕ Unwritten) (r : Count) → r ≡ count_of w → (out : List ℕ) (t : Told Output) → wrote w out ≡ t
+pub counted : (w : Written) (r : Count) → r ≡ count_of w → (out : List ℕ) (t : Told Output) → said w.answer (output w.count out) ≡ t
     → tells r.answer (output r.count out) ≡ t
-counted w r is_r out t is_t = ap (λ (c : Count). tells c.answer (output c.count out)) is_r ∙ spelt_out w out ∙ is_t
+counted w r is_r out t is_t = ap (λ (c : Count). tells c.answer (output c.count out)) is_r ∙ is_t
 
 held : (c : Result ℕ Refusal) (buf : List ℕ) → buffer_of (heard c buf).state ≡ buf
 held (Ok n) buf = refl

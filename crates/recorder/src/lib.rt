@@ -30,7 +30,7 @@ use calls::copied;
 use compare::Cursor;
 use image::{Image, Imaged};
 use offer::Element;
-use paper::{ElementId, Lba, PageCount, Registers};
+use paper::{ElementId, Lba, PageCount, Registers, Written};
 use query::Query;
 use request::Request;
 use spelt::{Count, Difference, Onward, Opened, Reading, Sense, Span, Stand, Turned};
@@ -137,7 +137,7 @@ pub fn recorder_send(d: &Image, query: Query, allocation: u32, buf: &mut [u8]) -
 fn sent(d: Image, query: Query, allocation: u32, buf: &mut [u8]) -> Count
     ensures { tells result.answer (output result.count buf.new) ≡ sender.sent (device_of d) query allocation buf.old }
 {
-    spelt::count_of(d.send(query, allocation, buf))
+    spelt::count_of(Written::of(d.send(query, allocation, buf)))
 }
 
 pub fn recorder_sense(number: u8) -> Sense
@@ -175,13 +175,13 @@ pub fn recorder_scsi_descriptor(bytes: &[u8], k: u32) -> Stand
 pub fn recorder_list(page: &[u8], out: &mut [u8]) -> Count
     ensures { tells result.answer (output result.count out.new) ≡ listing.listed page.now out.old }
 {
-    spelt::count_of(listing::list(page, out))
+    spelt::count_of(Written::of(listing::list(page, out)))
 }
 
 pub fn recorder_scsi_list(bytes: &[u8], out: &mut [u8]) -> Count
     ensures { tells result.answer (output result.count out.new) ≡ docklist.listed bytes.now out.old }
 {
-    spelt::count_of(docklist::list(bytes, out))
+    spelt::count_of(Written::of(docklist::list(bytes, out)))
 }
 
 pub fn recorder_to_scsi(page: &[u8], request: Request, out: &mut [u8]) -> Turned

@@ -1,5 +1,5 @@
 -- docs/BENCH.md: the security state that a word names, and FEATURE, COUNT and LBA.
-use Rattle.std.specs.Prelude.{ℕ, ◌+◌, cond, List, Option, Some, None}
+use Rattle.std.specs.Prelude.{ℕ, ◌+◌, cond, ◌&&◌, List, Option, Some, None, is_some, unwrap_or, Result, Ok, Err}
 use Rattle.std.specs.Str.{bytes_eq}
 use Rattle.lines.specs.Numbers.{field_at, ◌>>=◌}
 use Rattle.paper.specs.declared.Security.TheVariants.{Locked, Unlocked, Frozen}
@@ -22,7 +22,22 @@ state_of w =
     (cond (bytes_eq w (ascii "frozen")) (Some Frozen)
     None))
 
--- FEATURE COUNT LBA, from word k on
+-- FEATURE COUNT LBA, from word k on, 0 for one that does not fit its field
+abbrev pub fields_at : List ℕ → ℕ → Request
+fields_at l k =
+    record {
+      feature = unwrap_or (field_at l k most16) 0;
+      count = record { 0 = unwrap_or (field_at l (k + 1) most16) 0 };
+      lba = record { 0 = unwrap_or (field_at l (k + 2) most64) 0 };
+    }
+
+-- and whether each fits
+unfoldable pub fitted_at : List ℕ → ℕ → Result Request Request
+fitted_at l k =
+    cond (is_some (field_at l k most16) && (is_some (field_at l (k + 1) most16) && is_some (field_at l (k + 2) most64)))
+    (Ok (fields_at l k)) (Err (fields_at l k))
+
+-- if each fits
 unfoldable pub asked_at : List ℕ → ℕ → Option Request
 asked_at l k = do
   feature ← field_at l k most16

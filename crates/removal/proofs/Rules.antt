@@ -1,21 +1,16 @@
 -- The checks: a law for each way out of the code, over plain values, in the contracts' direction. `g` is what the code rules.
 use Prim.Native.Nat.{ℕ, ◌+◌, ◌-◌, ◌≤◌, ◌<◌}
-use mathlib.Core.Bool.{Bool, true, false, and-false}
-use mathlib.Core.Path.{◌≡◌, sym, ◌∙◌}
+use mathlib.Core.Bool.{and-false}
+use mathlib.Core.Path.{◌≡◌}
 use native.Mathlib.Omega.{arith}
-use borrow.Author.Tests.{eq-eqb, ne_eqb, lt-ltb, le-ltb}
-use Rattle.cells.specs.Cells.{removed_in}
+use borrow.Author.Tests.{ne_eqb, lt-ltb, le-ltb}
 use Rattle.cells.specs.Rulings.{Ruled, quiet, goes}
-use Rattle.cells.specs.declared.Cells.{Cells}
-use Rattle.cells.specs.declared.Mark.TheVariants.{Clear}
 use Rattle.cells.specs.declared.Position.TheVariants.{Work1}
 use Rattle.cells.specs.declared.Position.{Position}
-use Rattle.cells.specs.declared.Seen.{Seen}
-use Rattle.cells.specs.declared.Store.TheVariants.{FailedTo, Noted}
+use Rattle.cells.specs.declared.Store.TheVariants.{Noted}
 use Rattle.paper.specs.declared.ElementId.{ElementId}
 use Rattle.paper.specs.declared.Lba.{Lba}
-use Rattle.table.specs.declared.Table.{Table}
-use Rattle.removal.specs.Remove.{limit_met, or_difference, judge_room, judge_found}
+use Rattle.removal.specs.Remove.{or_difference, judge_room}
 
 -- ## Checks 3 to 7
 

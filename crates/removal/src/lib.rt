@@ -91,6 +91,6 @@ pub fn rule_remove(
     }
     let id = registers.identifier();
     let lba = registers.lba;
-    let s = cells::see(t, c, id);
+    let s = cells::found(t, c, id);
     judge_found(t, c, at, id, lba.low48(), s)
 }

@@ -74,8 +74,7 @@ fn put_first(out: &mut [u8], said: Said) -> usize
     ensures { writing·private.Puts out.old 0 (first_line (dock.kind_said said) (dock.number_said said) (dock.place_said said)) out.new result }
 {
     match said {
-        Said::Sent(Ok(_)) => put_answer(out, 0, Answer::Done),
-        Said::Sent(Err(why)) => put_answer(out, 0, Answer::from(why)),
+        Said::Sent(w) => put_answer(out, 0, w.answer),
         Said::ToScsi(c) => put_bare(out, c),
         Said::ToAta(c) => put_bare(out, c),
     }

@@ -1,5 +1,5 @@
 -- Each answer in numbers alone, by its number in document 01's table and its values. What an answer does not name is 0.
-use Rattle.std.specs.Prelude.{ℕ, Bool, true, false, Option, Some, None, is_some, Result, Ok, Err}
+use Rattle.std.specs.Prelude.{ℕ, Bool, true, false, Option, Some, None, is_some}
 use Rattle.compare.specs.Walk.{cursor, first}
 use Rattle.compare.specs.declared.Cursor.{Cursor}
 use Rattle.compare.specs.declared.Line.TheVariants.{OnlyOlder, OnlyNewer, Changed}
@@ -9,11 +9,10 @@ use Rattle.convert.specs.Convert as convert
 use Rattle.layout.specs.declared.Descriptor.{Descriptor}
 use Rattle.layout.specs.declared.Header.{Header}
 use Rattle.paper.specs.Answers.{number_of}
-use Rattle.paper.specs.Output.{answer_for}
 use Rattle.paper.specs.Told.{Told}
 use Rattle.paper.specs.declared.ElementId.{ElementId}
 use Rattle.paper.specs.declared.Sense as paper
-use Rattle.paper.specs.declared.Unwritten.{Unwritten}
+use Rattle.paper.specs.declared.Written.{Written}
 use Rattle.reach.specs.Opening as opening
 use Rattle.reach.specs.Pages.{end_of}
 use Rattle.reach.specs.declared.Turn.TheVariants.{Older, Newer}
@@ -35,9 +34,8 @@ no_element = record { 0 = 0 }
 
 -- ## A lent buffer
 
-abbrev pub count_of : Result ℕ Unwritten → Count
-count_of (Ok n) = record { count = n; answer = 0 }
-count_of (Err why) = record { count = 0; answer = number_of (answer_for why) }
+abbrev pub count_of : Written → Count
+count_of w = record { count = w.count; answer = number_of w.answer }
 
 -- ## The readers
 

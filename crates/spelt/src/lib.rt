@@ -15,7 +15,7 @@ use compare::{Cursor, Hit, Line};
 use convert::Refusal;
 use layout::{Descriptor, Header};
 use offences::Offence;
-use paper::{Answer, ElementId, Unwritten};
+use paper::{ElementId, Written};
 use reach::Turn;
 
 // `recorder_written`: how many bytes a call wrote into a lent buffer; its number in document 01's table.
@@ -104,15 +104,12 @@ pub struct Sense {
 
 // ---- One for each answer
 
-pub fn count_of(written: Result<usize, Unwritten>) -> Count
-    ensures { result ≡ spelt.count_of written }
+pub fn count_of(w: Written) -> Count
+    ensures { result ≡ spelt.count_of w }
 {
-    match written {
-        Ok(count) => Count { count, answer: 0 },
-        Err(why) => Count {
-            count: 0,
-            answer: u8::from(Answer::from(why)),
-        },
+    Count {
+        count: w.count,
+        answer: u8::from(w.answer),
     }
 }
 

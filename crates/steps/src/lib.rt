@@ -78,7 +78,7 @@ fn stored(t: Table, c: Cells, w: Removal, at: Position) -> Store
     ensures { result ≡ steps.store_from (see_in t c w.element) w at }
 {
     if does_look(at) {
-        store_from(cells::see(t, c, w.element), w, at)
+        store_from(cells::found(t, c, w.element), w, at)
     } else {
         store_from(None, w, at)
     }
@@ -109,7 +109,7 @@ pub fn rule_stop(note: Note, at: Position, idle: Answer) -> Ruling
 pub fn rule_grade(t: Table, c: Cells, at: Position, id: ElementId, health: u8) -> Ruling
     ensures { ruled result ≡ steps.rule_grade t c at id health }
 {
-    let Some(s) = cells::see(t, c, id) else {
+    let Some(s) = cells::found(t, c, id) else {
         return quiet(Answer::GradeRefused, at);
     };
     if s.health == 0xFF {

@@ -53,18 +53,19 @@ module _ {A : Type 0} (key : A → ℕ) (id : ℕ) (z : A) where
       let later = stops xs i (omega arith) at (λ k less. below (suc k) (omega arith)) in
       rw (lt-ltb (key x) id (leb-false id (key x) (below 0 (omega arith)))) (ap suc later.0, later.1)
 
-  passes : (xs : List A) → Below xs (length xs) → hits id (map key xs) ≡ false
+  passes : (xs : List A) → Below xs (length xs) → (place id (map key xs) ≡ length xs) × (hits id (map key xs) ≡ false)
   unfolding Below
-  passes [] below = refl
+  passes [] below = (refl, refl)
   passes (x ∷ xs) below =
-      rw (lt-ltb (key x) id (leb-false id (key x) (below 0 (omega arith)))) (passes xs (λ k less. below (suc k) (omega arith)))
+      let later = passes xs (λ k less. below (suc k) (omega arith)) in
+      rw (lt-ltb (key x) id (leb-false id (key x) (below 0 (omega arith)))) (ap suc later.0, later.1)
 
   pub stopped : (xs : List A) (i : ℕ) → position reaches xs ≡ Some i
       → (place id (map key xs) ≡ i) × (hits id (map key xs) ≡ eqb (key (get_or xs i z)) id)
   unfolding Below
   stopped xs i e = let at = position-Some reaches xs i z e in stops xs i at.0 at.1 at.2
 
-  pub passed : (xs : List A) → position reaches xs ≡ None → hits id (map key xs) ≡ false
+  pub passed : (xs : List A) → position reaches xs ≡ None → (place id (map key xs) ≡ length xs) × (hits id (map key xs) ≡ false)
   unfolding Below
   passed xs e = passes xs (λ k less. fails_before_first reaches xs k z (go (ltb (position_or_len reaches xs) (length xs)) refl e k less))
     where

@@ -27,7 +27,7 @@ pub struct Table {
     pub limit: u16,
 }
 
-// What the search finds: a part, and its place.
+// Where the search stops: the part there, a blank one past the end, and the place.
 #[derive(Clone, Copy)]
 pub struct Sight {
     pub part: Part,
@@ -56,19 +56,31 @@ pub fn blank_part() -> Part
 
 // ---- The search
 
-// The search among parts. It stops at the first identifier that is not below the one sought.
-fn seek(parts: &[Part], id: ElementId) -> Option<Sight>
-    ensures { result ≡ search.sight_in id.0 parts.now }
+// The search among parts. It stops at the first identifier that is not below the one sought, and hits where that is the one.
+fn seek(parts: &[Part], id: ElementId) -> Result<Sight, Sight>
+    ensures { result ≡ search.sought_in id.0 parts.now }
 {
-    let place = parts.iter().position(|part| id.0 <= part.id.0)?;
-    let part = parts[place];
-    (part.id.0 == id.0).then_some(Sight { part, place })
+    match parts.iter().position(|part| id.0 <= part.id.0) {
+        Some(place) => {
+            let part = parts[place];
+            let sight = Sight { part, place };
+            if part.id.0 == id.0 {
+                Ok(sight)
+            } else {
+                Err(sight)
+            }
+        }
+        None => Err(Sight {
+            part: blank_part(),
+            place: parts.len(),
+        }),
+    }
 }
 
 impl Table {
-    // The search for an identifier.
-    pub fn sight(self, id: ElementId) -> Option<Sight>
-        ensures { result ≡ search.sight id.0 self }
+    // The search for an identifier; a miss tells where it stops too.
+    pub fn sight(self, id: ElementId) -> Result<Sight, Sight>
+        ensures { result ≡ search.sought id.0 self }
     {
         seek(&self.parts[..bounded(self.count)], id)
     }
@@ -83,14 +95,17 @@ pub fn health_at(healths: [u8; 128], place: usize) -> u8
     healths.get(place).copied().unwrap_or(0)
 }
 
-// The healths with this one at a place.
-pub fn with_health(mut healths: [u8; 128], place: usize, health: u8) -> [u8; 128]
+// The healths with this one at a place. An array of its own is changed: the parameter, changed in place, would be copied once more by each grade.
+pub fn with_health(healths: [u8; 128], place: usize, health: u8) -> [u8; 128]
     ensures { result ≡ set healths place health }
 {
     if place < 128 {
-        healths[place] = health;
+        let mut graded = healths;
+        graded[place] = health;
+        graded
+    } else {
+        healths
     }
-    healths
 }
 
 // How many of the first `count` are at FFh. Counted in 16 bits: a filter and its count, which go by 64, take some 6 instructions more an element.

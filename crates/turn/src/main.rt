@@ -59,7 +59,7 @@ fn to_scsi(rt: &HostRuntime, input: &[u8]) -> Result<(), Told> {
 }
 
 fn to_ata(rt: &HostRuntime, input: &[u8]) -> Result<(), Told> {
-    let mut word = [0u8; input::NAME_ROOM];
+    let mut word = input::name_room();
     let length = input::arg(rt, 1, &mut word);
     let pages = PageCount(number(&word[..length]));
     let mut out = [0u8; ROOM];

@@ -13,7 +13,7 @@ unfolding find
 returns-in_err-place c =
     let e = position_from_yields_List (λ (e : Element). leb c.args.id.0 e.id.0) _ _ c.position.result c.position.ensures.ran (YieldsList-from_slice c.args.elements.now c.iter.ensures.rest) (λ x b q k. search (rules, tests)) in
     let p = passed (λ (e : Element). e.id.0) c.args.id.0 blank c.args.elements.now (sym e ∙ c.in_err-place.was) in
-    rw p c.from_residual.ensures
+    rw p.1 c.from_residual.ensures
 
 pub returns : goal.returns
 unfolding find

@@ -1,0 +1,2 @@
+-- What is proved of the registers' words.
+pub mod Fitted
