@@ -115,4 +115,4 @@ is_count (Err SmallBuffer) size z e = absurd (omega (arith, z))
 pub writes_page : WritesPage
 writes_page there es limit a d made z s ns x ran r page left p q alike few room out c is_c wide allocation free sent b is_b enough space =
     let all = sends_page there es limit a d made z s ns x ran r page left p q alike few room out c is_c wide allocation free sent (written_of b) (says_too b sent ∙ is_b) enough space in
-    record { turns = all.turns; sends = is_count b (whole_size x q) all.sends.0 all.sends.1; same = all.same }
+    (is_count b (whole_size x q) all.sends.0 all.sends.1, all)
